@@ -1,0 +1,5 @@
+pub mod Alike
+pub mod Blind
+pub mod Workloads
+pub mod Copies
+pub mod Lone

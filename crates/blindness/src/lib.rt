@@ -1,0 +1,1 @@
+// What opaque bytes can change: laws of the server's definitions. No code.

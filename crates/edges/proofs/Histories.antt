@@ -1,0 +1,45 @@
+-- Histories to compute: how to write an event, and what a history answers. Assumes nothing.
+use Prim.Native.Nat.{ℕ, zero, suc, _+_}
+use mathlib.Core.Bool.{Bool, true, false, _&&_}
+use mathlib.Core.List.{List, [], _∷_, _++_, map}
+use lib.ListN.{length, replicate}
+use Rattle.octets.specs.Bytes.{Bytes, same, startsWith, firstZero, every}
+use Rattle.sets.specs.Sets.{has, insert, remove, members}
+use Rattle.handle.specs.Handle.{handle, decimal, decimalIn}
+use Rattle.packet.specs.Layout.{rulesOf, requestShape, responseShape, priorityOf, backgroundOf}
+use Rattle.packet.specs.Arguments.{fits, fitAll, join, split}
+use Rattle.packet.specs.Packet.{packet, header, body, read, requests, responses}
+use Rattle.packet.specs.Opaque.{hasZeros, past, hides, seen, visible, opaque, masked}
+use Rattle.server.specs.Table.{fresh, hasHandle, rank, best, freePlace, joined}
+use Rattle.server.specs.Asked.{Event, opens, closes, sends, requested, asked}
+use Rattle.server.specs.Events.{refuse, dropped, woken, toWake, forgot, settle, opening, closing, canDoAt, cantDoAt, unableToAll, sleeping, grabAt, submitNew, submitTo, holdsHandle, workAt, statusAt, optionIf, served, admitted, decide}
+use Rattle.server.specs.Server.{Answer, Sent, addressed, shownBy, opaqueOf, render, decided, next, answer, start, after, answers}
+
+-- a request with these arguments, from connection c
+unfoldable pub request : ℕ → ℕ → List Bytes → Event
+unfolding packet join
+request c kind as′ = sends c (packet (requests .magic) kind (join as′))
+
+-- the addressed packet of a response
+unfoldable pub response : ℕ → ℕ → List Bytes → Bytes
+unfolding packet join
+response c kind as′ = c ∷ packet (responses .magic) kind (join as′)
+
+-- what a history of a fresh server of sixteen connections answers: the number of each event, and the packets
+abbrev numberOf : Answer → ℕ
+numberOf a = a .number
+
+abbrev sentOf : Answer → List Sent
+sentOf a = a .sent
+
+unfoldable pub answered : List Event → List Answer
+unfolding same startsWith firstZero every has insert remove members handle decimal decimalIn rulesOf requestShape responseShape priorityOf backgroundOf fits fitAll join split packet header body read hasZeros past hides seen visible opaque masked fresh hasHandle rank best freePlace joined requested asked refuse dropped woken toWake forgot settle opening closing canDoAt cantDoAt unableToAll sleeping grabAt submitNew submitTo holdsHandle workAt statusAt optionIf served admitted decide shownBy opaqueOf render decided next answer start after answers
+answered h = answers (start 16) h
+
+unfoldable pub numbersOf : List Event → List ℕ
+unfolding answered
+numbersOf h = map numberOf (answered h)
+
+unfoldable pub packetsOf : List Event → List (List Bytes)
+unfolding answered packet
+packetsOf h = map (λ a. map addressed (sentOf a)) (answered h)

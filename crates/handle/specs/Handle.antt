@@ -1,0 +1,46 @@
+-- Decimal numbers and the handles of jobs. 01: "Its handle is `H:lap:` and the serial in decimal." Assumes nothing.
+use Prim.Native.Nat.{ℕ, zero, suc, _+_, _-_, _*_, _/_, _%_}
+use mathlib.Core.Bool.{cond, _&&_}
+use mathlib.Core.List.{[], _∷_, _++_}
+use lib.ListN.{length, take, drop, replicate}
+use lib.Dec.{ltb}
+use Rattle.octets.specs.Bytes.{Bytes, same, within}
+use Rattle.handle.specs.declared.Handle as H
+use Rattle.handle.specs.declared.Serial as S
+use Rattle.handle.specs.declared.Serial.the-variants as SV
+
+-- n in decimal with no leading zero, in at most k digits
+unfoldable pub decimalIn : ℕ → ℕ → Bytes
+decimalIn zero n = []
+decimalIn (suc k) n = cond (ltb n 10) ((n + 48) ∷ []) (decimalIn k (n / 10) ++ ((n % 10 + 48) ∷ []))
+
+-- a serial, at most 4,294,967,295, has at most ten digits
+unfoldable pub decimal : ℕ → Bytes
+decimal n = decimalIn 10 n
+
+-- the handle of a job: `H:`, the name of the hub, `:` and the serial
+unfoldable pub handle : Bytes → ℕ → Bytes
+handle name serial = 72 ∷ 58 ∷ (name ++ (58 ∷ decimal serial))
+
+-- the name that document 01 gives
+abbrev pub lap : Bytes
+lap = 108 ∷ 97 ∷ 112 ∷ []
+
+-- the number that digits make, after the number a
+unfoldable pub value : ℕ → Bytes → ℕ
+value a [] = a
+value a (d ∷ ds) = value (a * 10 + (d - 48)) ds
+
+-- the serial of which a text is the handle. A handle matches as exact text: no leading zero, no sign, nothing after it.
+unfoldable pub serialOf : Bytes → Bytes → S.Serial
+serialOf name text =
+    let n = value 0 (drop (3 + length name) text) in
+    cond (within 1 4294967295 n && same (handle name n) text) (SV.Of n) SV.None
+
+-- a text in exactly n bytes, followed by zeros
+abbrev pub padded : ℕ → Bytes → Bytes
+padded n s = take n (s ++ replicate n 0)
+
+-- what the code answers for a handle: its bytes, and how many they are
+unfoldable pub printed : Bytes → H.Handle
+printed text = record { text = padded 16 text; length = length text }

@@ -1,0 +1,5 @@
+pub mod Layout
+pub mod Arguments
+pub mod Packet
+pub mod Opaque
+pub mod Answers

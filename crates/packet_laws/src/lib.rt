@@ -1,0 +1,1 @@
+// Theorems about packets: round trips, and what reading depends on. No code.

@@ -1,0 +1,3 @@
+pub mod Serials
+pub mod Handles
+pub mod Refusals

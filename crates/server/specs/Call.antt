@@ -1,0 +1,81 @@
+-- Each public call as one function of the lent bytes: number, length, output, table, workloads. 01, "What should be built" and
+-- "Refusal numbers". Assumes nothing.
+use Prim.Native.Nat.{ℕ, zero, suc, _+_, _*_}
+use mathlib.Core.Bool.{Bool, true, false, not, cond, _&&_, _||_}
+use mathlib.Core.List.{List, [], _∷_, _++_, map}
+use lib.ListN.{length, take, drop, replicate}
+use lib.Dec.{ltb}
+use Rattle.octets.specs.Bytes.{Bytes}
+use Rattle.octets.specs.Put.{put}
+use Rattle.server.specs.Lists.{concat, numbers}
+use Rattle.server.specs.Table.{Table, fresh}
+use Rattle.server.specs.Rules.{obeys}
+use Rattle.server.specs.Asked.{Event}
+use Rattle.server.specs.Server.{Server, Sent, Answer, addressed, next, answer}
+use Rattle.server.specs.Layout.{tableSize, tableOf, bytesOf, isImage}
+
+-- what a call answers and leaves
+pub record Result : Type 0 where
+  pub number : ℕ
+  pub length′ : ℕ
+  pub output : Bytes
+  pub table : Bytes
+  pub workloads : Bytes
+
+-- 01: "the workloads (at least 32,768 bytes, 32 places of 1,024) and the output (at least 16,592)"
+abbrev pub workloadsSize : ℕ
+workloadsSize = 32768
+
+abbrev pub outputSize : ℕ
+outputSize = 16592
+
+-- the server that lent bytes hold
+abbrev pub placeOf : Bytes → ℕ → Bytes
+placeOf w p = take 1024 (drop (1024 * p) w)
+
+unfoldable pub serverIn : ℕ → Bytes → Bytes → Server
+serverIn n t w = record { table = tableOf n t; workloads = map (placeOf w) (numbers 0 32) }
+
+-- 01: "1: a lent buffer is too short, or the table breaks a table rule"
+unfoldable pub tooShort : ℕ → Bytes → Bytes → Bytes → Bool
+tooShort n t w o = ltb (length t) (tableSize n) || (ltb (length w) workloadsSize || ltb (length o) outputSize)
+
+unfoldable pub isSound : ℕ → Bytes → Bool
+isSound n t = isImage n t && obeys (tableOf n t)
+
+unfoldable pub sentBytes : List Sent → Bytes
+sentBytes ps = concat (map addressed ps)
+
+-- 01: "All refusals keep table and workloads. 1 to 8 write nothing and report length 0."
+unfoldable pub refusedBy : ℕ → Bytes → Bytes → Bytes → Result
+refusedBy number t w o = record { number = number; length′ = 0; output = o; table = t; workloads = w }
+
+-- "Beyond the reported length the output is unchanged"; "Bytes of table and workloads beyond what the layout uses are never written"
+unfoldable pub performed : Event → Server → Bytes → Bytes → Bytes → Result
+performed e s t w o =
+    record {
+      number = answer e s .number;
+      length′ = length (sentBytes (answer e s .sent));
+      output = put 0 (sentBytes (answer e s .sent)) o;
+      table = put 0 (bytesOf (next e s .table)) t;
+      workloads = put 0 (concat (next e s .workloads)) w;
+    }
+
+-- an event on lent bytes: table, workloads, output
+unfoldable pub call : ℕ → Event → Bytes → Bytes → Bytes → Result
+call n e t w o =
+    cond (tooShort n t w o || not (isSound n t))
+    (refusedBy 1 t w o)
+    (performed e (serverIn n t w) t w o)
+
+-- making a fresh table. 01: "it fills the table, sets the workloads to zero, and is refused only by 1, for length"
+pub record Made : Type 0 where
+  pub number : ℕ
+  pub table : Bytes
+  pub workloads : Bytes
+
+unfoldable pub make : ℕ → Bytes → Bytes → Made
+make n t w =
+    cond (ltb (length t) (tableSize n) || ltb (length w) workloadsSize)
+    (record { number = 1; table = t; workloads = w })
+    (record { number = 0; table = put 0 (bytesOf (fresh n)) t; workloads = put 0 (replicate workloadsSize 0) w })

@@ -1,0 +1,295 @@
+-- What each event does: its number, the packets to send and the next table. 01, "Refusal numbers" and "Jobs and the queue".
+-- Nothing here sees an opaque byte. Assumes nothing.
+use Prim.Native.Nat.{ℕ, zero, suc, _+_, _-_, _/_, _%_}
+use mathlib.Core.Bool.{Bool, true, false, not, cond, _&&_, _||_}
+use mathlib.Core.Option.{Option, none, some}
+use mathlib.Core.List.{List, [], _∷_, _++_, map}
+use lib.ListN.{length, getD, set}
+use lib.Dec.{ltb, eqb}
+use Rattle.octets.specs.Bytes.{Bytes, same}
+use Rattle.handle.specs.Handle.{handle, lap}
+use Rattle.sets.specs.Sets.{has, insert, remove, isEmpty, members}
+use Rattle.server.specs.declared.Connection.{Connection}
+use Rattle.server.specs.declared.JobRow.{JobRow}
+use Rattle.server.specs.Lists.{any, find, filter, mapFrom, numbers}
+use Rattle.server.specs.Table.{Function, Job, Table, closed, noFunction, noJob, connectionAt, functionAt, jobAt, setConnection, setFunction, setJob, withRow, withTexts, withListeners, inBackground, withHolder, live, queued, heldBy, hasHandle, known, roomFor, wanted, grabbable, best, freePlace, joined}
+use Rattle.server.specs.Asked.{Work, tells, reports, ends, throws, Asked, toOpen, toClose, reset, preSleep, echo, bad, canDo, cantDo, grab, submit, work, getStatus, option}
+
+-- ---- packets to send
+
+-- plain: these arguments; copy: this packet's data as it came; assign: the job at a place, whose workload follows
+pub data Send : Type 0 where
+  plain : (to kind : ℕ) (arguments : List Bytes) → Send
+  copy : (to kind : ℕ) → Send
+  assign : (uniq : Bool) (to place : ℕ) → Send
+
+pub record Decision : Type 0 where
+  pub number : ℕ
+  pub packets : List Send
+  pub table : Table
+
+-- ---- refusals
+
+-- 01's column "ERROR text", from number 9 on
+abbrev pub errorTexts : List Bytes
+errorTexts =
+    (116 ∷ 121 ∷ 112 ∷ 101 ∷ [])  -- 9 type
+    ∷ (97 ∷ 114 ∷ 103 ∷ 117 ∷ 109 ∷ 101 ∷ 110 ∷ 116 ∷ 115 ∷ [])  -- 10 arguments
+    ∷ (102 ∷ 117 ∷ 110 ∷ 99 ∷ 116 ∷ 105 ∷ 111 ∷ 110 ∷ 115 ∷ [])  -- 11 functions
+    ∷ (106 ∷ 111 ∷ 98 ∷ 115 ∷ [])  -- 12 jobs
+    ∷ (115 ∷ 101 ∷ 114 ∷ 105 ∷ 97 ∷ 108 ∷ 115 ∷ [])  -- 13 serials
+    ∷ (104 ∷ 97 ∷ 110 ∷ 100 ∷ 108 ∷ 101 ∷ [])  -- 14 handle
+    ∷ (111 ∷ 112 ∷ 116 ∷ 105 ∷ 111 ∷ 110 ∷ [])  -- 15 option
+    ∷ []
+
+-- 01: "one ERROR packet to the sender: the number as two decimal digits, a zero byte, the text"
+abbrev pub error : ℕ → ℕ → Send
+error c n = plain c 19 (((n / 10 + 48) ∷ (n % 10 + 48) ∷ []) ∷ getD errorTexts (n - 9) [] ∷ [])
+
+-- 01: "All refusals keep table and workloads. 1 to 8 write nothing [..]. 9 to 15 write one ERROR packet to the sender"
+unfoldable pub refuse : ℕ → ℕ → Table → Decision
+refuse c n t = record { number = n; packets = cond (ltb n 9) [] (error c n ∷ []); table = t }
+
+-- ---- the end of every event that is done
+
+-- 01: "queued jobs with no listener and not background are dropped"; "An ended or dropped job's place is set to zero"
+abbrev pub lost : JobRow → Bool
+lost r = queued r && (not (r .background) && isEmpty (r .listeners))
+
+abbrev pub unlessLost : Job → Job
+unlessLost j = cond (lost (j .row)) noJob j
+
+unfoldable pub dropped : Table → Table
+dropped t = record { last = t .last; connections = t .connections; functions = t .functions; jobs = map unlessLost (t .jobs) }
+
+-- 01: "NOOP to sleepers with a grabbable job", "NOOP always ends sleep"
+abbrev pub wakes : List Function → List Job → ℕ → Connection → Bool
+wakes fs js c x = x .asleep && any (λ j. grabbable fs c (j .row)) js
+
+abbrev pub awake : Connection → Connection
+awake x = record { opened = x .opened; asleep = false; exceptions = x .exceptions }
+
+unfoldable pub woken : Table → Table
+woken t = record {
+  last = t .last;
+  connections = mapFrom (λ c x. cond (wakes (t .functions) (t .jobs) c x) (awake x) x) 0 (t .connections);
+  functions = t .functions;
+  jobs = t .jobs;
+}
+
+-- 01: "Packets to several connections go in rising connection order."
+unfoldable pub toWake : Table → List ℕ
+toWake t = filter (λ c. wakes (t .functions) (t .jobs) c (connectionAt t c)) (numbers 0 (length (t .connections)))
+
+-- 01: "At the end of an event it is forgotten, and its place set to zero and free, when neither holds."
+unfoldable pub forgot : Table → Table
+forgot t = record {
+  last = t .last;
+  connections = t .connections;
+  functions = mapFrom (λ q x. cond (wanted (t .jobs) q x) x noFunction) 0 (t .functions);
+  jobs = t .jobs;
+}
+
+abbrev pub noop : ℕ → Send
+noop c = plain c 6 []
+
+-- done: lost jobs are dropped, sleepers with a grabbable job are woken, functions that nobody wants are forgotten
+unfoldable pub settle : List Send → Table → Decision
+settle ss t = record { number = 0; packets = ss ++ map noop (toWake (dropped t)); table = forgot (woken (dropped t)) }
+
+-- ---- open and close
+
+unfoldable pub opening : ℕ → Table → Table
+opening c t = setConnection t c (record { opened = true; asleep = false; exceptions = false })
+
+-- a job that connection c leaves. 01: "leave all listener sets"; "held jobs return to the queue"; its two texts are then "`0` and `0`"
+abbrev pub deafTo : ℕ → JobRow → JobRow
+deafTo c r = withListeners (remove (r .listeners) c) r
+
+abbrev pub leftBy : ℕ → Job → Job
+leftBy c j =
+    cond (heldBy c (j .row))
+    (withTexts (48 ∷ []) (48 ∷ []) (withRow (withHolder 0 (deafTo c (j .row))) j))
+    (withRow (deafTo c (j .row)) j)
+
+abbrev pub unable : ℕ → Function → Function
+unable c x = record { name = x .name; able = remove (x .able) c }
+
+-- 01: "abilities, option and sleep are cleared"
+unfoldable pub closing : ℕ → Table → Table
+closing c t = record {
+  last = t .last;
+  connections = set (t .connections) c closed;
+  functions = map (unable c) (t .functions);
+  jobs = map (leftBy c) (t .jobs);
+}
+
+-- ---- abilities
+
+abbrev pub ableTo : ℕ → Bytes → Function → Function
+ableTo c f x = record { name = f; able = insert (x .able) c }
+
+-- 01: "11: CAN_DO or a new job names an unknown function while 16 are known"
+unfoldable pub canDoAt : Option ℕ → ℕ → Bytes → Table → Decision
+canDoAt none c f t = refuse c 11 t
+canDoAt (some q) c f t = settle [] (setFunction t q (ableTo c f (functionAt t q)))
+
+unfoldable pub cantDoAt : Option ℕ → ℕ → Table → Decision
+cantDoAt none c t = settle [] t
+cantDoAt (some q) c t = settle [] (setFunction t q (unable c (functionAt t q)))
+
+unfoldable pub unableToAll : ℕ → Table → Table
+unableToAll c t = record { last = t .last; connections = t .connections; functions = map (unable c) (t .functions); jobs = t .jobs }
+
+-- ---- sleeping and grabbing
+
+-- 01: "PRE_SLEEP with a grabbable job answers NOOP and doesn't sleep": the end of the event wakes it at once
+unfoldable pub sleeping : Bool → ℕ → Table → Table
+sleeping b c t = setConnection t c (record { opened = connectionAt t c .opened; asleep = b; exceptions = connectionAt t c .exceptions })
+
+-- 01: "NO_JOB exactly if there is none"
+unfoldable pub grabAt : Option ℕ → Bool → ℕ → Table → Decision
+grabAt none uniq c t = settle (plain c 10 [] ∷ []) t
+grabAt (some p) uniq c t = settle (assign uniq c p ∷ []) (setJob t p (withRow (withHolder (suc c) (jobAt t p .row)) (jobAt t p)))
+
+-- ---- submissions
+
+-- 01: "A foreground submitter becomes a listener, once per connection; a background one marks the job background for good."
+abbrev pub submittedBy : ℕ → Bool → JobRow → JobRow
+submittedBy c true r = inBackground r
+submittedBy c false r = withListeners (insert (r .listeners) c) r
+
+abbrev pub created : ℕ → ℕ → Send
+created c serial = plain c 8 (handle lap serial ∷ [])
+
+-- 01: "takes [..] the next serial"; "`0` and `0` at first"
+abbrev pub newJob : ℕ → ℕ → Bool → ℕ → Bytes → ℕ → ℕ → Job
+newJob c priority background q u size serial =
+    record {
+      row = submittedBy c background (record { serial = serial; function = q; priority = priority; background = false; listeners = 0; holder = 0; size = size });
+      unique = u;
+      numerator = 48 ∷ [];
+      denominator = 48 ∷ [];
+    }
+
+abbrev pub named : Bytes → Function → Function
+named f x = record { name = f; able = x .able }
+
+abbrev pub accepted : ℕ → Bytes → ℕ → Job → Table → Table
+accepted q f p j t =
+    record {
+      last = suc (t .last);
+      connections = t .connections;
+      functions = set (t .functions) q (named f (functionAt t q));
+      jobs = set (t .jobs) p j;
+    }
+
+-- refusals 11 to 13 in order: a place for the function, a place for the job, a serial
+unfoldable pub submitNew : Option ℕ → Option ℕ → ℕ → ℕ → Bool → Bytes → Bytes → ℕ → Table → Decision
+submitNew none place c priority background f u size t = refuse c 11 t
+submitNew (some q) none c priority background f u size t = refuse c 12 t
+submitNew (some q) (some p) c priority background f u size t =
+    cond (ltb (t .last) 4294967295)
+    (settle (created c (suc (t .last)) ∷ []) (accepted q f p (newJob c priority background q u size (suc (t .last))) t))
+    (refuse c 13 t)
+
+-- 01: a join: "its own workload and priority are dropped; refusals 11 to 13 don't apply"
+unfoldable pub submitTo : Option ℕ → ℕ → ℕ → Bool → Bytes → Bytes → ℕ → Table → Decision
+submitTo (some p) c priority background f u size t =
+    settle (created c (jobAt t p .row .serial) ∷ []) (setJob t p (withRow (submittedBy c background (jobAt t p .row)) (jobAt t p)))
+submitTo none c priority background f u size t = submitNew (roomFor (t .functions) f) (freePlace t) c priority background f u size t
+
+-- ---- worker packets
+
+-- 01: "handle isn't a job held by this connection"
+unfoldable pub holdsHandle : ℕ → Bytes → JobRow → Bool
+holdsHandle c h r = heldBy c r && hasHandle h r
+
+-- 01: "Worker packets go to all listeners. [..] 25 ends the job and goes only to listeners that set `exceptions`."
+abbrev pub hears : Work → Table → ℕ → Bool
+hears tells t l = true
+hears reports t l = true
+hears ends t l = true
+hears throws t l = connectionAt t l .exceptions
+
+-- 01: "12 also stores its two texts as they came. 13 and 14 end the job. 25 ends the job"
+abbrev pub worked : Work → Bytes → Bytes → Job → Job
+worked tells n d j = j
+worked reports n d j = withTexts n d j
+worked ends n d j = noJob
+worked throws n d j = noJob
+
+abbrev pub listenersOf : Table → JobRow → List ℕ
+listenersOf t r = members (length (t .connections)) (r .listeners)
+
+unfoldable pub workAt : Option ℕ → Work → ℕ → ℕ → Bytes → Bytes → Table → Decision
+workAt none how kind c n d t = refuse c 14 t
+workAt (some p) how kind c n d t =
+    settle (map (λ l. copy l kind) (filter (hears how t) (listenersOf t (jobAt t p .row)))) (setJob t p (worked how n d (jobAt t p)))
+
+-- ---- status, options
+
+abbrev pub flag : Bool → Bytes
+flag b = cond b 49 48 ∷ []
+
+-- 01: "for an unfinished job known 1, running 1 if held, and the stored texts [..]; otherwise 0, 0, 0, 0 with the handle as asked"
+unfoldable pub statusAt : Option ℕ → ℕ → Bytes → Table → Decision
+statusAt none c h t = settle (plain c 20 (h ∷ flag false ∷ flag false ∷ flag false ∷ flag false ∷ []) ∷ []) t
+statusAt (some p) c h t =
+    settle
+    (plain c 20 (h ∷ flag true ∷ flag (not (eqb (jobAt t p .row .holder) 0)) ∷ jobAt t p .numerator ∷ jobAt t p .denominator ∷ []) ∷ [])
+    t
+
+-- `exceptions`
+abbrev pub exceptionsName : Bytes
+exceptionsName = 101 ∷ 120 ∷ 99 ∷ 101 ∷ 112 ∷ 116 ∷ 105 ∷ 111 ∷ 110 ∷ 115 ∷ []
+
+abbrev pub catching : Connection → Connection
+catching x = record { opened = x .opened; asleep = x .asleep; exceptions = true }
+
+-- 01: "15: option isn't `exceptions`"
+unfoldable pub optionIf : Bool → ℕ → Bytes → Table → Decision
+optionIf false c name t = refuse c 15 t
+optionIf true c name t = settle (plain c 27 (name ∷ []) ∷ []) (setConnection t c (catching (connectionAt t c)))
+
+-- ---- every event
+
+-- on a connection that is open
+unfoldable pub served : ℕ → Asked → Table → Decision
+served c toOpen t = refuse c 4 t
+served c toClose t = settle [] (closing c t)
+served c (bad n) t = refuse c n t
+served c (canDo f) t = canDoAt (roomFor (t .functions) f) c f t
+served c (cantDo f) t = cantDoAt (known (t .functions) f) c t
+served c reset t = settle [] (unableToAll c t)
+served c preSleep t = settle [] (sleeping true c t)
+served c (grab uniq) t = grabAt (best t c) uniq c (sleeping false c t)
+served c (submit priority background f u size) t = submitTo (joined t f u) c priority background f u size t
+served c (work how kind h n d) t = workAt (find (λ j. holdsHandle c h (j .row)) (t .jobs)) how kind c n d t
+served c (getStatus h) t = statusAt (find (λ j. hasHandle h (j .row)) (t .jobs)) c h t
+served c (option name) t = optionIf (same name exceptionsName) c name t
+served c echo t = settle (copy c 17 ∷ []) t
+
+abbrev pub isOpening : Asked → Bool
+isOpening toOpen = true
+isOpening toClose = false
+isOpening reset = false
+isOpening preSleep = false
+isOpening echo = false
+isOpening (bad n) = false
+isOpening (canDo f) = false
+isOpening (cantDo f) = false
+isOpening (grab uniq) = false
+isOpening (submit priority background f u size) = false
+isOpening (work how kind h n d) = false
+isOpening (getStatus h) = false
+isOpening (option name) = false
+
+-- 01, refusals 2 to 4: the number is a connection's, and it is open
+unfoldable pub admitted : Bool → Bool → ℕ → Asked → Table → Decision
+admitted false isOpen c a t = refuse c 2 t
+admitted true false c a t = cond (isOpening a) (settle [] (opening c t)) (refuse c 3 t)
+admitted true true c a t = served c a t
+
+unfoldable pub decide : ℕ → Asked → Table → Decision
+decide c a t = admitted (ltb c (length (t .connections))) (connectionAt t c .opened) c a t

@@ -1,0 +1,9 @@
+pub mod Lists
+pub mod Table
+pub mod Rules
+pub mod Asked
+pub mod Events
+pub mod Server
+pub mod Layout
+pub mod Call
+pub mod Replay

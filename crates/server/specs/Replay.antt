@@ -1,0 +1,35 @@
+-- The replay program's lines. 01, "Replay program": lines of lowercase hexadecimal, one frame a line. Assumes nothing.
+use Prim.Native.Nat.{ℕ}
+use mathlib.Core.Bool.{cond}
+use mathlib.Core.Option.{Option, none, some}
+use mathlib.Core.List.{List, [], _∷_, _++_, map}
+use lib.ListN.{length}
+use lib.Dec.{leb, eqb}
+use Rattle.octets.specs.Bytes.{Bytes}
+use Rattle.hex.specs.Hex.{unhex, hexByte, hex}
+use Rattle.server.specs.Lists.{concat}
+use Rattle.server.specs.Asked.{Event, opens, closes, sends}
+
+-- ---- a line to a frame
+
+-- "a kind byte (01 open, 02 close, 03 packet), a connection byte, and for 03 alone the packet's bytes, none or more"
+abbrev pub framed : Option Bytes → Option Event
+framed none = none
+framed (some []) = none
+framed (some (k ∷ [])) = none
+framed (some (k ∷ (c ∷ []))) = cond (eqb k 1) (some (opens c)) (cond (eqb k 2) (some (closes c)) (cond (eqb k 3) (some (sends c [])) none))
+framed (some (k ∷ (c ∷ (x ∷ b)))) = cond (eqb k 3) (some (sends c (x ∷ b))) none
+
+-- "At most 2,080 digits." None: the line isn't a frame, 16
+unfoldable pub frame : Bytes → Option Event
+frame line = cond (leb (length line) 2080) (framed (unhex line)) none
+
+-- ---- an answer to its lines
+
+-- "It writes the addressed packets one a line, then the number as two hexadecimal digits."
+unfoldable pub answerLines : List Bytes → ℕ → Bytes
+answerLines ps number = concat (map (λ p. hex p ++ (10 ∷ [])) ps) ++ (hexByte number ++ (10 ∷ []))
+
+-- "line isn't a frame"
+abbrev pub noFrame : Bytes
+noFrame = 49 ∷ 48 ∷ 10 ∷ []

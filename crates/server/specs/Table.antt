@@ -1,0 +1,162 @@
+-- The table: connections, known functions and unfinished jobs, and what can be read off it. 01, "Jobs and the queue".
+-- The number of connections is the length of their list: 16 only where the product is put together. Assumes nothing.
+use Prim.Native.Nat.{ℕ, zero, suc, _+_, _-_, _*_, max}
+use mathlib.Core.Bool.{Bool, true, false, not, cond, _&&_, _||_}
+use mathlib.Core.Option.{Option, none, some}
+use mathlib.Core.List.{List, [], _∷_, map}
+use lib.ListN.{length, getD, set, replicate}
+use lib.Dec.{leb, eqb}
+use Rattle.octets.specs.Bytes.{Bytes, same}
+use Rattle.handle.specs.Handle.{handle, lap}
+use Rattle.sets.specs.Sets.{has, insert, remove, isEmpty}
+use Rattle.server.specs.declared.Connection.{Connection}
+use Rattle.server.specs.declared.JobRow.{JobRow}
+use Rattle.server.specs.Lists.{any, find}
+
+-- a place for a known function: its name, and the connections able to do it. A free place has the empty name.
+pub record Function : Type 0 where
+  pub name : Bytes
+  pub able : ℕ
+
+-- a place for an unfinished job: the numbers of its row, its unique, and the two stored texts. A free place has serial 0.
+pub record Job : Type 0 where
+  pub row : JobRow
+  pub unique : Bytes
+  pub numerator : Bytes
+  pub denominator : Bytes
+
+-- the last serial given out (0: none yet), and the places
+pub record Table : Type 0 where
+  pub last : ℕ
+  pub connections : List Connection
+  pub functions : List Function
+  pub jobs : List Job
+
+-- ---- empty places, and the fresh table
+
+abbrev pub closed : Connection
+closed = record { opened = false; asleep = false; exceptions = false }
+
+abbrev pub noFunction : Function
+noFunction = record { name = []; able = 0 }
+
+abbrev pub noRow : JobRow
+noRow = record { serial = 0; function = 0; priority = 0; background = false; listeners = 0; holder = 0; size = 0 }
+
+abbrev pub noJob : Job
+noJob = record { row = noRow; unique = []; numerator = []; denominator = [] }
+
+-- 01: "known functions 16; unfinished jobs 32"; n connections, all closed
+unfoldable pub fresh : ℕ → Table
+fresh n = record { last = 0; connections = replicate n closed; functions = replicate 16 noFunction; jobs = replicate 32 noJob }
+
+-- ---- what stands at a place
+
+abbrev pub connectionAt : Table → ℕ → Connection
+connectionAt t c = getD (t .connections) c closed
+
+abbrev pub functionAt : Table → ℕ → Function
+functionAt t q = getD (t .functions) q noFunction
+
+abbrev pub jobAt : Table → ℕ → Job
+jobAt t p = getD (t .jobs) p noJob
+
+-- ---- parts put anew
+
+abbrev pub setConnection : Table → ℕ → Connection → Table
+setConnection t c x = record { last = t .last; connections = set (t .connections) c x; functions = t .functions; jobs = t .jobs }
+
+abbrev pub setFunction : Table → ℕ → Function → Table
+setFunction t q x = record { last = t .last; connections = t .connections; functions = set (t .functions) q x; jobs = t .jobs }
+
+abbrev pub setJob : Table → ℕ → Job → Table
+setJob t p x = record { last = t .last; connections = t .connections; functions = t .functions; jobs = set (t .jobs) p x }
+
+abbrev pub withRow : JobRow → Job → Job
+withRow r j = record { row = r; unique = j .unique; numerator = j .numerator; denominator = j .denominator }
+
+abbrev pub withTexts : Bytes → Bytes → Job → Job
+withTexts n d j = record { row = j .row; unique = j .unique; numerator = n; denominator = d }
+
+abbrev pub withListeners : ℕ → JobRow → JobRow
+withListeners s r = record { serial = r .serial; function = r .function; priority = r .priority; background = r .background; listeners = s; holder = r .holder; size = r .size }
+
+abbrev pub inBackground : JobRow → JobRow
+inBackground r = record { serial = r .serial; function = r .function; priority = r .priority; background = true; listeners = r .listeners; holder = r .holder; size = r .size }
+
+abbrev pub withHolder : ℕ → JobRow → JobRow
+withHolder h r = record { serial = r .serial; function = r .function; priority = r .priority; background = r .background; listeners = r .listeners; holder = h; size = r .size }
+
+-- ---- jobs
+
+-- an unfinished job stands here
+abbrev pub live : JobRow → Bool
+live r = not (eqb (r .serial) 0)
+
+-- it waits in the queue
+abbrev pub queued : JobRow → Bool
+queued r = live r && eqb (r .holder) 0
+
+-- connection c holds it
+abbrev pub heldBy : ℕ → JobRow → Bool
+heldBy c r = live r && eqb (r .holder) (suc c)
+
+-- 01: "Its handle is `H:lap:` and the serial in decimal." A job is found by the text of its handle, never by its place.
+unfoldable pub hasHandle : Bytes → JobRow → Bool
+hasHandle h r = live r && same (handle lap (r .serial)) h
+
+-- ---- functions and abilities
+
+-- connection c can do the function at place q
+abbrev pub able : List Function → ℕ → ℕ → Bool
+able fs q c = has (getD fs q noFunction .able) c
+
+-- 01: "Known function": the place where a name stands
+abbrev pub known : List Function → Bytes → Option ℕ
+known fs f = find (λ x. same (x .name) f) fs
+
+abbrev pub orElse : Option ℕ → Option ℕ → Option ℕ
+orElse (some q) o = some q
+orElse none o = o
+
+-- 01: "A new one takes the lowest free of 16 places"; none, if it is new and there is none
+abbrev pub roomFor : List Function → Bytes → Option ℕ
+roomFor fs f = orElse (known fs f) (known fs [])
+
+-- 01: "some connection can do it or an unfinished job names it"
+abbrev pub names : ℕ → JobRow → Bool
+names q r = live r && eqb (r .function) q
+
+abbrev pub wanted : List Job → ℕ → Function → Bool
+wanted js q x = not (isEmpty (x .able)) || any (λ j. names q (j .row)) js
+
+-- ---- grabbing
+
+-- the queued job is one that connection c can do
+abbrev pub grabbable : List Function → ℕ → JobRow → Bool
+grabbable fs c r = queued r && able fs (r .function) c
+
+-- 01: "the highest priority, then the lowest serial": the greater rank is grabbed first; 0 cannot be grabbed
+unfoldable pub rank : List Function → ℕ → JobRow → ℕ
+rank fs c r = cond (grabbable fs c r) (r .priority * 4294967296 + (4294967296 - r .serial)) 0
+
+abbrev pub greatest : List ℕ → ℕ
+greatest [] = 0
+greatest (x ∷ xs) = max x (greatest xs)
+
+-- the place of the job that connection c is given; none "exactly if there is none"
+unfoldable pub best : Table → ℕ → Option ℕ
+best t c =
+    let m = greatest (map (λ j. rank (t .functions) c (j .row)) (t .jobs)) in
+    find (λ j. not (eqb m 0) && eqb (rank (t .functions) c (j .row)) m) (t .jobs)
+
+-- 01: "a new job takes the lowest free place"
+unfoldable pub freePlace : Table → Option ℕ
+freePlace t = find (λ j. not (live (j .row))) (t .jobs)
+
+-- 01: "A submission with a non-empty unique whose function and unique equal an unfinished job's joins it"
+abbrev pub joins : List Function → Bytes → Bytes → Job → Bool
+joins fs f u j = live (j .row) && (not (same u []) && (same (j .unique) u && same (getD fs (j .row .function) noFunction .name) f))
+
+unfoldable pub joined : Table → Bytes → Bytes → Option ℕ
+joined t f u = find (joins (t .functions) f u) (t .jobs)

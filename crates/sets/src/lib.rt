@@ -1,0 +1,1 @@
+// Sets of connections, each in one unsigned number: connection c is bit c.
