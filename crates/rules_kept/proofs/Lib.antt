@@ -1,0 +1,17 @@
+pub mod Rows
+pub mod Requests
+pub mod Openness
+pub mod Sound
+pub mod Jobs
+pub mod Functions
+pub mod Going
+pub mod Closing
+pub mod Accepting
+pub mod Changes
+pub mod Settled
+pub mod Obeyed
+pub mod Lengths
+pub mod Kept
+pub mod AtRest
+pub mod Words
+pub mod Waking
