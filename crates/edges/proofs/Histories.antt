@@ -1,5 +1,7 @@
 -- Histories to compute: how to write an event, and what a history answers. Assumes nothing.
 use Prim.Native.Nat.{ℕ, zero, suc, _+_}
+use Prim.Native.Char.{code}
+use Prim.Native.String.{String, [] as none′, _∷_ as _then_}
 use mathlib.Core.Bool.{Bool, true, false, _&&_}
 use mathlib.Core.List.{List, [], _∷_, _++_, map}
 use lib.ListN.{length, replicate}
@@ -13,7 +15,12 @@ use Rattle.packet.specs.Opaque.{hasZeros, past, hides, seen, visible, opaque, m
 use Rattle.server.specs.Table.{fresh, hasHandle, rank, best, freePlace, joined}
 use Rattle.server.specs.Asked.{Event, opens, closes, sends, requested, asked}
 use Rattle.server.specs.Events.{refuse, dropped, woken, toWake, forgot, settle, opening, closing, canDoAt, cantDoAt, unableToAll, sleeping, grabAt, submitNew, submitTo, holdsHandle, workAt, statusAt, optionIf, served, admitted, decide}
-use Rattle.server.specs.Server.{Answer, Sent, addressed, shownBy, opaqueOf, render, decided, next, answer, start, after, answers}
+use Rattle.server.specs.Server.{Server, Answer, Sent, addressed, shownBy, opaqueOf, render, decided, next, answer, start, after, answers}
+
+-- the bytes of a text
+unfoldable pub text : String → Bytes
+text none′ = []
+text (c then s) = code c ∷ text s
 
 -- a request with these arguments, from connection c
 unfoldable pub request : ℕ → ℕ → List Bytes → Event
@@ -32,9 +39,14 @@ numberOf a = a .number
 abbrev sentOf : Answer → List Sent
 sentOf a = a .sent
 
+-- from any server on
+unfoldable pub answeredFrom : Server → List Event → List Answer
+unfolding same startsWith firstZero every has insert remove members handle decimal decimalIn rulesOf requestShape responseShape priorityOf backgroundOf fits fitAll join split packet header body read hasZeros past hides seen visible opaque masked hasHandle rank best freePlace joined requested asked refuse dropped woken toWake forgot settle opening closing canDoAt cantDoAt unableToAll sleeping grabAt submitNew submitTo holdsHandle workAt statusAt optionIf served admitted decide shownBy opaqueOf render decided next answer after answers
+answeredFrom s h = answers s h
+
 unfoldable pub answered : List Event → List Answer
-unfolding same startsWith firstZero every has insert remove members handle decimal decimalIn rulesOf requestShape responseShape priorityOf backgroundOf fits fitAll join split packet header body read hasZeros past hides seen visible opaque masked fresh hasHandle rank best freePlace joined requested asked refuse dropped woken toWake forgot settle opening closing canDoAt cantDoAt unableToAll sleeping grabAt submitNew submitTo holdsHandle workAt statusAt optionIf served admitted decide shownBy opaqueOf render decided next answer start after answers
-answered h = answers (start 16) h
+unfolding answeredFrom fresh start
+answered h = answeredFrom (start 16) h
 
 unfoldable pub numbersOf : List Event → List ℕ
 unfolding answered

@@ -1,3 +1,6 @@
 pub mod Histories
 pub mod Replay
 pub mod Edges
+pub mod WrongServers
+pub mod ReplayLines
+pub mod LastSerial

@@ -21,7 +21,7 @@ pub first′ : Bytes
 first′ = 72 ∷ 58 ∷ 108 ∷ 97 ∷ 112 ∷ 58 ∷ 49 ∷ []
 
 -- connection 1 is the worker, connection 0 the client
-pub replay : List Event
+unfoldable pub replay : List Event
 unfolding request reverse′ test′ tset first′
 replay =
     opens 1

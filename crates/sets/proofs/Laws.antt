@@ -1,16 +1,17 @@
 -- Laws of sets of connections, for any number of connections: who belongs to a set after one is put in or taken out, how large the
 -- number is, and when it is 0. Assumes nothing.
-use Prim.Native.Nat.{ℕ, zero, suc, _+_, _-_, _/_, _%_, _^_, _<_, _≤_}
+use Prim.Native.Nat.{ℕ, zero, suc, _+_, _-_, _*_, _/_, _%_, _^_, _<_, _≤_, max}
 use mathlib.Core.Path.{_≡_, refl, ap, _∙_, sym}
 use mathlib.Core.Logic.{_≢_}
-use mathlib.Core.Bool.{Bool, true, false, cond}
-use native.Mathlib.Nat.{div-eq-of-lt, pow-suc}
+use mathlib.Core.Bool.{Bool, true, false, cond, _||_}
+use native.Mathlib.Nat.{div-eq-of-lt, one-mul, pow-suc}
 use native.Mathlib.Numerals.{one-add}
 use native.Mathlib.Omega.{arith}
 use borrow.Author.Tests.{ltb-true, ltb-false, eqb-true, eqb-false, eq-eqb, ne-eqb}
-use lib.Pow.{pow-pos, pow-mono, shr-shr}
+use lib.Bits.{bitOr, or-shr, or-step}
+use lib.Pow.{pow-pos, pow-mono, shl-exact, shr-shr}
 use lib.Dec.{eqb, ltb}
-use Rattle.sets.specs.Sets.{has, insert, remove, isEmpty}
+use Rattle.sets.specs.Sets.{has, insert, remove, union, isEmpty}
 
 -- ---- one bit
 
@@ -131,6 +132,25 @@ has-remove-other s c x n = go (has s c) refl
     go true e = same-has _ s x (take-other s c x (is-bit s c e) n)
     go false e = refl
 
+-- ---- both sets
+
+low-or : (s t : ℕ) → bitOr s t % 2 ≡ max (s % 2) (t % 2)
+low-or s t = rw or-step (omega arith)
+
+either-bit : (x y : ℕ) → x < 2 → y < 2 → eqb (max x y) 1 ≡ eqb x 1 || eqb y 1
+either-bit zero zero p q = refl
+either-bit zero (suc zero) p q = refl
+either-bit (suc zero) zero p q = refl
+either-bit (suc zero) (suc zero) p q = refl
+either-bit zero (suc (suc y)) p q = absurd (omega arith)
+either-bit (suc zero) (suc (suc y)) p q = absurd (omega arith)
+either-bit (suc (suc x)) y p q = absurd (omega arith)
+
+pub has-union : (s t c : ℕ) → has (union s t) c ≡ has s c || has t c
+unfolding has union
+has-union s t c =
+    rw (or-shr, low-or (s / 2 ^ c) (t / 2 ^ c)) (either-bit (s / 2 ^ c % 2) (t / 2 ^ c % 2) (omega arith) (omega arith))
+
 -- ---- nothing to do
 
 pub insert-present : (s c : ℕ) → has s c ≡ true → insert s c ≡ s
@@ -180,6 +200,14 @@ zero-has c = bit-lacks 0 c (small-bit 0 c (pow-pos c))
 pub zero-remove : (c : ℕ) → remove 0 c ≡ 0
 zero-remove c = remove-absent 0 c (zero-has c)
 
+-- the set of one connection
+pub has-only : (c x : ℕ) → has (insert 0 c) x ≡ eqb c x
+has-only c x = go (eqb c x) refl
+  where
+    go : (b : Bool) → eqb c x ≡ b → has (insert 0 c) x ≡ b
+    go true e = let q : c ≡ x = eqb-true c x e in rw q (has-insert-same 0 x)
+    go false e = let n : c ≡ x → ⊥ = eqb-false c x e in has-insert-other 0 c x (λ q. n (sym q)) ∙ zero-has x
+
 pub nonempty : (s c : ℕ) → has s c ≡ true → isEmpty s ≡ false
 nonempty s c e = ne-eqb s 0 (λ z. absurd (omega (arith, pow-pos c, large s c (is-bit s c e))))
 
@@ -194,3 +222,31 @@ no-members (suc n) s h f =
     let p = pow-suc 2 n in
     let r : s / 2 ≡ 0 = no-members n (s / 2) (omega arith) (λ c l. bit-lacks _ c (sym (bit-next s c) ∙ no-bit s (suc c) (f (suc c) (omega arith)))) in
     last-bit s (no-bit s 0 (f 0 (omega arith))) r
+
+-- ---- what the code's tests and shifts say
+
+pub only-shift : (c : ℕ) → c < 32 → 1 * 2 ^ c % 4294967296 ≡ 2 ^ c
+only-shift c h = shl-exact {a = 1} 1 c 32 (omega arith) (omega arith) ∙ one-mul (2 ^ c)
+
+module _ (s c : ℕ) (r : Bool) (e : r ≡ has s c) where
+  pub insert-old : r ≡ true → s ≡ insert s c
+  insert-old h = sym (insert-present s c (sym e ∙ h))
+
+  pub insert-new : (b : ℕ) → b ≡ 2 ^ c → r ≡ false → s + b ≡ insert s c
+  unfolding insert
+  insert-new b q h = rw (← e, h, q)
+
+  -- the sum is no larger than a set can be
+  pub insert-fits : (b : ℕ) → b ≡ 2 ^ c → r ≡ false → c < 32 → s < 2 ^ 32 → s + b < 2 ^ 32
+  insert-fits b q h l f = rw q (add-below s c 32 (no-bit s c (sym e ∙ h)) l f)
+
+  pub remove-old : (b : ℕ) → b ≡ 2 ^ c → r ≡ true → s - b ≡ remove s c
+  unfolding remove
+  remove-old b q h = rw (← e, h, q)
+
+  -- what is taken out is in it
+  pub remove-fits : (b : ℕ) → b ≡ 2 ^ c → r ≡ true → b ≤ s
+  remove-fits b q h = rw q (large s c (is-bit s c (sym e ∙ h)))
+
+  pub remove-none : r ≡ false → s ≡ remove s c
+  remove-none h = sym (remove-absent s c (sym e ∙ h))

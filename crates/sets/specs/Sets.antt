@@ -1,8 +1,9 @@
 -- A set of connections as one number: connection c belongs to it exactly if bit c is 1. The empty set is 0. Nothing here depends on
 -- how many connections there are. Assumes nothing.
 use Prim.Native.Nat.{ℕ, zero, suc, _+_, _-_, _/_, _%_, _^_}
-use mathlib.Core.Bool.{Bool, true, false, cond}
+use mathlib.Core.Bool.{Bool, cond}
 use mathlib.Core.List.{List, [], _∷_, _++_}
+use lib.Bits.{bitOr}
 use lib.Dec.{eqb}
 
 unfoldable pub has : ℕ → ℕ → Bool
@@ -13,6 +14,10 @@ insert s c = cond (has s c) s (s + 2 ^ c)
 
 unfoldable pub remove : ℕ → ℕ → ℕ
 remove s c = cond (has s c) (s - 2 ^ c) s
+
+-- the connections of both sets
+unfoldable pub union : ℕ → ℕ → ℕ
+union s t = bitOr s t
 
 abbrev pub isEmpty : ℕ → Bool
 isEmpty s = eqb s 0

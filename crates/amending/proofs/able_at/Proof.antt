@@ -1,0 +1,20 @@
+-- `amending::able_at` meets its contract: a place beyond the last has the empty set. Assumes nothing.
+use borrow.Author.Needs.{needs}
+use Rattle.amending.proofs.Beyond.{at-beyond}
+use Rattle.amending.proofs.able_at.Statement.{statement}
+use Rattle.amending.proofs.able_at.Tie as tie
+
+returns : tie.Need-returns
+returns c = at-beyond (c .before .args .t1) 16 _ (search needs) (c .if1 .taken) _
+
+mul-result : tie.Need-mul-result
+mul-result c = search needs
+
+array-read-result : tie.Need-array-read-result
+array-read-result c = search needs
+
+returns-2 : tie.Need-returns-2
+returns-2 c = search needs
+
+pub able-at-spec : {M : Type 1} → statement M
+able-at-spec = tie.close (tie.spec returns mul-result array-read-result returns-2)

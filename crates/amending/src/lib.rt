@@ -1,0 +1,217 @@
+// The numbers of a table by value, read and put anew at a place. A place beyond the last is read as an empty one, and nothing is put
+// there. An inner crate: its callers name connections below 16.
+use plans::Values;
+use server::Connection;
+use server::JobRow;
+ghost use mathlib.Core.Path.{_≡_};
+ghost use mathlib.Core.Bool.{cond};
+ghost use mathlib.Core.List.{map};
+ghost use Prim.Native.Nat.{_<_, suc};
+ghost use lib.ListN.{getD, set};
+ghost use Rattle.sets.specs.Sets as S;
+ghost use Rattle.server.specs.Table.{closed, noRow, withHolder, withListeners};
+ghost use Rattle.server.specs.Events.{deafTo, submittedBy};
+ghost use Rattle.plans.specs.Plans.{closedIn, heard, leftRow, openedIn, putRow, sleepingIn, withAble, withConnection, withRows};
+
+// The row at a place.
+pub fn row_at(rows: [JobRow; 32], p: usize) -> JobRow
+    ensures { λ r. ⌜ r ≡ getD rows p noRow ⌝ }
+{
+    if 32 <= p {
+        return no_row();
+    }
+    rows[p]
+}
+
+// A free row.
+pub fn no_row() -> JobRow
+    ensures { λ r. ⌜ r ≡ noRow ⌝ }
+{
+    JobRow {
+        serial: 0,
+        function: 0,
+        priority: 0,
+        background: false,
+        listeners: 0,
+        holder: 0,
+        size: 0,
+    }
+}
+
+// The rows with another one at a place.
+pub fn set_row(rows: [JobRow; 32], p: usize, row: JobRow) -> [JobRow; 32]
+    ensures { λ r. ⌜ r ≡ set rows p row ⌝ }
+{
+    if 32 <= p {
+        return rows;
+    }
+    let mut next = rows;
+    next[p] = row;
+    next
+}
+
+// The connections able to do the function at a place.
+pub fn able_at(able: [u32; 16], q: usize) -> u32
+    ensures { λ r. ⌜ r ≡ getD able q 0 ⌝ }
+{
+    if 16 <= q {
+        return 0;
+    }
+    able[q]
+}
+
+// The able sets with another one at a place.
+pub fn set_able(able: [u32; 16], q: usize, s: u32) -> [u32; 16]
+    ensures { λ r. ⌜ r ≡ set able q s ⌝ }
+{
+    if 16 <= q {
+        return able;
+    }
+    let mut next = able;
+    next[q] = s;
+    next
+}
+
+// The connection's row.
+pub fn connection_at(connections: [Connection; 16], c: usize) -> Connection
+    ensures { λ r. ⌜ r ≡ getD connections c closed ⌝ }
+{
+    if 16 <= c {
+        return Connection {
+            opened: false,
+            asleep: false,
+            exceptions: false,
+        };
+    }
+    connections[c]
+}
+
+// The connections with another row at a place.
+pub fn set_connection(connections: [Connection; 16], c: usize, x: Connection) -> [Connection; 16]
+    ensures { λ r. ⌜ r ≡ set connections c x ⌝ }
+{
+    if 16 <= c {
+        return connections;
+    }
+    let mut next = connections;
+    next[c] = x;
+    next
+}
+
+// The values with another row of a connection.
+pub fn with_connection(v: Values, c: usize, x: Connection) -> Values
+    ensures { λ r. ⌜ r ≡ withConnection c x v ⌝ }
+{
+    let old = v.connections;
+    let able = v.able;
+    let rows = v.rows;
+    let connections = set_connection(old, c, x);
+    Values {
+        last: v.last,
+        connections,
+        able,
+        rows,
+    }
+}
+
+// The values with other able sets.
+pub fn with_able(v: Values, able: [u32; 16]) -> Values
+    ensures { λ r. ⌜ r ≡ withAble able v ⌝ }
+{
+    let connections = v.connections;
+    let rows = v.rows;
+    Values {
+        last: v.last,
+        connections,
+        able,
+        rows,
+    }
+}
+
+// The values with other rows.
+pub fn with_rows(v: Values, rows: [JobRow; 32]) -> Values
+    ensures { λ r. ⌜ r ≡ withRows rows v ⌝ }
+{
+    let connections = v.connections;
+    let able = v.able;
+    Values {
+        last: v.last,
+        connections,
+        able,
+        rows,
+    }
+}
+
+// The values with another row at a place.
+pub fn put_row(v: Values, p: usize, row: JobRow) -> Values
+    ensures { λ r. ⌜ r ≡ putRow p row v ⌝ }
+{
+    let rows = v.rows;
+    with_rows(v, set_row(rows, p, row))
+}
+
+// The values with the connection asleep, or awake.
+pub fn sleeping(v: Values, c: usize, asleep: bool) -> Values
+    ensures { λ r. ⌜ r ≡ sleepingIn asleep c v ⌝ }
+{
+    let connections = v.connections;
+    let x = connection_at(connections, c);
+    with_connection(
+        v,
+        c,
+        Connection {
+            opened: x.opened,
+            asleep,
+            exceptions: x.exceptions,
+        },
+    )
+}
+
+// The row with a submitter more: in the background, or among the listeners.
+pub fn submitted(row: JobRow, c: usize, background: bool) -> JobRow
+    requires { ⌜ c < 16 ⌝ }
+    ensures { λ r. ⌜ r ≡ submittedBy c background row ⌝ }
+{
+    if background {
+        return JobRow {
+            serial: row.serial,
+            function: row.function,
+            priority: row.priority,
+            background: true,
+            listeners: row.listeners,
+            holder: row.holder,
+            size: row.size,
+        };
+    }
+    with_listeners(row, sets::insert(row.listeners, c))
+}
+
+// The row with other listeners.
+fn with_listeners(row: JobRow, listeners: u32) -> JobRow
+    ensures { λ r. ⌜ r ≡ withListeners listeners row ⌝ }
+{
+    JobRow {
+        serial: row.serial,
+        function: row.function,
+        priority: row.priority,
+        background: row.background,
+        listeners,
+        holder: row.holder,
+        size: row.size,
+    }
+}
+
+// The row with another holder: 0 for nobody, else one more than the connection's number.
+pub fn with_holder(row: JobRow, holder: u16) -> JobRow
+    ensures { λ r. ⌜ r ≡ withHolder holder row ⌝ }
+{
+    JobRow {
+        serial: row.serial,
+        function: row.function,
+        priority: row.priority,
+        background: row.background,
+        listeners: row.listeners,
+        holder,
+        size: row.size,
+    }
+}

@@ -1,0 +1,9 @@
+pub mod Workloads
+pub mod Refusals
+pub mod Once
+pub mod Follows
+pub mod Quiet
+pub mod Packets
+pub mod Output
+pub mod EveryCall
+pub mod Histories

@@ -1,0 +1,193 @@
+-- The texts that an event changes, written over the bytes of the table: the bytes of the changed table. Assumes nothing.
+use Prim.Native.Nat.{ℕ, zero, suc, _+_, _*_, _<_}
+use mathlib.Core.Path.{_≡_, refl, sym, ap, ap₂, _∙_}
+use mathlib.Core.Bool.{Bool, true, false, cond, not}
+use mathlib.Core.List.{List, [], _∷_, _++_, map}
+use lib.ListN.{length, getD, set, length-set, length-map}
+use lib.Seq.{map-set-same}
+use Rattle.octets.specs.Bytes.{Bytes}
+use Rattle.octets.specs.Put.{put}
+use Rattle.server.specs.declared.Connection.{Connection}
+use Rattle.server.specs.declared.JobRow.{JobRow}
+use Rattle.server.specs.Lists.{fit}
+use Rattle.server.specs.Table.{Function, Job, Table, noFunction, noJob, functionAt, jobAt, setFunction, setJob, withTexts, heldBy}
+use Rattle.server.specs.Events.{named}
+use Rattle.server.specs.Layout.{column, bytesOf}
+use Rattle.plans.specs.declared.Values.{Values}
+use Rattle.plans.specs.declared.Change.the-variants as CV
+use Rattle.plans.specs.Values.{valuesOf, rowsOf, ablesOf}
+use Rattle.plans.specs.Plans.{changed}
+use Rattle.rows.specs.Columns.{numberBytes, connectionBytes}
+use Rattle.texts.specs.Places.{putWhere, reset}
+use Rattle.carrying.proofs.Regions.{Marked, none, more}
+use Rattle.carrying.proofs.Runs.{name32, unique64, numerator10, denominator10, wide10, wide10′, runs, bytes-runs, Sized, name-put, unique-put, numerator-put, denominator-put, numerators-marked, denominators-marked}
+
+-- a table of the product's size
+pub record Whole (t : Table) : Type 0 where
+  pub connections : length (t .connections) ≡ 16
+  pub functions : length (t .functions) ≡ 16
+  pub jobs : length (t .jobs) ≡ 32
+
+pub sized : (t : Table) → Whole t → Sized (valuesOf t) (t .functions) (t .jobs) (t .jobs) (t .jobs)
+unfolding valuesOf
+sized t w =
+    record {
+      connections = w .connections;
+      able = length-map (t .functions) (λ (x : Function). x .able) ∙ w .functions;
+      rows = length-map (t .jobs) (λ (j : Job). j .row) ∙ w .jobs;
+      functions = w .functions;
+      uniques = w .jobs;
+      numerators = w .jobs;
+      denominators = w .jobs;
+    }
+
+-- a column that does not see the change
+pub column-same : {A : Type 0} (f : A → Bytes) (l : List A) (i : ℕ) (y d : A) → f y ≡ f (getD l i d) → column f (set l i y) ≡ column f l
+column-same f [] i y d e = refl
+column-same f (x ∷ l) zero y d e = ap (λ (c : Bytes). c ++ column f l) e
+column-same f (x ∷ l) (suc i) y d e = ap (λ (c : Bytes). f x ++ c) (column-same f l i y d e)
+
+pub column-map-same : {A : Type 0} (f : A → Bytes) (g : A → A) → ((x : A) → f (g x) ≡ f x) → (l : List A) → column f (map g l) ≡ column f l
+column-map-same f g e [] = refl
+column-map-same f g e (x ∷ l) = ap₂ _++_ (e x) (column-map-same f g e l)
+
+module _ (t : Table) (w : Whole t) (b : Bytes) where
+  v : Values
+  v = valuesOf t
+
+  -- ---- CAN_DO: the name of the function
+
+  named-values : (q : ℕ) (a : Bytes) → valuesOf (setFunction t q (named a (functionAt t q))) ≡ valuesOf t
+  unfolding valuesOf
+  named-values q a = ap (λ (l : List ℕ). record { last = t .last; connections = t .connections; able = l; rows = rowsOf t }) (map-set-same (λ (x : Function). x .able) (t .functions) q (named a (functionAt t q)) noFunction refl)
+
+  pub name-changed : (q : ℕ) (a u d : Bytes) → q < 16 → put (548 + 32 * q) (fit 32 a) (put 0 (bytesOf t) b) ≡ put 0 (bytesOf (changed (CV.Name q) a u d t)) b
+  unfolding changed
+  name-changed q a u d h =
+      ap (λ (c : Bytes). put (548 + 32 * q) (fit 32 a) (put 0 c b)) (bytes-runs t)
+      ∙ name-put (valuesOf t) (t .functions) (t .jobs) (t .jobs) (t .jobs) (sized t w) q (named a (functionAt t q)) b h
+      ∙ ap (λ (c : Bytes). put 0 c b)
+      (ap (λ (x : Values). runs x (set (t .functions) q (named a (functionAt t q))) (t .jobs) (t .jobs) (t .jobs)) (sym (named-values q a))
+      ∙ sym (bytes-runs (setFunction t q (named a (functionAt t q)))))
+
+  -- ---- WORK_STATUS: the two texts
+
+  texts-values : (p : ℕ) (n d : Bytes) → valuesOf (setJob t p (withTexts n d (jobAt t p))) ≡ valuesOf t
+  unfolding valuesOf
+  texts-values p n d = ap (λ (l : List JobRow). record { last = t .last; connections = t .connections; able = ablesOf t; rows = l }) (map-set-same (λ (j : Job). j .row) (t .jobs) p (withTexts n d (jobAt t p)) noJob refl)
+
+  pub texts-changed : (p : ℕ) (a n d : Bytes) → p < 32
+      → put (3428 + 10 * p) (fit 10 d) (put (3108 + 10 * p) (fit 10 n) (put 0 (bytesOf t) b)) ≡ put 0 (bytesOf (changed (CV.Texts p) a n d t)) b
+  unfolding changed runs
+  texts-changed p a n d h =
+      let y : Job = withTexts n d (jobAt t p) in
+      let js : List Job = t .jobs in
+      let z = sized t w in
+      let z′ : Sized (valuesOf t) (t .functions) js (set js p y) js = record { connections = z .connections; able = z .able; rows = z .rows; functions = z .functions; uniques = z .uniques; numerators = length-set js p y ∙ z .numerators; denominators = z .denominators } in
+      let e : runs (valuesOf t) (t .functions) js (set js p y) (set js p y) ≡ runs (valuesOf t) (t .functions) (set js p y) (set js p y) (set js p y) =
+      ap (λ (c : Bytes). runsOver c) (sym (column-same unique64 js p y noJob refl)) in
+      ap (λ (c : Bytes). put (3428 + 10 * p) (fit 10 d) (put (3108 + 10 * p) (fit 10 n) (put 0 c b))) (bytes-runs t)
+      ∙ ap (put (3428 + 10 * p) (fit 10 d)) (numerator-put (valuesOf t) (t .functions) js js js z p y b h)
+      ∙ denominator-put (valuesOf t) (t .functions) js (set js p y) js z′ p y b h
+      ∙ ap (λ (c : Bytes). put 0 c b) (e ∙ ap (λ (x : Values). runs x (t .functions) (set js p y) (set js p y) (set js p y)) (sym (texts-values p n d)) ∙ sym (bytes-runs (setJob t p y)))
+    where
+      runsOver : Bytes → Bytes
+      runsOver c = numberBytes (valuesOf t) ++ (column name32 (t .functions) ++ (c ++ (column numerator10 (set (t .jobs) p (withTexts n d (jobAt t p))) ++ (column denominator10 (set (t .jobs) p (withTexts n d (jobAt t p))) ++ connectionBytes (valuesOf t)))))
+
+  -- ---- a new job: the name of its function, its unique, `0` and `0`
+
+  newTexts : ℕ → Bytes → Job
+  newTexts p u = record { row = jobAt t p .row; unique = u; numerator = 48 ∷ []; denominator = 48 ∷ [] }
+
+  job-values : (p q : ℕ) (a u : Bytes) → valuesOf (setJob (setFunction t q (named a (functionAt t q))) p (newTexts p u)) ≡ valuesOf t
+  unfolding valuesOf newTexts
+  job-values p q a u =
+      ap₂ {C = Values} (λ (l : List ℕ) (r : List JobRow). record { last = t .last; connections = t .connections; able = l; rows = r })
+      (map-set-same (λ (x : Function). x .able) (t .functions) q (named a (functionAt t q)) noFunction refl)
+      (map-set-same (λ (j : Job). j .row) (t .jobs) p (newTexts p u) noJob refl)
+
+  pub job-changed : (p q : ℕ) (a u d : Bytes) → p < 32 → q < 16
+      → put (3428 + 10 * p) (fit 10 (48 ∷ [])) (put (3108 + 10 * p) (fit 10 (48 ∷ [])) (put (1060 + 64 * p) (fit 64 u) (put (548 + 32 * q) (fit 32 a) (put 0 (bytesOf t) b))))
+      ≡ put 0 (bytesOf (changed (CV.Job p q) a u d t)) b
+  unfolding changed newTexts
+  job-changed p q a u d h k =
+      let y : Job = newTexts p u in
+      let fs : List Function = set (t .functions) q (named a (functionAt t q)) in
+      let js : List Job = t .jobs in
+      let ks : List Job = set js p y in
+      let z = sized t w in
+      let lf : length fs ≡ 16 = length-set (t .functions) q (named a (functionAt t q)) ∙ w .functions in
+      let lk : length ks ≡ 32 = length-set js p y ∙ w .jobs in
+      let z1 : Sized (valuesOf t) fs js js js = record { connections = z .connections; able = z .able; rows = z .rows; functions = lf; uniques = w .jobs; numerators = w .jobs; denominators = w .jobs } in
+      let z2 : Sized (valuesOf t) fs ks js js = record { connections = z .connections; able = z .able; rows = z .rows; functions = lf; uniques = lk; numerators = w .jobs; denominators = w .jobs } in
+      let z3 : Sized (valuesOf t) fs ks ks js = record { connections = z .connections; able = z .able; rows = z .rows; functions = lf; uniques = lk; numerators = lk; denominators = w .jobs } in
+      ap (λ (c : Bytes). put (3428 + 10 * p) (fit 10 (48 ∷ [])) (put (3108 + 10 * p) (fit 10 (48 ∷ [])) (put (1060 + 64 * p) (fit 64 u) c)))
+      (ap (λ (c : Bytes). put (548 + 32 * q) (fit 32 a) (put 0 c b)) (bytes-runs t) ∙ name-put (valuesOf t) (t .functions) js js js z q (named a (functionAt t q)) b k)
+      ∙ ap (λ (c : Bytes). put (3428 + 10 * p) (fit 10 (48 ∷ [])) (put (3108 + 10 * p) (fit 10 (48 ∷ [])) c)) (unique-put (valuesOf t) fs js js js z1 p y b h)
+      ∙ ap (put (3428 + 10 * p) (fit 10 (48 ∷ []))) (numerator-put (valuesOf t) fs ks js js z2 p y b h)
+      ∙ denominator-put (valuesOf t) fs ks ks js z3 p y b h
+      ∙ ap (λ (c : Bytes). put 0 c b) (ap (λ (x : Values). runs x fs ks ks ks) (sym (job-values p q a u)) ∙ sym (bytes-runs (setJob (setFunction t q (named a (functionAt t q))) p y)))
+
+  -- ---- close: `0` and `0` for the jobs that the connection held
+
+  returned : ℕ → Job → Job
+  returned c j = cond (heldBy c (j .row)) (withTexts (48 ∷ []) (48 ∷ []) j) j
+
+  returned-row : (c : ℕ) (j : Job) → returned c j .row ≡ j .row
+  unfolding returned
+  returned-row c j = go (heldBy c (j .row))
+    where
+      go : (m : Bool) → (cond m (withTexts (48 ∷ []) (48 ∷ []) j) j) .row ≡ j .row
+      go true = refl
+      go false = refl
+
+  returned-unique : (c : ℕ) (j : Job) → unique64 (returned c j) ≡ unique64 j
+  unfolding returned
+  returned-unique c j = go (heldBy c (j .row))
+    where
+      go : (m : Bool) → unique64 (cond m (withTexts (48 ∷ []) (48 ∷ []) j) j) ≡ unique64 j
+      go true = refl
+      go false = refl
+
+  held-numerators : (c : ℕ) (js : List Job) → Marked numerator10 10 wide10 (48 ∷ []) (map (λ (j : Job). heldBy c (j .row)) js) js (map (returned c) js)
+  unfolding returned
+  held-numerators c [] = none
+  held-numerators c (j ∷ js) = more (go (heldBy c (j .row))) (held-numerators c js)
+    where
+      go : (m : Bool) → numerator10 (cond m (withTexts (48 ∷ []) (48 ∷ []) j) j) ≡ cond m (fit 10 (48 ∷ [])) (numerator10 j)
+      go true = refl
+      go false = refl
+
+  held-denominators : (c : ℕ) (js : List Job) → Marked denominator10 10 wide10′ (48 ∷ []) (map (λ (j : Job). heldBy c (j .row)) js) js (map (returned c) js)
+  unfolding returned
+  held-denominators c [] = none
+  held-denominators c (j ∷ js) = more (go (heldBy c (j .row))) (held-denominators c js)
+    where
+      go : (m : Bool) → denominator10 (cond m (withTexts (48 ∷ []) (48 ∷ []) j) j) ≡ cond m (fit 10 (48 ∷ [])) (denominator10 j)
+      go true = refl
+      go false = refl
+
+  rows-kept : (c : ℕ) (js : List Job) → map (λ (j : Job). j .row) (map (returned c) js) ≡ map (λ (j : Job). j .row) js
+  rows-kept c [] = refl
+  rows-kept c (j ∷ js) = ap₂ _∷_ (returned-row c j) (rows-kept c js)
+
+  pub left-changed : (c : ℕ) (a n d : Bytes)
+      → reset 3428 (map (λ (j : Job). heldBy c (j .row)) (t .jobs)) (reset 3108 (map (λ (j : Job). heldBy c (j .row)) (t .jobs)) (put 0 (bytesOf t) b))
+      ≡ put 0 (bytesOf (changed (CV.Left c) a n d t)) b
+  unfolding changed returned runs valuesOf connectionBytes
+  left-changed c a n d =
+      let js : List Job = t .jobs in
+      let ks : List Job = map (returned c) js in
+      let ms : List Bool = map (λ (j : Job). heldBy c (j .row)) js in
+      let z = sized t w in
+      let lk : length ks ≡ 32 = length-map js (returned c) ∙ w .jobs in
+      let z1 : Sized (valuesOf t) (t .functions) js ks js = record { connections = z .connections; able = z .able; rows = z .rows; functions = z .functions; uniques = w .jobs; numerators = lk; denominators = w .jobs } in
+      let u : Table = record { last = t .last; connections = t .connections; functions = t .functions; jobs = ks } in
+      let e : runs (valuesOf t) (t .functions) js ks ks ≡ runs (valuesOf u) (t .functions) ks ks ks =
+      ap₂ (λ (r : List JobRow) (s : Bytes). numberBytes (record { last = t .last; connections = t .connections; able = ablesOf t; rows = r })
+      ++ (column name32 (t .functions) ++ (s ++ (column numerator10 ks ++ (column denominator10 ks ++ connectionBytes (valuesOf t))))))
+      (sym (rows-kept c js)) (sym (column-map-same unique64 (returned c) (returned-unique c) js)) in
+      ap (λ (x : Bytes). putWhere 3428 10 (48 ∷ []) ms (putWhere 3108 10 (48 ∷ []) ms (put 0 x b))) (bytes-runs t)
+      ∙ ap (putWhere 3428 10 (48 ∷ []) ms) (numerators-marked (valuesOf t) (t .functions) js js js z (48 ∷ []) (held-numerators c js) b)
+      ∙ denominators-marked (valuesOf t) (t .functions) js ks js z1 (48 ∷ []) (held-denominators c js) b
+      ∙ ap (λ (x : Bytes). put 0 x b) (e ∙ sym (bytes-runs u))

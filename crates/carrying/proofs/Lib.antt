@@ -1,0 +1,4 @@
+pub mod Regions
+pub mod Runs
+pub mod Changes
+pub mod Final

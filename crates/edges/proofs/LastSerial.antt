@@ -1,0 +1,39 @@
+-- Document 01, "Edges to try": "Serial 4,294,967,295 done; next: 13." From a fresh table whose last serial but one is given out.
+-- Assumes nothing.
+use mathlib.Core.Path.{_≡_, refl}
+use mathlib.Core.List.{List, [], _∷_, map}
+use Rattle.packet.specs.Packet.{packet}
+use Rattle.server.specs.Table.{fresh}
+use Rattle.server.specs.Asked.{Event, opens}
+use Rattle.server.specs.Server.{Server, Answer, addressed, start}
+use Rattle.edges.proofs.Histories.{text, request, response, answeredFrom}
+
+-- the last serial given out is 4,294,967,294
+pub nearlyUsedUp : Server
+unfolding start fresh
+nearlyUsedUp =
+    let t = start 16 .table in
+    record {
+      table = record { last = 4294967294; connections = t .connections; functions = t .functions; jobs = t .jobs };
+      workloads = start 16 .workloads;
+    }
+
+-- two submissions of a new job in the background
+pub lastTwo : List Event
+unfolding request text
+lastTwo =
+    let submission = request 0 18 (text "f" ∷ [] ∷ [] ∷ []) in
+    opens 0 ∷ submission ∷ submission ∷ []
+
+pub last-numbers : map (λ (a : Answer). a .number) (answeredFrom nearlyUsedUp lastTwo) ≡ 0 ∷ 0 ∷ 13 ∷ []
+unfolding answeredFrom nearlyUsedUp lastTwo
+last-numbers = refl
+
+-- JOB_CREATED, then ERROR
+pub last-packets : map (λ (a : Answer). map addressed (a .sent)) (answeredFrom nearlyUsedUp lastTwo)
+    ≡ []
+    ∷ (response 0 8 (text "H:lap:4294967295" ∷ []) ∷ [])
+    ∷ (response 0 19 (text "13" ∷ text "serials" ∷ []) ∷ [])
+    ∷ []
+unfolding answeredFrom nearlyUsedUp lastTwo response packet text
+last-packets = refl

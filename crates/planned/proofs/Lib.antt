@@ -1,0 +1,4 @@
+pub mod Settled
+pub mod Places
+pub mod Texts
+pub mod Decides

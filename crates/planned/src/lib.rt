@@ -1,0 +1,1 @@
+// A plan does what the server's definitions decide. No code.

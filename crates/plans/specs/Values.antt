@@ -1,0 +1,62 @@
+-- The numbers of a table, and searches in them. Each is what the server's definitions say of the table whose numbers these are.
+-- Assumes nothing.
+use Prim.Native.Nat.{ℕ, zero, suc, _*_, _+_, _-_, max}
+use mathlib.Core.Bool.{Bool, true, false, not, cond, _&&_, _||_}
+use mathlib.Core.Option.{Option, none, some}
+use mathlib.Core.List.{List, [], _∷_, map}
+use lib.ListN.{length, getD}
+use lib.Dec.{eqb}
+use Rattle.octets.specs.Bytes.{Bytes, same}
+use Rattle.sets.specs.Sets.{has, isEmpty}
+use Rattle.server.specs.declared.Connection.{Connection}
+use Rattle.server.specs.declared.JobRow.{JobRow}
+use Rattle.server.specs.Lists.{any, find}
+use Rattle.server.specs.Table.{Function, Job, Table, noRow, live, queued, greatest, hasHandle}
+use Rattle.server.specs.Events.{holdsHandle}
+use Rattle.plans.specs.declared.Place.{Place}
+use Rattle.plans.specs.declared.Place.the-variants.{At, Nowhere}
+use Rattle.plans.specs.declared.Values as V′
+
+abbrev pub rowsOf : Table → List JobRow
+rowsOf t = map (λ j. j .row) (t .jobs)
+
+abbrev pub ablesOf : Table → List ℕ
+ablesOf t = map (λ x. x .able) (t .functions)
+
+unfoldable pub valuesOf : Table → V′.Values
+valuesOf t = record { last = t .last; connections = t .connections; able = ablesOf t; rows = rowsOf t }
+
+-- the answer of a search
+abbrev pub placed : Option ℕ → Place
+placed none = Nowhere
+placed (some i) = At i
+
+abbrev pub unplaced : Place → Option ℕ
+unplaced (At i) = some i
+unplaced Nowhere = none
+
+-- ---- searches among rows
+
+-- the lowest free place
+unfoldable pub freeRow : List JobRow → Option ℕ
+freeRow rs = find (λ r. not (live r)) rs
+
+-- a queued job that connection c can do
+abbrev pub canGrab : List ℕ → ℕ → JobRow → Bool
+canGrab ables c r = queued r && has (getD ables (r .function) 0) c
+
+unfoldable pub rankIn : List ℕ → ℕ → JobRow → ℕ
+rankIn ables c r = cond (canGrab ables c r) (r .priority * 4294967296 + (4294967296 - r .serial)) 0
+
+-- the job that connection c is given
+unfoldable pub bestRow : List ℕ → List JobRow → ℕ → Option ℕ
+bestRow ables rs c =
+    let m = greatest (map (rankIn ables c) rs) in
+    find (λ r. not (eqb m 0) && eqb (rankIn ables c r) m) rs
+
+-- the unfinished job with this serial; held by connection c
+unfoldable pub serialRow : ℕ → List JobRow → Option ℕ
+serialRow s rs = find (λ r. live r && eqb (r .serial) s) rs
+
+unfoldable pub heldRow : ℕ → ℕ → List JobRow → Option ℕ
+heldRow c s rs = find (λ r. (live r && eqb (r .holder) (suc c)) && eqb (r .serial) s) rs

@@ -1,0 +1,77 @@
+-- `rows::read_connections` meets its contract. The invariant: the first i connections are those that the bytes hold.
+-- Assumes nothing.
+use Prim.Native.Nat.{_≤_, _-_}
+use mathlib.Core.Path.{_≡_}
+use mathlib.Core.List.{map}
+use borrow.Author.Needs.{needs}
+use lib.ListN.{length, take}
+use Rattle.server.specs.Lists.{numbers}
+use Rattle.server.specs.Layout.{connectionIn}
+use Rattle.rows.proofs.Reading.{fill-more, connections-read}
+use Rattle.rows.proofs.read_connections.Statement.{statement}
+use Rattle.rows.proofs.read_connections.Tie as tie
+
+abbrev Inv-loop : tie.InvT-loop
+Inv-loop table connections₀ i₀ connections i = (i ≤ 16) × (length connections ≡ 16) × (take i connections ≡ map (connectionIn 16 table) (numbers 0 i))
+
+abbrev μ-loop : tie.MeasureT-loop
+μ-loop table connections₀ i₀ connections i = 16 - i
+
+loop-holds : tie.Need-loop-holds Inv-loop μ-loop
+loop-holds c = search needs
+
+add-t6 : tie.Need-add-t6 Inv-loop μ-loop
+add-t6 c = search needs
+
+shared-slice-read-t8 : tie.Need-shared-slice-read-t8 Inv-loop μ-loop
+shared-slice-read-t8 c = search needs
+
+add-t9 : tie.Need-add-t9 Inv-loop μ-loop
+add-t9 c = search needs
+
+shared-slice-read-t11 : tie.Need-shared-slice-read-t11 Inv-loop μ-loop
+shared-slice-read-t11 c = search needs
+
+add-t13 : tie.Need-add-t13 Inv-loop μ-loop
+add-t13 c = search needs
+
+shared-slice-read-t15 : tie.Need-shared-slice-read-t15 Inv-loop μ-loop
+shared-slice-read-t15 c = search needs
+
+mul-connections : tie.Need-mul-connections Inv-loop μ-loop
+mul-connections c = search needs
+
+array-set-from-connections : tie.Need-array-set-from-connections Inv-loop μ-loop
+array-set-from-connections c = search needs
+
+add-i : tie.Need-add-i Inv-loop μ-loop
+add-i c = search needs
+
+loop-less : tie.Need-loop-less Inv-loop μ-loop
+loop-less c = search needs
+
+loop-again : tie.Need-loop-again Inv-loop μ-loop
+loop-again c = search (needs, fill-more)
+
+returns : tie.Need-returns Inv-loop μ-loop
+returns c = search (needs, connections-read)
+
+pub read-connections-spec : {M : Type 1} → statement M
+read-connections-spec =
+    tie.close
+    (tie.spec
+    Inv-loop
+    μ-loop
+    loop-holds
+    add-t6
+    shared-slice-read-t8
+    add-t9
+    shared-slice-read-t11
+    add-t13
+    shared-slice-read-t15
+    mul-connections
+    array-set-from-connections
+    add-i
+    loop-less
+    loop-again
+    returns)

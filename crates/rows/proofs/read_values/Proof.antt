@@ -1,0 +1,30 @@
+-- `rows::read_values` meets its contract: each part is read by itself. Assumes nothing.
+use borrow.Author.Needs.{needs}
+use Rattle.rows.proofs.Reading.{values-read}
+use Rattle.rows.proofs.read_values.Statement.{statement}
+use Rattle.rows.proofs.read_values.Tie as tie
+
+number4-requires : tie.Need-number4-requires
+number4-requires c κs = search needs
+
+read-connections-requires : tie.Need-read-connections-requires
+read-connections-requires c κs = search needs
+
+read-able-requires : tie.Need-read-able-requires
+read-able-requires c κs = search needs
+
+read-rows-requires : tie.Need-read-rows-requires
+read-rows-requires c κs = search needs
+
+returns : tie.Need-returns
+returns c = search (needs, values-read)
+
+pub read-values-spec : {M : Type 1} → statement M
+read-values-spec =
+    tie.close
+    (tie.spec
+    number4-requires
+    read-connections-requires
+    read-able-requires
+    read-rows-requires
+    returns)

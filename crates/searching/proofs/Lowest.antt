@@ -1,0 +1,44 @@
+-- How a loop that looks for the lowest place where a test holds meets its definition: a search is the search among the entries
+-- from i on, with i added to the place that it finds. Assumes nothing.
+use Prim.Native.Nat.{ℕ, _+_, _<_, _≤_}
+use mathlib.Core.Path.{_≡_, refl, ap, sym, _∙_}
+use mathlib.Core.Bool.{Bool, true, false}
+use mathlib.Core.Option.{Option, none, some}
+use mathlib.Core.List.{List}
+use native.Mathlib.Nat.{add-zero, zero-add}
+use native.Mathlib.Numerals.{add-one}
+use native.Mathlib.Omega.{arith}
+use lib.ListN.{length, getD, drop, drop-of-length-le}
+use lib.Seq.{drop-cons}
+use Rattle.server.specs.Lists.{up, find}
+use Rattle.plans.specs.declared.Place.the-variants.{At, Nowhere}
+use Rattle.plans.specs.Values.{placed}
+
+-- a place counted from place i
+abbrev pub upBy : ℕ → Option ℕ → Option ℕ
+upBy i none = none
+upBy i (some k) = some (i + k)
+
+up-by-zero : (o : Option ℕ) → o ≡ upBy 0 o
+up-by-zero none = refl
+up-by-zero (some k) = ap some (sym (zero-add k))
+
+up-by-up : (i : ℕ) (o : Option ℕ) → upBy i (up o) ≡ upBy (i + 1) o
+up-by-up i none = refl
+up-by-up i (some k) = ap some (omega arith)
+
+module _ {A : Type 0} (p : A → Bool) (l : List A) where
+  pub lowest-start : find p l ≡ upBy 0 (find p (drop 0 l))
+  lowest-start = up-by-zero (find p l)
+
+  module _ (i : ℕ) (d : A) (e : find p l ≡ upBy i (find p (drop i l))) where
+    pub lowest-here : i < length l → p (getD l i d) ≡ true → At i ≡ placed (find p l)
+    lowest-here h t = let s : upBy i (find p (drop i l)) ≡ some i = rw (drop-cons l i d h, t, add-zero) in sym (ap placed (e ∙ s))
+
+    pub lowest-on : i < length l → p (getD l i d) ≡ false → find p l ≡ upBy (i + 1) (find p (drop (i + 1) l))
+    lowest-on h f =
+        let s : find p (drop i l) ≡ up (find p (drop (i + 1) l)) = rw (drop-cons l i d h, f, add-one) in
+        e ∙ ap (upBy i) s ∙ up-by-up i (find p (drop (i + 1) l))
+
+    pub lowest-none : length l ≤ i → Nowhere ≡ placed (find p l)
+    lowest-none h = let s : upBy i (find p (drop i l)) ≡ none = rw (drop-of-length-le l h) in sym (ap placed (e ∙ s))

@@ -1,0 +1,21 @@
+-- `searching::able_to` meets its contract: inside it reads the place, and beyond the last there is nobody. Assumes nothing.
+use native.Mathlib.Omega.{arith}
+use Rattle.searching.proofs.Greatest.{able-beyond}
+use borrow.Author.Needs.{needs}
+use Rattle.searching.proofs.able_to.Statement.{statement}
+use Rattle.searching.proofs.able_to.Tie as tie
+
+returns : tie.Need-returns
+returns c = able-beyond (c .before .args .t1) (c .before .args .q) (omega arith)
+
+mul-result : tie.Need-mul-result
+mul-result c = search needs
+
+array-read-result : tie.Need-array-read-result
+array-read-result c = search needs
+
+returns-2 : tie.Need-returns-2
+returns-2 c = search needs
+
+pub able-to-spec : {M : Type 1} → statement M
+able-to-spec = tie.close (tie.spec returns mul-result array-read-result returns-2)

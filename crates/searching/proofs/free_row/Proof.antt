@@ -1,0 +1,78 @@
+-- `searching::free_row` meets its contract. The invariant: the search among all rows is the search from row i on.
+-- Assumes nothing.
+use Prim.Native.Nat.{_≤_, _-_}
+use mathlib.Core.Path.{_≡_, sym, ap, _∙_}
+use mathlib.Core.Bool.{Bool, not}
+use native.Mathlib.Omega.{arith}
+use borrow.Author.Needs.{needs}
+use lib.ListN.{drop}
+use Rattle.server.specs.declared.JobRow.{JobRow}
+use Rattle.server.specs.Lists.{find}
+use Rattle.server.specs.Table.{noRow, live}
+use Rattle.plans.specs.Values.{freeRow}
+use Rattle.searching.proofs.Lowest.{upBy, lowest-start, lowest-here, lowest-on, lowest-none}
+use Rattle.searching.proofs.free_row.Statement.{statement}
+use Rattle.searching.proofs.free_row.Tie as tie
+
+abbrev free : JobRow → Bool
+free r = not (live r)
+
+abbrev Inv-loop : tie.InvT-loop
+Inv-loop rows i₀ i = (i ≤ 32) × (find free rows ≡ upBy i (find free (drop i rows)))
+
+abbrev μ-loop : tie.MeasureT-loop
+μ-loop rows i₀ i = 32 - i
+
+loop-holds : tie.Need-loop-holds Inv-loop μ-loop
+loop-holds c = (omega arith, lowest-start free (c .args .t1))
+
+mul-r : tie.Need-mul-r Inv-loop μ-loop
+mul-r c = search needs
+
+array-copy-out-r : tie.Need-array-copy-out-r Inv-loop μ-loop
+array-copy-out-r c = search needs
+
+is-live-requires : tie.Need-is-live-requires Inv-loop μ-loop
+is-live-requires c κs = search needs
+
+returns : tie.Need-returns Inv-loop μ-loop
+unfolding freeRow
+returns c =
+    let l = c .before .before .before .before .loop in
+    let a = c .before .before .before .before .before .args in
+    lowest-here free (a .t1) (l .i) noRow (l .inv .1) (omega arith) (sym (ap not (c .before .is-live .ensures)) ∙ c .if1 .taken)
+
+add-i : tie.Need-add-i Inv-loop μ-loop
+add-i c = search needs
+
+loop-less : tie.Need-loop-less Inv-loop μ-loop
+loop-less c = search needs
+
+loop-again : tie.Need-loop-again Inv-loop μ-loop
+loop-again c =
+    let l = c .before .before .before .before .loop in
+    let a = c .before .before .before .before .before .args in
+    (omega arith, lowest-on free (a .t1) (l .i) noRow (l .inv .1) (omega arith) (sym (ap not (c .before .is-live .ensures)) ∙ c .if1 .left))
+
+returns-2 : tie.Need-returns-2 Inv-loop μ-loop
+unfolding freeRow
+returns-2 c =
+    let l = c .before .loop in
+    let a = c .before .before .args in
+    lowest-none free (a .t1) (l .i) noRow (l .inv .1) (omega arith)
+
+pub free-row-spec : {M : Type 1} → statement M
+free-row-spec =
+    tie.close
+    (tie.spec
+    Inv-loop
+    μ-loop
+    loop-holds
+    mul-r
+    array-copy-out-r
+    is-live-requires
+    returns
+    add-i
+    loop-less
+    loop-again
+    returns-2)

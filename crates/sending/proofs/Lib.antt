@@ -1,0 +1,5 @@
+pub mod Laid
+pub mod Answers
+pub mod Forwarding
+pub mod Several
+pub mod Rendered

@@ -1,0 +1,1 @@
+// The table and its bytes: theorems about the layout. No code.

@@ -1,0 +1,16 @@
+-- `text_rules::unique_length` meets its contract: a unique is no longer than its place. Assumes nothing.
+use mathlib.Core.Path.{ap}
+use borrow.Author.Needs.{needs}
+use lib.ListN.{length}
+use Rattle.text_rules.proofs.Texts.{unique-within}
+use Rattle.text_rules.proofs.unique_length.Statement.{statement}
+use Rattle.text_rules.proofs.unique_length.Tie as tie
+
+unique-requires : tie.Need-unique-requires
+unique-requires c κs = search needs
+
+returns : tie.Need-returns
+returns c = (ap length (c .unique .ensures), unique-within _ _ _ (c .unique .ensures))
+
+pub unique-length-spec : {M : Type 1} → statement M
+unique-length-spec = tie.close (tie.spec unique-requires returns)
