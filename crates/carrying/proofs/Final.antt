@@ -1,11 +1,11 @@
 -- The end of an event on bytes: the texts of free places and the names of forgotten functions set to zero, and the settled numbers
 -- written: the bytes of the settled table. Assumes nothing.
-use Prim.Native.Nat.{ℕ, zero, suc, _+_, _*_, _<_}
+use Prim.Native.Nat.{ℕ, suc, _+_}
 use mathlib.Core.Path.{_≡_, refl, sym, ap, ap₂, _∙_}
 use mathlib.Core.Bool.{Bool, true, false, cond, not}
-use mathlib.Core.List.{List, [], _∷_, _++_, map}
+use mathlib.Core.List.{List, [], _∷_, map}
 use native.Mathlib.Omega.{arith}
-use lib.ListN.{length, getD, length-map}
+use lib.ListN.{length}
 use Rattle.octets.specs.Bytes.{Bytes}
 use Rattle.octets.specs.Put.{put}
 use Rattle.server.specs.declared.JobRow.{JobRow}
@@ -13,7 +13,7 @@ use Rattle.server.specs.Lists.{fit, numbers}
 use Rattle.server.specs.Table.{Function, Job, Table, noFunction, noJob, withRow, live}
 use Rattle.server.specs.Layout.{bytesOf}
 use Rattle.plans.specs.declared.Values.{Values}
-use Rattle.plans.specs.Values.{valuesOf, rowsOf, ablesOf}
+use Rattle.plans.specs.Values.{valuesOf}
 use Rattle.plans.specs.Settling.{settledValues, wantedIn, wantedMarks}
 use Rattle.plans.specs.Plans.{rowed, rowedAll, ableAll, finalTable}
 use Rattle.rows.specs.Columns.{numberBytes, connectionBytes}

@@ -1,17 +1,17 @@
 -- Laws of byte strings: how a loop that walks a string from the front meets its definition, and what the tests say.
 -- Assumes nothing.
 use mathlib.Core.Path.{_≡_, refl, ap, ap₂, _∙_, sym}
-use mathlib.Core.Bool.{Bool, true, false, cond, _&&_, not}
-use mathlib.Core.List.{List, [], _∷_, _++_}
-use Prim.Native.Nat.{ℕ, zero, suc, _+_, _-_, _*_, _/_, _%_, _^_, _<_, _≤_, zero-le, suc-le-suc}
+use mathlib.Core.Bool.{Bool, true, false, cond, _&&_}
+use mathlib.Core.List.{[], _∷_, _++_}
+use Prim.Native.Nat.{ℕ, suc, _+_, _-_, _*_, _/_, _%_, _^_, _<_, _≤_, zero-le, suc-le-suc}
 use native.Mathlib.Nat.{not-suc-le-zero, le-of-suc-le-suc}
 use native.Mathlib.Numerals.{add-one}
 use native.Mathlib.Omega.{arith}
 use borrow.Author.Tests.{eq-eqb, ne-eqb, eqb-true, le-leb, lt-leb}
 use lib.ListN.{length, getD, take, drop, drop-of-length-le, length-drop}
 use lib.Seq.{drop-cons, take-all}
-use lib.Dec.{eqb, leb}
-use Rattle.octets.specs.Bytes.{Bytes, same, startsWith, firstZero, zeroFree, within, every, bigEndian, numberAt}
+use lib.Dec.{eqb}
+use Rattle.octets.specs.Bytes.{Bytes, same, startsWith, firstZero, within, every, bigEndian, numberAt}
 
 -- ---- a conjunction of tests
 

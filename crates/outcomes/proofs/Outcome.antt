@@ -1,6 +1,6 @@
 -- One walk through the server's definitions: what an event can come to, as a type of cases. Each case carries what the searches
 -- found, so that a theorem about all events is one clause for each case. Assumes nothing.
-use Prim.Native.Nat.{ℕ, zero, suc, _+_, _≤_, _<_}
+use Prim.Native.Nat.{ℕ, suc, _<_}
 use mathlib.Core.Path.{_≡_, refl}
 use mathlib.Core.Bool.{Bool, true, false}
 use mathlib.Core.Option.{Option, none, some}
@@ -9,11 +9,10 @@ use lib.ListN.{length}
 use lib.Dec.{ltb}
 use borrow.Author.Tests.{ltb-true}
 use Rattle.octets.specs.Bytes.{Bytes, same}
-use Rattle.server.specs.declared.Connection.{Connection}
 use Rattle.server.specs.Lists.{find, filter}
-use Rattle.server.specs.Table.{Function, Job, Table, connectionAt, functionAt, jobAt, setConnection, setFunction, setJob, withRow, withHolder, hasHandle, known, roomFor, best, freePlace, joined}
+use Rattle.server.specs.Table.{Table, connectionAt, functionAt, jobAt, setConnection, setFunction, setJob, withRow, withHolder, known, roomFor, best, freePlace, joined}
 use Rattle.server.specs.Asked.{Work, Asked, toOpen, toClose, reset, preSleep, echo, bad, canDo, cantDo, grab, submit, work, getStatus, option}
-use Rattle.server.specs.Events.{Send, plain, copy, assign, Decision, refuse, settle, opening, closing, ableTo, unable, canDoAt, cantDoAt, unableToAll, sleeping, grabAt, submittedBy, created, newJob, accepted, submitNew, submitTo, holdsHandle, hears, worked, listenersOf, workAt, flag, statusAt, exceptionsName, catching, optionIf, served, isOpening, admitted, decide}
+use Rattle.server.specs.Events.{Send, plain, copy, assign, Decision, refuse, settle, opening, closing, ableTo, unable, canDoAt, cantDoAt, unableToAll, sleeping, grabAt, submittedBy, created, newJob, accepted, submitNew, submitTo, holdsHandle, hears, worked, listenersOf, workAt, statusAt, exceptionsName, catching, optionIf, served, isOpening, admitted, decide}
 use Rattle.outcomes.proofs.Cases.{cond-cases}
 
 -- ---- what an event that is done changes and sends, before the table is settled

@@ -1,7 +1,7 @@
 -- What the readers and the writers answer, in document 01's numbers and values. 01: "When an answer is an enum, a definition
 -- gives this paper's number and values for each of its cases." Assumes nothing.
 use Prim.Native.Nat.{ℕ, zero, suc, _+_, _-_}
-use mathlib.Core.Bool.{Bool, true, false, cond, _&&_}
+use mathlib.Core.Bool.{cond, _&&_}
 use mathlib.Core.List.{List, [], _∷_}
 use lib.ListN.{length, getD, take, drop}
 use lib.Dec.{ltb, leb}

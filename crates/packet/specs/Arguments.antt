@@ -1,6 +1,6 @@
 -- Arguments in a packet's data, by the rules of its shape. 01: "Arguments are separated by one zero byte; the last runs to the
 -- end." Assumes nothing.
-use Prim.Native.Nat.{ℕ, zero, suc, _+_}
+use Prim.Native.Nat.{ℕ, _+_}
 use mathlib.Core.Bool.{Bool, true, false, cond, _&&_, _||_}
 use mathlib.Core.List.{List, [], _∷_, _++_}
 use lib.ListN.{length, getD, take, drop}

@@ -1,7 +1,7 @@
 -- The packet layout of document 01: for each type the arguments of its data, in order, and what each argument may be.
 -- Assumes nothing.
 use Prim.Native.Nat.{ℕ, _-_}
-use mathlib.Core.Bool.{Bool, true, false, not, cond, _||_}
+use mathlib.Core.Bool.{Bool, true, false, cond, _||_}
 use mathlib.Core.List.{List, [], _∷_, _++_}
 use lib.ListN.{length, getD, take, replicate}
 use lib.Dec.{eqb}

@@ -8,7 +8,6 @@ use lib.Dec.{ltb, eqb}
 use Rattle.octets.specs.Bytes.{Bytes, firstZero, numberAt}
 use Rattle.packet.specs.declared.Rule.{Rule}
 use Rattle.packet.specs.declared.Rule.the-variants.{Text, Digits, Flag, AnyText, Opaque, Absent}
-use Rattle.packet.specs.declared.Shape.{Shape}
 use Rattle.packet.specs.Layout.{rulesOf, separatorsOf}
 use Rattle.packet.specs.Packet.{Direction, Reading, refused, got, header}
 

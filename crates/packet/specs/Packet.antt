@@ -1,7 +1,7 @@
 -- A packet's bytes, read and written, for requests and for responses. 000, "Binary Packet"; 01, "Packet layout".
 -- Assumes nothing.
 use Prim.Native.Nat.{ℕ, zero, suc, _+_}
-use mathlib.Core.Bool.{Bool, true, false, not, cond}
+use mathlib.Core.Bool.{not, cond}
 use mathlib.Core.List.{List, [], _∷_, _++_}
 use lib.ListN.{length, take, drop, replicate}
 use lib.Dec.{ltb, eqb}

@@ -1,6 +1,6 @@
 -- Round trips of whole packets, for any direction and then for requests and for responses. Reading what was written gives the type
 -- and arguments that were written; writing what was read is not refused and gives the bytes that were read. Assumes nothing.
-use Prim.Native.Nat.{ℕ, _^_, _<_, _≤_}
+use Prim.Native.Nat.{ℕ, _<_, _≤_}
 use mathlib.Core.Path.{_≡_, ap, _∙_}
 use mathlib.Core.Bool.{true}
 use mathlib.Core.List.{List}
@@ -13,7 +13,7 @@ use Rattle.octets.proofs.Laying.{put-start}
 use Rattle.packet.specs.declared.Written.the-variants as WV
 use Rattle.packet.specs.Layout.{rulesOf, isOwn}
 use Rattle.packet.specs.Arguments.{fitAll, join, parts, split}
-use Rattle.packet.specs.Packet.{Direction, requests, responses, got, header, read, packet, writeRefusal}
+use Rattle.packet.specs.Packet.{Direction, requests, responses, got, read, packet, writeRefusal}
 use Rattle.packet.specs.Answers.{Writing, writing}
 use Rattle.packet_laws.proofs.Splitting.{shapes-plain, join-split, split-join}
 use Rattle.packet_laws.proofs.Packets.{Well, requests-well, responses-well, Laid, packet-laid, packet-again}

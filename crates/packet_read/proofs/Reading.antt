@@ -1,8 +1,8 @@
 -- Laws of reading: what each return of the readers answers, from what the code has found by then. Assumes nothing.
 use Prim.Native.Nat.{ℕ, zero, suc, _+_, _-_, _^_, _<_, _≤_, zero-le}
-use mathlib.Core.Path.{_≡_, refl, sym, ap, _∙_}
+use mathlib.Core.Path.{_≡_, refl, sym, _∙_}
 use mathlib.Core.Bool.{Bool, true, false, not, cond}
-use mathlib.Core.List.{List, [], _∷_}
+use mathlib.Core.List.{List, []}
 use native.Mathlib.Omega.{arith}
 use borrow.Author.Tests.{lt-ltb, le-ltb, le-leb, lt-leb, eq-eqb, ne-eqb, not-true, not-false, ltb-false, eqb-true}
 use lib.ListN.{length, getD, take, drop, length-drop, List·getD-eq-default}
@@ -18,8 +18,8 @@ use Rattle.packet.specs.declared.Header.the-variants as HV
 use Rattle.packet.specs.declared.Split as S
 use Rattle.packet.specs.declared.Split.the-variants as SV
 use Rattle.packet.specs.Layout.{isOwn, rulesOf}
-use Rattle.packet.specs.Arguments.{Parts, bad, parts, split, answered, endsOf}
-use Rattle.packet.specs.Packet.{Direction, Reading, refused, got, header, argued, body, read, requests, responses}
+use Rattle.packet.specs.Arguments.{Parts, bad, parts, split, answered}
+use Rattle.packet.specs.Packet.{Direction, header, argued, body, read}
 use Rattle.packet.specs.Answers.{answerOf, headed, headerOf, between, places, argumentAt}
 
 -- ---- the header

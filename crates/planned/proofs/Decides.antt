@@ -1,24 +1,22 @@
 -- A plan does what the server's definitions decide: the same number, the same packets in the same order, and the table that its
 -- numbers and texts make. Assumes nothing.
-use Prim.Native.Nat.{ℕ, zero, suc, _+_, _<_}
+use Prim.Native.Nat.{ℕ, suc, _+_}
 use mathlib.Core.Path.{_≡_, refl, ap, ap₂, sym, _∙_, subst}
-use mathlib.Core.Bool.{Bool, true, false, not, cond, _&&_}
+use mathlib.Core.Bool.{Bool, true, false, not, cond}
 use mathlib.Core.Option.{Option, none, some}
 use mathlib.Core.List.{List, [], _∷_, _++_, map}
 use lib.ListN.{length, getD, set, List·getD-map}
-use lib.Seq.{map-set-same, set-getD}
+use lib.Seq.{map-set-same}
 use lib.Dec.{ltb, eqb, eqb·suc-zero}
 use Rattle.octets.specs.Bytes.{Bytes, same}
-use Rattle.octets.proofs.Strings.{and-left, and-right, same-is}
+use Rattle.octets.proofs.Strings.{same-is}
 use Rattle.sets.specs.Sets.{insert, remove, members}
-use Rattle.server.specs.declared.Connection.{Connection}
 use Rattle.server.specs.declared.JobRow.{JobRow}
-use Rattle.server.specs.Lists.{find, filter, all}
-use Rattle.server.specs.Table.{Function, Job, Table, noRow, noJob, noFunction, closed, connectionAt, functionAt, jobAt, setConnection, setFunction, setJob, withRow, withTexts, withHolder, live, heldBy, hasHandle, known, roomFor, best, freePlace, joined}
-use Rattle.server.specs.Rules.{obeys, rowsHaveMeaning, rowHasMeaning, rowIsFree}
+use Rattle.server.specs.Lists.{find, filter}
+use Rattle.server.specs.Table.{Function, Job, Table, noRow, noJob, noFunction, closed, connectionAt, functionAt, jobAt, setConnection, setFunction, setJob, withRow, withTexts, withHolder, live, heldBy, known, roomFor, best, freePlace, joined}
+use Rattle.server.specs.Rules.{obeys}
 use Rattle.server.specs.Asked.{Work, tells, reports, ends, throws, Asked, toOpen, toClose, reset, preSleep, echo, bad, canDo, cantDo, grab, submit, work, getStatus, option}
-use Rattle.server.specs.Events.{Send, plain, copy, assign, Decision, refuse, noop, settle, opening, closing, leftBy, deafTo, unable, ableTo, named, canDoAt, cantDoAt, unableToAll, sleeping, grabAt, submittedBy, created, newJob, accepted, submitNew, submitTo, holdsHandle, hears, worked, listenersOf, workAt, flag, statusAt, exceptionsName, catching, optionIf, served, isOpening, admitted, decide}
-use Rattle.outcomes.proofs.Cases.{All2, cond-cases}
+use Rattle.server.specs.Events.{Send, plain, copy, Decision, refuse, noop, settle, opening, closing, leftBy, deafTo, unable, ableTo, named, canDoAt, cantDoAt, unableToAll, sleeping, grabAt, submittedBy, created, newJob, accepted, submitNew, submitTo, holdsHandle, hears, listenersOf, workAt, statusAt, exceptionsName, catching, optionIf, served, isOpening, admitted, decide}
 use Rattle.rules_kept.proofs.Rows.{clash}
 use Rattle.rules_kept.proofs.Going.{grabbed-live, joined-found, held-found}
 use Rattle.plans.specs.declared.Values as V′
@@ -27,9 +25,9 @@ use Rattle.plans.specs.declared.Change as C′
 use Rattle.plans.specs.declared.Change.the-variants as CV
 use Rattle.plans.specs.declared.Order as O′
 use Rattle.plans.specs.declared.Order.the-variants as OV
-use Rattle.plans.specs.Values.{rowsOf, ablesOf, valuesOf, freeRow, bestRow}
+use Rattle.plans.specs.Values.{rowsOf, ablesOf, valuesOf, freeRow}
 use Rattle.plans.specs.Settling.{droppedRows, toWakeIn, settledValues}
-use Rattle.plans.specs.Plans.{withConnection, withAble, withRows, putRow, rowIn, connectionIn, sleepingIn, leftRow, closedIn, openedIn, heard, refusal, done, planCanDo, planCantDo, planGrab, newRow, acceptedIn, planNew, planJoin, planSubmit, planWork, planStatus, planOption, planServed, planFor, changed, finalTable, ordered}
+use Rattle.plans.specs.Plans.{withAble, withRows, rowIn, sleepingIn, leftRow, closedIn, openedIn, heard, refusal, done, planCanDo, planCantDo, planGrab, newRow, acceptedIn, planNew, planJoin, planSubmit, planWork, planStatus, planOption, planServed, planFor, changed, finalTable, ordered}
 use Rattle.plans.proofs.Numbers.{free-values, best-values}
 use Rattle.planned.proofs.Settled.{SameJob, SameTexts, settled-plan, final-values, able-at}
 use Rattle.planned.proofs.Texts.{both-set, left-set, left-map, SameName, rowed-same, gone-same, live-same, own-texts, left-jobs}

@@ -1,17 +1,16 @@
 -- Which texts an event leaves alone: the table before it has, wherever a job is unfinished, the texts of the table after it.
 -- Assumes nothing.
 use Prim.Native.Nat.{ℕ, zero, suc}
-use mathlib.Core.Path.{_≡_, refl, ap, sym, _∙_, subst}
+use mathlib.Core.Path.{_≡_, refl, ap, sym, _∙_}
 use mathlib.Core.Bool.{Bool, true, false, cond}
 use mathlib.Core.List.{List, [], _∷_, map}
-use lib.ListN.{length, getD, set}
-use Rattle.octets.specs.Bytes.{Bytes}
+use lib.ListN.{getD, set}
 use Rattle.octets.proofs.Strings.{and-left, and-right}
 use Rattle.server.specs.declared.JobRow.{JobRow}
 use Rattle.server.specs.Lists.{all}
-use Rattle.server.specs.Table.{Function, Job, Table, noJob, noFunction, jobAt, functionAt, withRow, withTexts, withHolder, live, heldBy}
+use Rattle.server.specs.Table.{Function, Job, Table, noJob, withRow, withTexts, withHolder, live, heldBy}
 use Rattle.server.specs.Rules.{obeys}
-use Rattle.server.specs.Events.{leftBy, deafTo, unable}
+use Rattle.server.specs.Events.{leftBy, deafTo}
 use Rattle.outcomes.proofs.Cases.{All2}
 use Rattle.rules_kept.proofs.Rows.{clash}
 use Rattle.rules_kept.proofs.Sound.{rowMeans, free-none}

@@ -2,12 +2,12 @@
 -- to zero, so that nothing asked can depend on them. Assumes nothing.
 use Prim.Native.Nat.{ℕ}
 use mathlib.Core.Bool.{Bool, true, false}
-use mathlib.Core.List.{List, [], _∷_}
+use mathlib.Core.List.{[], _∷_}
 use lib.ListN.{length, getD}
 use Rattle.octets.specs.Bytes.{Bytes}
 use Rattle.packet.specs.Layout.{priorityOf, backgroundOf}
 use Rattle.packet.specs.Packet.{Reading, refused, got, read, requests}
-use Rattle.packet.specs.Opaque.{opaque, masked}
+use Rattle.packet.specs.Opaque.{masked}
 
 -- 01: "Events are open, close and one whole packet from a connection."
 pub data Event : Type 0 where

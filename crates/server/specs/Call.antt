@@ -1,17 +1,17 @@
 -- Each public call as one function of the lent bytes: number, length, output, table, workloads. 01, "What should be built" and
 -- "Refusal numbers". Assumes nothing.
-use Prim.Native.Nat.{ℕ, zero, suc, _+_, _*_}
-use mathlib.Core.Bool.{Bool, true, false, not, cond, _&&_, _||_}
-use mathlib.Core.List.{List, [], _∷_, _++_, map}
+use Prim.Native.Nat.{ℕ, _+_, _*_}
+use mathlib.Core.Bool.{Bool, not, cond, _&&_, _||_}
+use mathlib.Core.List.{List, map}
 use lib.ListN.{length, take, drop, replicate}
 use lib.Dec.{ltb}
 use Rattle.octets.specs.Bytes.{Bytes}
 use Rattle.octets.specs.Put.{put}
 use Rattle.server.specs.Lists.{concat, numbers}
-use Rattle.server.specs.Table.{Table, fresh}
+use Rattle.server.specs.Table.{fresh}
 use Rattle.server.specs.Rules.{obeys}
 use Rattle.server.specs.Asked.{Event}
-use Rattle.server.specs.Server.{Server, Sent, Answer, addressed, next, answer}
+use Rattle.server.specs.Server.{Server, Sent, addressed, next, answer}
 use Rattle.server.specs.Layout.{tableSize, tableOf, bytesOf, isImage}
 
 -- what a call answers and leaves

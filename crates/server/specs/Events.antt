@@ -1,18 +1,18 @@
 -- What each event does: its number, the packets to send and the next table. 01, "Refusal numbers" and "Jobs and the queue".
 -- Nothing here sees an opaque byte. Assumes nothing.
-use Prim.Native.Nat.{ℕ, zero, suc, _+_, _-_, _/_, _%_}
-use mathlib.Core.Bool.{Bool, true, false, not, cond, _&&_, _||_}
+use Prim.Native.Nat.{ℕ, suc, _+_, _-_, _/_, _%_}
+use mathlib.Core.Bool.{Bool, true, false, not, cond, _&&_}
 use mathlib.Core.Option.{Option, none, some}
 use mathlib.Core.List.{List, [], _∷_, _++_, map}
 use lib.ListN.{length, getD, set}
 use lib.Dec.{ltb, eqb}
 use Rattle.octets.specs.Bytes.{Bytes, same}
 use Rattle.handle.specs.Handle.{handle, lap}
-use Rattle.sets.specs.Sets.{has, insert, remove, isEmpty, members}
+use Rattle.sets.specs.Sets.{insert, remove, isEmpty, members}
 use Rattle.server.specs.declared.Connection.{Connection}
 use Rattle.server.specs.declared.JobRow.{JobRow}
 use Rattle.server.specs.Lists.{any, find, filter, mapFrom, numbers}
-use Rattle.server.specs.Table.{Function, Job, Table, closed, noFunction, noJob, connectionAt, functionAt, jobAt, setConnection, setFunction, setJob, withRow, withTexts, withListeners, inBackground, withHolder, live, queued, heldBy, hasHandle, known, roomFor, wanted, grabbable, best, freePlace, joined}
+use Rattle.server.specs.Table.{Function, Job, Table, closed, noFunction, noJob, connectionAt, functionAt, jobAt, setConnection, setFunction, setJob, withRow, withTexts, withListeners, inBackground, withHolder, queued, heldBy, hasHandle, known, roomFor, wanted, grabbable, best, freePlace, joined}
 use Rattle.server.specs.Asked.{Work, tells, reports, ends, throws, Asked, toOpen, toClose, reset, preSleep, echo, bad, canDo, cantDo, grab, submit, work, getStatus, option}
 
 -- ---- packets to send

@@ -1,14 +1,14 @@
 -- The table's bytes: where each field lies, table bytes to table, and table to bytes. docs/TABLE.md is the same in words.
 -- Numbers are little-endian. What grows with the number n of connections stands last. Assumes nothing.
-use Prim.Native.Nat.{ℕ, zero, suc, _+_, _-_, _*_, _/_, _%_}
-use mathlib.Core.Bool.{Bool, true, false, not, cond, _&&_}
+use Prim.Native.Nat.{ℕ, zero, suc, _+_, _*_, _/_, _%_}
+use mathlib.Core.Bool.{Bool, cond}
 use mathlib.Core.List.{List, [], _∷_, _++_, map}
-use lib.ListN.{length, getD, take, drop}
-use lib.Dec.{eqb, leb}
+use lib.ListN.{getD, take, drop}
+use lib.Dec.{eqb}
 use Rattle.octets.specs.Bytes.{Bytes, same, firstZero}
 use Rattle.server.specs.declared.Connection.{Connection}
 use Rattle.server.specs.declared.JobRow.{JobRow}
-use Rattle.server.specs.Lists.{fit, concat, numbers}
+use Rattle.server.specs.Lists.{fit, numbers}
 use Rattle.server.specs.Table.{Function, Job, Table}
 
 -- ---- one field

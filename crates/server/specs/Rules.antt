@@ -2,15 +2,14 @@
 use Prim.Native.Nat.{ℕ, zero, suc, _+_, _^_}
 use mathlib.Core.Bool.{Bool, true, false, not, cond, _&&_, _||_}
 use mathlib.Core.List.{List, [], _∷_}
-use lib.ListN.{length, getD}
+use lib.ListN.{length}
 use lib.Dec.{leb, ltb, eqb}
 use Rattle.octets.specs.Bytes.{Bytes, same, zeroFree, within}
 use Rattle.packet.specs.Arguments.{digits}
 use Rattle.sets.specs.Sets.{has, isEmpty}
 use Rattle.server.specs.declared.Connection.{Connection}
-use Rattle.server.specs.declared.JobRow.{JobRow}
-use Rattle.server.specs.Lists.{any, all, pairwise, mapFrom, numbers}
-use Rattle.server.specs.Table.{Function, Job, Table, noFunction, noJob, closed, connectionAt, functionAt, live, queued, wanted, grabbable}
+use Rattle.server.specs.Lists.{any, all, pairwise, numbers}
+use Rattle.server.specs.Table.{Function, Job, Table, connectionAt, functionAt, live, queued, wanted, grabbable}
 
 -- "if the first, then the second"
 abbrev pub implies : Bool → Bool → Bool

@@ -1,8 +1,8 @@
 -- The server over histories of events: tables, workloads, and the packets as they are sent. Assumes nothing.
-use Prim.Native.Nat.{ℕ, zero, suc}
-use mathlib.Core.Bool.{Bool, true, false, cond}
+use Prim.Native.Nat.{ℕ}
+use mathlib.Core.Bool.{Bool, cond}
 use mathlib.Core.List.{List, [], _∷_, _++_, map}
-use lib.ListN.{length, drop, getD, replicate}
+use lib.ListN.{drop, getD, replicate}
 use lib.Dec.{eqb}
 use Rattle.octets.specs.Bytes.{Bytes}
 use Rattle.handle.specs.Handle.{handle, lap}
@@ -10,8 +10,8 @@ use Rattle.packet.specs.Arguments.{join}
 use Rattle.packet.specs.Packet.{packet, requests, responses}
 use Rattle.packet.specs.Opaque.{visible, opaque}
 use Rattle.server.specs.declared.JobRow.{JobRow}
-use Rattle.server.specs.Lists.{fit, concat}
-use Rattle.server.specs.Table.{Function, Job, Table, fresh, functionAt, jobAt, live}
+use Rattle.server.specs.Lists.{fit}
+use Rattle.server.specs.Table.{Job, Table, fresh, functionAt, jobAt, live}
 use Rattle.server.specs.Asked.{Event, opens, closes, sends, connectionOf, asked}
 use Rattle.server.specs.Events.{Send, plain, copy, assign, Decision, decide}
 

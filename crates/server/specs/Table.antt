@@ -1,14 +1,14 @@
 -- The table: connections, known functions and unfinished jobs, and what can be read off it. 01, "Jobs and the queue".
 -- The number of connections is the length of their list: 16 only where the product is put together. Assumes nothing.
-use Prim.Native.Nat.{ℕ, zero, suc, _+_, _-_, _*_, max}
+use Prim.Native.Nat.{ℕ, suc, _+_, _-_, _*_, max}
 use mathlib.Core.Bool.{Bool, true, false, not, cond, _&&_, _||_}
 use mathlib.Core.Option.{Option, none, some}
 use mathlib.Core.List.{List, [], _∷_, map}
-use lib.ListN.{length, getD, set, replicate}
-use lib.Dec.{leb, eqb}
+use lib.ListN.{getD, set, replicate}
+use lib.Dec.{eqb}
 use Rattle.octets.specs.Bytes.{Bytes, same}
 use Rattle.handle.specs.Handle.{handle, lap}
-use Rattle.sets.specs.Sets.{has, insert, remove, isEmpty}
+use Rattle.sets.specs.Sets.{has, isEmpty}
 use Rattle.server.specs.declared.Connection.{Connection}
 use Rattle.server.specs.declared.JobRow.{JobRow}
 use Rattle.server.specs.Lists.{any, find}

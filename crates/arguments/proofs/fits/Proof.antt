@@ -1,5 +1,4 @@
 -- `arguments::fits` meets its contract: by the cases of the rule, each test is that of the definition. Assumes nothing.
-use mathlib.Core.Path.{_≡_, sym, _∙_}
 use Rattle.packet.specs.Arguments.{fits}
 use borrow.Author.Needs.{needs}
 use Rattle.arguments.proofs.fits.Statement.{statement}

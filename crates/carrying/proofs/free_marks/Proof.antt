@@ -1,15 +1,12 @@
 -- `carrying::free_marks` meets its contract. The invariant: the first i marks are made. Assumes nothing.
 use Prim.Native.Nat.{_≤_, _-_}
-use mathlib.Core.Path.{_≡_, refl, sym, ap, _∙_}
-use mathlib.Core.Bool.{not, false, true, _&&_, Bool·not-not}
+use mathlib.Core.Path.{_≡_, refl, sym, _∙_}
+use mathlib.Core.Bool.{not, true, Bool·not-not}
 use mathlib.Core.List.{map}
 use native.Mathlib.Omega.{arith}
-use native.Mathlib.Numerals.{add-one}
 use borrow.Author.Needs.{needs}
 use lib.ListN.{length, take, length-set, length-map, List·getD-map}
-use lib.Dec.{eqb}
-use Rattle.server.specs.declared.JobRow.{JobRow}
-use Rattle.server.specs.Table.{noRow, live, heldBy}
+use Rattle.server.specs.Table.{noRow, live}
 use Rattle.settling.proofs.Turns.{fill-turn, fill-end}
 use Rattle.carrying.proofs.free_marks.Statement.{statement}
 use Rattle.carrying.proofs.free_marks.Tie as tie

@@ -1,5 +1,5 @@
 -- `leaving::left_row` meets its contract: the holder returns the job, anybody else only stops listening. Assumes nothing.
-use mathlib.Core.Path.{sym, _∙_}
+use mathlib.Core.Path.{_∙_}
 use native.Mathlib.Numerals.{add-one}
 use borrow.Author.Needs.{needs}
 use Rattle.leaving.proofs.left_row.Statement.{statement}

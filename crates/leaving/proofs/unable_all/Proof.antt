@@ -1,5 +1,5 @@
 -- `leaving::unable_all` meets its contract. The invariant: the first i sets are without the connection. Assumes nothing.
-use Prim.Native.Nat.{ℕ, _≤_, _-_}
+use Prim.Native.Nat.{_≤_, _-_}
 use mathlib.Core.Path.{_≡_, refl, sym, _∙_}
 use mathlib.Core.List.{map}
 use native.Mathlib.Omega.{arith}
