@@ -1,38 +1,14 @@
--- Document 01, "Edges to try": each edge marked (P), and what the right server answers where one makes an error "that looks
--- reasonable", is a row of one table, and one theorem says that every row holds. Assumes nothing.
-use Prim.Native.Nat.{ℕ, zero, suc, _+_}
-use mathlib.Core.Bool.{Bool, true, false, _&&_}
+-- Document 01, "Edges to try": each edge marked (P) is a row of one table, and one theorem says that every row holds. What the right
+-- server answers where one makes an error "that looks reasonable" stands beside the definitions, in server/proofs/. Assumes nothing.
+use Prim.Native.Nat.{ℕ, zero, suc}
+use mathlib.Core.Bool.{Bool, true, _&&_}
 use mathlib.Core.List.{List, [], _∷_, _++_}
-use lib.ListN.{length, replicate}
-use lib.Dec.{T, eqb}
-use Rattle.octets.specs.Bytes.{Bytes, same}
-use Rattle.server.specs.Asked.{Event, opens, closes, sends}
-use Rattle.edges.proofs.Histories.{request, response, numbersOf, packetsOf}
-
--- a history, the number of each of its events, and the packets that its last event sends
-pub record Edge : Type 0 where
-  pub history : List Event
-  pub numbers : List ℕ
-  pub packets : List Bytes
-
-abbrev edge : List Event → List ℕ → List Bytes → Edge
-edge h ns ps = record { history = h; numbers = ns; packets = ps }
-
-abbrev pub sameAll : List Bytes → List Bytes → Bool
-unfolding same
-sameAll [] [] = true
-sameAll [] (q ∷ qs) = false
-sameAll (p ∷ ps) [] = false
-sameAll (p ∷ ps) (q ∷ qs) = same p q && sameAll ps qs
-
-abbrev lastOf : List (List Bytes) → List Bytes
-lastOf [] = []
-lastOf (x ∷ []) = x
-lastOf (x ∷ (y ∷ ys)) = lastOf (y ∷ ys)
-
-pub holds : Edge → Bool
-unfolding numbersOf packetsOf same
-holds e = same (numbersOf (e .history)) (e .numbers) && sameAll (lastOf (packetsOf (e .history))) (e .packets)
+use lib.ListN.{replicate}
+use lib.Dec.{T}
+use Rattle.octets.specs.Bytes.{Bytes}
+use Rattle.server.specs.Asked.{Event, opens, closes}
+use Rattle.server.proofs.Histories.{request, response}
+use Rattle.server.proofs.Edge.{Edge, edge, holds}
 
 pub allHold : List Edge → Bool
 unfolding holds
@@ -41,12 +17,9 @@ allHold (e ∷ es) = holds e && allHold es
 
 -- ---- words
 
--- `f`, `g`, `u`, `v`, `w`
+-- `f`, `u`, `v`, `w`
 abbrev f : Bytes
 f = 102 ∷ []
-
-abbrev g : Bytes
-g = 103 ∷ []
 
 abbrev u : Bytes
 u = 117 ∷ []
@@ -69,9 +42,6 @@ handleOf digit = 72 ∷ 58 ∷ 108 ∷ 97 ∷ 112 ∷ 58 ∷ digit ∷ []
 abbrev arguments′ : Bytes
 arguments′ = 97 ∷ 114 ∷ 103 ∷ 117 ∷ 109 ∷ 101 ∷ 110 ∷ 116 ∷ 115 ∷ []
 
-abbrev type′ : Bytes
-type′ = 116 ∷ 121 ∷ 112 ∷ 101 ∷ []
-
 abbrev jobs′ : Bytes
 jobs′ = 106 ∷ 111 ∷ 98 ∷ 115 ∷ []
 
@@ -82,21 +52,6 @@ handle′ = 104 ∷ 97 ∷ 110 ∷ 100 ∷ 108 ∷ 101 ∷ []
 abbrev times : ℕ → Event → List Event
 times zero e = []
 times (suc n) e = e ∷ times n e
-
--- worker 1 ends job 1, takes job 2, which has the same place, and sends another result for job 1
-abbrev lateResult : List Event
-unfolding request
-lateResult =
-    opens 0
-    ∷ opens 1
-    ∷ request 1 1 (f ∷ [])
-    ∷ request 0 7 (f ∷ [] ∷ w ∷ [])
-    ∷ request 1 9 []
-    ∷ request 1 13 (handleOf 49 ∷ v ∷ [])
-    ∷ request 0 7 (f ∷ [] ∷ w ∷ [])
-    ∷ request 1 9 []
-    ∷ request 1 13 (handleOf 49 ∷ v ∷ [])
-    ∷ []
 
 pub edges : List Edge
 unfolding request response
@@ -142,25 +97,6 @@ edges =
     ∷ edge (opens 0 ∷ request 0 7 (f ∷ u ∷ w ∷ []) ∷ (times 31 (request 0 7 (f ∷ [] ∷ w ∷ [])) ++ (request 0 7 (f ∷ v ∷ w ∷ []) ∷ request 0 7 (f ∷ u ∷ w ∷ []) ∷ [])))
     (replicate 33 0 ++ (12 ∷ 0 ∷ []))
     (response 0 8 (handleOf 49 ∷ []) ∷ [])
-    -- not "finding a job by its place, so that a late result meets the next tenant": no listener hears it, and the tenant stays
-    ∷ edge lateResult
-    (replicate 8 0 ++ (14 ∷ []))
-    (response 1 19 ((49 ∷ 52 ∷ []) ∷ handle′ ∷ []) ∷ [])
-    ∷ edge (lateResult ++ (request 1 13 (handleOf 50 ∷ w ∷ []) ∷ []))
-    (replicate 8 0 ++ (14 ∷ 0 ∷ []))
-    (response 0 13 (handleOf 50 ∷ w ∷ []) ∷ [])
-    -- not "joining on the unique alone": the same unique under another function makes a second job
-    ∷ edge (opens 3 ∷ request 3 7 (f ∷ u ∷ w ∷ []) ∷ request 3 7 (g ∷ u ∷ w ∷ []) ∷ [])
-    (replicate 3 0)
-    (response 3 8 (handleOf 50 ∷ []) ∷ [])
-    -- not "searching past the second zero byte for more separators": a workload with zero bytes stays whole
-    ∷ edge (opens 0 ∷ opens 1 ∷ request 1 1 (f ∷ []) ∷ request 0 7 (f ∷ u ∷ (0 ∷ 119 ∷ 0 ∷ 120 ∷ []) ∷ []) ∷ request 1 9 [] ∷ [])
-    (replicate 5 0)
-    (response 1 11 (handleOf 49 ∷ f ∷ (0 ∷ 119 ∷ 0 ∷ 120 ∷ []) ∷ []) ∷ [])
-    -- not "sending a listener two copies after a join": connections 0 and 2 listen, 0 joined its own job, and each gets one copy
-    ∷ edge (opens 0 ∷ opens 1 ∷ opens 2 ∷ request 1 1 (f ∷ []) ∷ request 0 7 (f ∷ u ∷ w ∷ []) ∷ request 2 7 (f ∷ u ∷ v ∷ []) ∷ request 0 21 (f ∷ u ∷ w ∷ []) ∷ request 1 9 [] ∷ request 1 28 (handleOf 49 ∷ v ∷ []) ∷ [])
-    (replicate 9 0)
-    (response 0 28 (handleOf 49 ∷ v ∷ []) ∷ response 2 28 (handleOf 49 ∷ v ∷ []) ∷ [])
     ∷ []
 
 pub edges-hold : T (allHold edges)

@@ -6,7 +6,7 @@ use Rattle.packet.specs.Packet.{packet}
 use Rattle.server.specs.Table.{fresh}
 use Rattle.server.specs.Asked.{Event, opens}
 use Rattle.server.specs.Server.{Server, Answer, addressed, start}
-use Rattle.edges.proofs.Histories.{text, request, response, answeredFrom}
+use Rattle.server.proofs.Histories.{text, request, response, answeredFrom}
 
 -- the last serial given out is 4,294,967,294
 pub nearlyUsedUp : Server

@@ -1,4 +1,3 @@
-pub mod Histories
 pub mod Replay
 pub mod Edges
 pub mod WrongServers

@@ -5,7 +5,7 @@ use mathlib.Core.List.{List, [], _∷_}
 use lib.ListN.{replicate}
 use Rattle.octets.specs.Bytes.{Bytes}
 use Rattle.server.specs.Asked.{Event, opens, closes, sends}
-use Rattle.edges.proofs.Histories.{request, response, numbersOf, packetsOf}
+use Rattle.server.proofs.Histories.{request, response, numbersOf, packetsOf}
 
 -- `reverse`, `test`, `tset`, `H:lap:1`
 pub reverse′ : Bytes

@@ -11,7 +11,7 @@ use Rattle.server.specs.Lists.{concat}
 use Rattle.server.specs.Asked.{Event}
 use Rattle.server.specs.Server.{Answer, addressed}
 use Rattle.server.specs.Replay.{frame, answerLines, noFrame}
-use Rattle.edges.proofs.Histories.{text, answered}
+use Rattle.server.proofs.Histories.{text, answered}
 
 -- ---- lines to lines
 

@@ -12,9 +12,9 @@ use Rattle.server.specs.Lists.{all, numbers}
 use Rattle.server.specs.Asked.{Event, connectionOf}
 use Rattle.server.specs.Server.{Answer, addressed}
 use Rattle.server.specs.Events.{errorTexts}
-use Rattle.edges.proofs.Histories.{response, answered}
+use Rattle.server.proofs.Histories.{response, answered}
 use Rattle.edges.proofs.Replay.{replay}
-use Rattle.edges.proofs.Edges.{sameAll}
+use Rattle.server.proofs.Edge.{sameAll}
 
 -- what one event is answered: its number, and the addressed packets
 pub record Said : Type 0 where

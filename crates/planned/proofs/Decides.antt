@@ -1,13 +1,13 @@
 -- A plan does what the server's definitions decide: the same number, the same packets in the same order, and the table that its
 -- numbers and texts make. Assumes nothing.
-use Prim.Native.Nat.{ℕ, suc, _+_}
+use Prim.Native.Nat.{ℕ, suc, _+_, _≤_}
 use mathlib.Core.Path.{_≡_, refl, ap, ap₂, sym, _∙_, subst}
 use mathlib.Core.Bool.{Bool, true, false, not, cond}
 use mathlib.Core.Option.{Option, none, some}
 use mathlib.Core.List.{List, [], _∷_, _++_, map}
 use lib.ListN.{length, getD, set, List·getD-map}
 use lib.Seq.{map-set-same}
-use lib.Dec.{ltb, eqb, eqb·suc-zero}
+use lib.Dec.{T, leb, ltb, eqb, leb→le, eqb·suc-zero}
 use Rattle.octets.specs.Bytes.{Bytes, same}
 use Rattle.octets.proofs.Strings.{same-is}
 use Rattle.sets.specs.Sets.{insert, remove, members}
@@ -16,7 +16,7 @@ use Rattle.server.specs.Lists.{find, filter}
 use Rattle.server.specs.Table.{Function, Job, Table, noRow, noJob, noFunction, closed, connectionAt, functionAt, jobAt, setConnection, setFunction, setJob, withRow, withTexts, withHolder, live, heldBy, known, roomFor, best, freePlace, joined}
 use Rattle.server.specs.Rules.{obeys}
 use Rattle.server.specs.Asked.{Work, tells, reports, ends, throws, Asked, toOpen, toClose, reset, preSleep, echo, bad, canDo, cantDo, grab, submit, work, getStatus, option}
-use Rattle.server.specs.Events.{Send, plain, copy, Decision, refuse, noop, settle, opening, closing, leftBy, deafTo, unable, ableTo, named, canDoAt, cantDoAt, unableToAll, sleeping, grabAt, submittedBy, created, newJob, accepted, submitNew, submitTo, holdsHandle, hears, listenersOf, workAt, statusAt, exceptionsName, catching, optionIf, served, isOpening, admitted, decide}
+use Rattle.server.specs.Events.{Send, plain, copy, Decision, refuse, noop, settle, opening, closing, leftBy, deafTo, unable, ableTo, named, canDoAt, cantDoAt, unableToAll, sleeping, grabAt, submittedBy, created, newJob, accepted, submitNew, submitTo, holdsHandle, listenersOf, workAt, statusAt, exceptionsName, catching, optionIf, served, isOpening, admitted, decide}
 use Rattle.rules_kept.proofs.Rows.{clash}
 use Rattle.rules_kept.proofs.Going.{grabbed-live, joined-found, held-found}
 use Rattle.plans.specs.declared.Values as V′
@@ -42,23 +42,28 @@ pub record Words : Type 0 where
   pub kind : ℕ
   pub job : Bytes
 
-abbrev silent : Words
-silent = record { first = []; second = []; third = []; kind = 0; job = [] }
+-- what a worker may say with these words: the texts of a status are the second and the third
+pub data Says (w : Words) : Work → Bytes → Bytes → Type 0 where
+  that-tells : (n d : Bytes) → Says w tells n d
+  that-reports : Says w reports (w .second) (w .third)
+  that-ends : (n d : Bytes) → Says w ends n d
+  that-throws : (n d : Bytes) → Says w throws n d
 
-abbrev pub wordsOf : Asked → Words
-wordsOf toOpen = silent
-wordsOf toClose = silent
-wordsOf reset = silent
-wordsOf preSleep = silent
-wordsOf echo = silent
-wordsOf (bad n) = silent
-wordsOf (canDo f) = record { first = f; second = []; third = []; kind = 0; job = [] }
-wordsOf (cantDo f) = silent
-wordsOf (grab uniq) = silent
-wordsOf (submit priority background f u size) = record { first = f; second = u; third = []; kind = 0; job = [] }
-wordsOf (work how kind h n d) = record { first = []; second = n; third = d; kind = kind; job = [] }
-wordsOf (getStatus h) = record { first = []; second = []; third = []; kind = 0; job = h }
-wordsOf (option name) = silent
+-- what may be asked with these words: where a plan uses a word, the request has it; a refusal has a number of document 01
+pub data Suits (w : Words) : Asked → Type 0 where
+  for-open : Suits w toOpen
+  for-close : Suits w toClose
+  for-reset : Suits w reset
+  for-sleep : Suits w preSleep
+  for-echo : Suits w echo
+  for-bad : (n : ℕ) → 1 ≤ n → n ≤ 15 → Suits w (bad n)
+  for-can : Suits w (canDo (w .first))
+  for-cannot : (f : Bytes) → Suits w (cantDo f)
+  for-grab : (uniq : Bool) → Suits w (grab uniq)
+  for-submit : (priority : ℕ) (background : Bool) (size : ℕ) → Suits w (submit priority background (w .first) (w .second) size)
+  for-work : {how : Work} {n d : Bytes} (h : Bytes) → Says w how n d → Suits w (work how (w .kind) h n d)
+  for-status : Suits w (getStatus (w .job))
+  for-option : (name : Bytes) → Suits w (option name)
 
 -- ---- what a plan comes to
 
@@ -72,9 +77,9 @@ carried w c t p =
       table = finalTable (p .values) (changed (p .change) (w .first) (w .second) (w .third) t);
     }
 
--- carried out, the table has the settled numbers
+-- a refusal has a number of document 01; carried out, the table has the settled numbers
 pub data Planned (w : Words) (c : ℕ) (t : Table) : Plan → Decision → Type 0 where
-  refused : (n : ℕ) → Planned w c t (refusal n (valuesOf t)) (refuse c n t)
+  refused : (n : ℕ) → 1 ≤ n → n ≤ 15 → Planned w c t (refusal n (valuesOf t)) (refuse c n t)
   carries : (v : V′.Values) (change : C′.Change) (order : O′.Order)
       → valuesOf (finalTable v (changed change (w .first) (w .second) (w .third) t)) ≡ settledValues v
       → Planned w c t (done v change order) (carried w c t (done v change order))
@@ -96,9 +101,12 @@ by-parts w c t u ss v change order e same o =
 
 -- ---- each event
 
-module _ (c : ℕ) (t : Table) (ok : obeys t ≡ true) where
+module _ (w : Words) (c : ℕ) (t : Table) (ok : obeys t ≡ true) where
   texts : SameTexts t t
   texts = own-texts t ok
+
+  refuses : (n : ℕ) → T (leb 1 n) → T (leb n 15) → Planned w c t (refusal n (valuesOf t)) (refuse c n t)
+  refuses n l m = refused n (leb→le 1 n l) (leb→le n 15 m)
 
   row-is : (p : ℕ) → getD (rowsOf t) p noRow ≡ jobAt t p .row
   row-is p = List·getD-map (λ (j : Job). j .row) (t .jobs) p noJob
@@ -106,20 +114,20 @@ module _ (c : ℕ) (t : Table) (ok : obeys t ≡ true) where
   able-is : (q : ℕ) → getD (ablesOf t) q 0 ≡ functionAt t q .able
   able-is q = sym (able-at (t .functions) q)
 
-  p-canDo : (f : Bytes) (o : Option ℕ) → Planned (wordsOf (canDo f)) c t (planCanDo o c (valuesOf t)) (canDoAt o c f t)
+  p-canDo : (o : Option ℕ) → Planned w c t (planCanDo o c (valuesOf t)) (canDoAt o c (w .first) t)
   unfolding planCanDo canDoAt changed ordered valuesOf
-  p-canDo f none = refused 11
-  p-canDo f (some q) =
-      by-parts (wordsOf (canDo f)) c t (setFunction t q (ableTo c f (functionAt t q))) [] _ (CV.Name q) OV.Nothing
-      (ap (λ (l : List ℕ). withAble l (valuesOf t)) (map-set (λ (x : Function). x .able) (t .functions) q (ableTo c f (functionAt t q)) ∙ ap (λ (s : ℕ). set (ablesOf t) q (insert s c)) (sym (able-is q))))
+  p-canDo none = refuses 11 tt tt
+  p-canDo (some q) =
+      by-parts w c t (setFunction t q (ableTo c (w .first) (functionAt t q))) [] _ (CV.Name q) OV.Nothing
+      (ap (λ (l : List ℕ). withAble l (valuesOf t)) (map-set (λ (x : Function). x .able) (t .functions) q (ableTo c (w .first) (functionAt t q)) ∙ ap (λ (s : ℕ). set (ablesOf t) q (insert s c)) (sym (able-is q))))
       (record { functions = both-set SameName q _ _ refl (texts .functions); jobs = texts .jobs })
       refl
 
-  p-cantDo : (f : Bytes) (o : Option ℕ) → Planned (wordsOf (cantDo f)) c t (planCantDo o c (valuesOf t)) (cantDoAt o c t)
+  p-cantDo : (o : Option ℕ) → Planned w c t (planCantDo o c (valuesOf t)) (cantDoAt o c t)
   unfolding planCantDo cantDoAt changed ordered valuesOf
-  p-cantDo f none = by-parts (wordsOf (cantDo f)) c t t [] _ CV.Nothing OV.Nothing refl texts refl
-  p-cantDo f (some q) =
-      by-parts (wordsOf (cantDo f)) c t (setFunction t q (unable c (functionAt t q))) [] _ CV.Nothing OV.Nothing
+  p-cantDo none = by-parts w c t t [] _ CV.Nothing OV.Nothing refl texts refl
+  p-cantDo (some q) =
+      by-parts w c t (setFunction t q (unable c (functionAt t q))) [] _ CV.Nothing OV.Nothing
       (ap (λ (l : List ℕ). withAble l (valuesOf t)) (map-set (λ (x : Function). x .able) (t .functions) q (unable c (functionAt t q)) ∙ ap (λ (s : ℕ). set (ablesOf t) q (remove s c)) (sym (able-is q))))
       (record { functions = left-set SameName q noFunction _ refl (texts .functions); jobs = texts .jobs })
       refl
@@ -128,22 +136,22 @@ module _ (c : ℕ) (t : Table) (ok : obeys t ≡ true) where
   unables = map-map (λ (x : Function). x .able) (unable c) (λ x. remove (x .able) c) (λ x. refl) (t .functions)
       ∙ sym (map-map (λ (s : ℕ). remove s c) (λ (x : Function). x .able) (λ x. remove (x .able) c) (λ x. refl) (t .functions))
 
-  p-reset : Planned (wordsOf reset) c t (done (withAble (map (λ s. remove s c) (ablesOf t)) (valuesOf t)) CV.Nothing OV.Nothing) (settle [] (unableToAll c t))
+  p-reset : Planned w c t (done (withAble (map (λ s. remove s c) (ablesOf t)) (valuesOf t)) CV.Nothing OV.Nothing) (settle [] (unableToAll c t))
   unfolding unableToAll changed ordered valuesOf
   p-reset =
-      by-parts (wordsOf reset) c t (unableToAll c t) [] _ CV.Nothing OV.Nothing (ap (λ (l : List ℕ). withAble l (valuesOf t)) unables)
+      by-parts w c t (unableToAll c t) [] _ CV.Nothing OV.Nothing (ap (λ (l : List ℕ). withAble l (valuesOf t)) unables)
       (record { functions = left-map SameName (unable c) (λ a b e. e) (texts .functions); jobs = texts .jobs })
       refl
 
-  p-sleep : Planned (wordsOf preSleep) c t (done (sleepingIn true c (valuesOf t)) CV.Nothing OV.Nothing) (settle [] (sleeping true c t))
+  p-sleep : Planned w c t (done (sleepingIn true c (valuesOf t)) CV.Nothing OV.Nothing) (settle [] (sleeping true c t))
   unfolding sleeping changed ordered valuesOf
-  p-sleep = by-parts (wordsOf preSleep) c t (sleeping true c t) [] _ CV.Nothing OV.Nothing refl (record { functions = texts .functions; jobs = texts .jobs }) refl
+  p-sleep = by-parts w c t (sleeping true c t) [] _ CV.Nothing OV.Nothing refl (record { functions = texts .functions; jobs = texts .jobs }) refl
 
-  p-grab : (uniq : Bool) (o : Option ℕ) → best t c ≡ o → Planned (wordsOf (grab uniq)) c t (planGrab o uniq c (valuesOf t)) (grabAt o uniq c (sleeping false c t))
+  p-grab : (uniq : Bool) (o : Option ℕ) → best t c ≡ o → Planned w c t (planGrab o uniq c (valuesOf t)) (grabAt o uniq c (sleeping false c t))
   unfolding planGrab grabAt sleeping changed ordered valuesOf
-  p-grab uniq none e = by-parts (wordsOf (grab uniq)) c t (sleeping false c t) _ _ CV.Nothing OV.NoJob refl (record { functions = texts .functions; jobs = texts .jobs }) refl
+  p-grab uniq none e = by-parts w c t (sleeping false c t) _ _ CV.Nothing OV.NoJob refl (record { functions = texts .functions; jobs = texts .jobs }) refl
   p-grab uniq (some p) e =
-      by-parts (wordsOf (grab uniq)) c t (setJob (sleeping false c t) p (withRow (withHolder (suc c) (jobAt t p .row)) (jobAt t p))) _ _ CV.Nothing (OV.Assign uniq p)
+      by-parts w c t (setJob (sleeping false c t) p (withRow (withHolder (suc c) (jobAt t p .row)) (jobAt t p))) _ _ CV.Nothing (OV.Assign uniq p)
       (ap (λ (l : List JobRow). withRows l (sleepingIn false c (valuesOf t)))
       (map-set (λ (j : Job). j .row) (t .jobs) p (withRow (withHolder (suc c) (jobAt t p .row)) (jobAt t p)) ∙ ap (λ (r : JobRow). set (rowsOf t) p (withHolder (suc c) r)) (sym (row-is p))))
       (record { functions = texts .functions; jobs = left-set SameJob p noJob _ (rowed-same (jobAt t p) _ (grabbed-live t c p e)) (texts .jobs) })
@@ -153,18 +161,18 @@ module _ (c : ℕ) (t : Table) (ok : obeys t ≡ true) where
   submitted-live true r = refl
   submitted-live false r = refl
 
-  module _ (priority : ℕ) (background : Bool) (f u : Bytes) (size : ℕ) where
-    p-new : (q p : ℕ) → Planned (wordsOf (submit priority background f u size)) c t
+  module _ (priority : ℕ) (background : Bool) (size : ℕ) where
+    p-new : (q p : ℕ) → Planned w c t
         (done (acceptedIn p (newRow c priority background q size (suc (t .last))) (valuesOf t)) (CV.Job p q) (OV.Created (suc (t .last))))
-        (settle (created c (suc (t .last)) ∷ []) (accepted q f p (newJob c priority background q u size (suc (t .last))) t))
+        (settle (created c (suc (t .last)) ∷ []) (accepted q (w .first) p (newJob c priority background q (w .second) size (suc (t .last))) t))
     unfolding changed ordered valuesOf
     p-new q p =
-        by-parts (wordsOf (submit priority background f u size)) c t (accepted q f p (newJob c priority background q u size (suc (t .last))) t) _ _ (CV.Job p q) (OV.Created (suc (t .last)))
+        by-parts w c t (accepted q (w .first) p (newJob c priority background q (w .second) size (suc (t .last))) t) _ _ (CV.Job p q) (OV.Created (suc (t .last)))
         (λ i. record {
           last = suc (t .last);
           connections = t .connections;
-          able = map-set-same (λ (x : Function). x .able) (t .functions) q (named f (functionAt t q)) noFunction refl i;
-          rows = map-set (λ (j : Job). j .row) (t .jobs) p (newJob c priority background q u size (suc (t .last))) i;
+          able = map-set-same (λ (x : Function). x .able) (t .functions) q (named (w .first) (functionAt t q)) noFunction refl i;
+          rows = map-set (λ (j : Job). j .row) (t .jobs) p (newJob c priority background q (w .second) size (suc (t .last))) i;
         })
         (record {
           functions = both-set SameName q _ _ refl (texts .functions);
@@ -172,103 +180,96 @@ module _ (c : ℕ) (t : Table) (ok : obeys t ≡ true) where
         })
         refl
 
-    p-room : (o r : Option ℕ) → Planned (wordsOf (submit priority background f u size)) c t (planNew o r c priority background size (valuesOf t)) (submitNew o r c priority background f u size t)
+    p-room : (o r : Option ℕ) → Planned w c t (planNew o r c priority background size (valuesOf t)) (submitNew o r c priority background (w .first) (w .second) size t)
     unfolding planNew submitNew valuesOf
-    p-room none r = refused 11
-    p-room (some q) none = refused 12
+    p-room none r = refuses 11 tt tt
+    p-room (some q) none = refuses 12 tt tt
     p-room (some q) (some p) = go (ltb (t .last) 4294967295)
       where
-        go : (b : Bool) → Planned (wordsOf (submit priority background f u size)) c t
+        go : (b : Bool) → Planned w c t
             (cond b (done (acceptedIn p (newRow c priority background q size (suc (t .last))) (valuesOf t)) (CV.Job p q) (OV.Created (suc (t .last)))) (refusal 13 (valuesOf t)))
-            (cond b (settle (created c (suc (t .last)) ∷ []) (accepted q f p (newJob c priority background q u size (suc (t .last))) t)) (refuse c 13 t))
+            (cond b (settle (created c (suc (t .last)) ∷ []) (accepted q (w .first) p (newJob c priority background q (w .second) size (suc (t .last))) t)) (refuse c 13 t))
         go true = p-new q p
-        go false = refused 13
+        go false = refuses 13 tt tt
 
-    p-submit : (o : Option ℕ) → joined t f u ≡ o
-        → Planned (wordsOf (submit priority background f u size)) c t
-        (planSubmit o (roomFor (t .functions) f) (freeRow (rowsOf t)) c priority background size (valuesOf t))
-        (submitTo o c priority background f u size t)
+    p-submit : (o : Option ℕ) → joined t (w .first) (w .second) ≡ o
+        → Planned w c t
+        (planSubmit o (roomFor (t .functions) (w .first)) (freeRow (rowsOf t)) c priority background size (valuesOf t))
+        (submitTo o c priority background (w .first) (w .second) size t)
     unfolding planSubmit planJoin submitTo changed ordered valuesOf
-    p-submit none e = subst (λ (r : Option ℕ). Planned (wordsOf (submit priority background f u size)) c t (planNew (roomFor (t .functions) f) r c priority background size (valuesOf t)) (submitNew (roomFor (t .functions) f) (freePlace t) c priority background f u size t)) (free-values t) (p-room (roomFor (t .functions) f) (freePlace t))
+    p-submit none e = subst (λ (r : Option ℕ). Planned w c t (planNew (roomFor (t .functions) (w .first)) r c priority background size (valuesOf t)) (submitNew (roomFor (t .functions) (w .first)) (freePlace t) c priority background (w .first) (w .second) size t)) (free-values t) (p-room (roomFor (t .functions) (w .first)) (freePlace t))
     p-submit (some p) e =
-        by-parts (wordsOf (submit priority background f u size)) c t (setJob t p (withRow (submittedBy c background (jobAt t p .row)) (jobAt t p))) _ _ CV.Nothing (OV.Created (rowIn (valuesOf t) p .serial))
+        by-parts w c t (setJob t p (withRow (submittedBy c background (jobAt t p .row)) (jobAt t p))) _ _ CV.Nothing (OV.Created (rowIn (valuesOf t) p .serial))
         (ap (λ (l : List JobRow). withRows l (valuesOf t))
         (map-set (λ (j : Job). j .row) (t .jobs) p (withRow (submittedBy c background (jobAt t p .row)) (jobAt t p)) ∙ ap (λ (r : JobRow). set (rowsOf t) p (submittedBy c background r)) (sym (row-is p))))
-        (record { functions = texts .functions; jobs = left-set SameJob p noJob _ (rowed-same (jobAt t p) _ (submitted-live background (jobAt t p .row) ∙ joined-found t f u p e)) (texts .jobs) })
+        (record { functions = texts .functions; jobs = left-set SameJob p noJob _ (rowed-same (jobAt t p) _ (submitted-live background (jobAt t p .row) ∙ joined-found t (w .first) (w .second) p e)) (texts .jobs) })
         (ap (λ (r : JobRow). created c (r .serial) ∷ []) (row-is p))
 
   -- ---- worker packets
 
-  module _ (kind : ℕ) (h n d : Bytes) where
-    copies : (how : Work) (p : ℕ) → List Send
-    copies how p = map (λ l. copy l kind) (filter (hears how t) (listenersOf t (jobAt t p .row)))
+  -- all listeners hear
+  to-all : (p : ℕ) → map (λ l. copy l (w .kind)) (members (length (t .connections)) (getD (rowsOf t) p noRow .listeners)) ≡ map (λ l. copy l (w .kind)) (filter (λ l. true) (listenersOf t (jobAt t p .row)))
+  to-all p = ap (map (λ l. copy l (w .kind))) (ap (λ (r : JobRow). members (length (t .connections)) (r .listeners)) (row-is p) ∙ sym (filter-all (listenersOf t (jobAt t p .row))))
 
-    -- all listeners hear
-    to-all : (p : ℕ) → map (λ l. copy l kind) (members (length (t .connections)) (getD (rowsOf t) p noRow .listeners)) ≡ map (λ l. copy l kind) (filter (λ l. true) (listenersOf t (jobAt t p .row)))
-    to-all p = ap (map (λ l. copy l kind)) (ap (λ (r : JobRow). members (length (t .connections)) (r .listeners)) (row-is p) ∙ sym (filter-all (listenersOf t (jobAt t p .row))))
+  -- those with the option hear
+  to-some : (p : ℕ) → map (λ l. copy l (w .kind)) (members (length (t .connections)) (heard (t .connections) (getD (rowsOf t) p noRow .listeners)))
+      ≡ map (λ l. copy l (w .kind)) (filter (λ l. getD (t .connections) l closed .exceptions) (listenersOf t (jobAt t p .row)))
+  to-some p = ap (map (λ l. copy l (w .kind))) (ap (λ (r : JobRow). members (length (t .connections)) (heard (t .connections) (r .listeners))) (row-is p) ∙ sym (hears-option (t .connections) (jobAt t p .row .listeners)))
 
-    -- those with the option hear
-    to-some : (p : ℕ) → map (λ l. copy l kind) (members (length (t .connections)) (heard (t .connections) (getD (rowsOf t) p noRow .listeners)))
-        ≡ map (λ l. copy l kind) (filter (λ l. getD (t .connections) l closed .exceptions) (listenersOf t (jobAt t p .row)))
-    to-some p = ap (map (λ l. copy l kind)) (ap (λ (r : JobRow). members (length (t .connections)) (heard (t .connections) (r .listeners))) (row-is p) ∙ sym (hears-option (t .connections) (jobAt t p .row .listeners)))
+  kept-rows : (p : ℕ) (j : Job) → j .row ≡ jobAt t p .row → map (λ (k : Job). k .row) (set (t .jobs) p j) ≡ rowsOf t
+  kept-rows p j e = map-set-same (λ (k : Job). k .row) (t .jobs) p j noJob e
 
-    kept-rows : (p : ℕ) (j : Job) → j .row ≡ jobAt t p .row → map (λ (k : Job). k .row) (set (t .jobs) p j) ≡ rowsOf t
-    kept-rows p j e = map-set-same (λ (k : Job). k .row) (t .jobs) p j noJob e
+  ended-rows : (p : ℕ) → map (λ (k : Job). k .row) (set (t .jobs) p noJob) ≡ set (rowsOf t) p noRow
+  ended-rows p = map-set (λ (k : Job). k .row) (t .jobs) p noJob
 
-    ended-rows : (p : ℕ) → map (λ (k : Job). k .row) (set (t .jobs) p noJob) ≡ set (rowsOf t) p noRow
-    ended-rows p = map-set (λ (k : Job). k .row) (t .jobs) p noJob
-
-    p-work : (how : Work) (o : Option ℕ) → find (λ j. holdsHandle c h (j .row)) (t .jobs) ≡ o
-        → Planned (wordsOf (work how kind h n d)) c t (planWork o how (valuesOf t)) (workAt o how kind c n d t)
-    unfolding planWork workAt changed ordered valuesOf
-    p-work tells none e = refused 14
-    p-work reports none e = refused 14
-    p-work ends none e = refused 14
-    p-work throws none e = refused 14
-    p-work tells (some p) e =
-        by-parts (wordsOf (work tells kind h n d)) c t (setJob t p (jobAt t p)) _ _ CV.Nothing (OV.Copies (rowIn (valuesOf t) p .listeners))
-        (ap (λ (l : List JobRow). withRows l (valuesOf t)) (kept-rows p (jobAt t p) refl))
-        (record { functions = texts .functions; jobs = left-set SameJob p noJob _ (live-same (jobAt t p) (held-found t c h p e)) (texts .jobs) })
-        (to-all p)
-    p-work reports (some p) e =
-        by-parts (wordsOf (work reports kind h n d)) c t (setJob t p (withTexts n d (jobAt t p))) _ _ (CV.Texts p) (OV.Copies (rowIn (valuesOf t) p .listeners))
-        (ap (λ (l : List JobRow). withRows l (valuesOf t)) (kept-rows p (withTexts n d (jobAt t p)) refl))
-        (record { functions = texts .functions; jobs = both-set SameJob p _ _ (live-same (withTexts n d (jobAt t p)) (held-found t c h p e)) (texts .jobs) })
-        (to-all p)
-    p-work ends (some p) e =
-        by-parts (wordsOf (work ends kind h n d)) c t (setJob t p noJob) _ _ CV.Nothing (OV.Copies (rowIn (valuesOf t) p .listeners))
-        (ap (λ (l : List JobRow). withRows l (valuesOf t)) (ended-rows p))
-        (record { functions = texts .functions; jobs = left-set SameJob p noJob _ (gone-same (jobAt t p)) (texts .jobs) })
-        (to-all p)
-    p-work throws (some p) e =
-        by-parts (wordsOf (work throws kind h n d)) c t (setJob t p noJob) _ _ CV.Nothing (OV.Copies (heard (t .connections) (rowIn (valuesOf t) p .listeners)))
-        (ap (λ (l : List JobRow). withRows l (valuesOf t)) (ended-rows p))
-        (record { functions = texts .functions; jobs = left-set SameJob p noJob _ (gone-same (jobAt t p)) (texts .jobs) })
-        (to-some p)
+  p-work : {how : Work} {n d : Bytes} (h : Bytes) → Says w how n d → (o : Option ℕ) → find (λ j. holdsHandle c h (j .row)) (t .jobs) ≡ o
+      → Planned w c t (planWork o how (valuesOf t)) (workAt o how (w .kind) c n d t)
+  unfolding planWork workAt changed ordered valuesOf
+  p-work h s none e = refuses 14 tt tt
+  p-work h (that-tells n d) (some p) e =
+      by-parts w c t (setJob t p (jobAt t p)) _ _ CV.Nothing (OV.Copies (rowIn (valuesOf t) p .listeners))
+      (ap (λ (l : List JobRow). withRows l (valuesOf t)) (kept-rows p (jobAt t p) refl))
+      (record { functions = texts .functions; jobs = left-set SameJob p noJob _ (live-same (jobAt t p) (held-found t c h p e)) (texts .jobs) })
+      (to-all p)
+  p-work h that-reports (some p) e =
+      by-parts w c t (setJob t p (withTexts (w .second) (w .third) (jobAt t p))) _ _ (CV.Texts p) (OV.Copies (rowIn (valuesOf t) p .listeners))
+      (ap (λ (l : List JobRow). withRows l (valuesOf t)) (kept-rows p (withTexts (w .second) (w .third) (jobAt t p)) refl))
+      (record { functions = texts .functions; jobs = both-set SameJob p _ _ (live-same (withTexts (w .second) (w .third) (jobAt t p)) (held-found t c h p e)) (texts .jobs) })
+      (to-all p)
+  p-work h (that-ends n d) (some p) e =
+      by-parts w c t (setJob t p noJob) _ _ CV.Nothing (OV.Copies (rowIn (valuesOf t) p .listeners))
+      (ap (λ (l : List JobRow). withRows l (valuesOf t)) (ended-rows p))
+      (record { functions = texts .functions; jobs = left-set SameJob p noJob _ (gone-same (jobAt t p)) (texts .jobs) })
+      (to-all p)
+  p-work h (that-throws n d) (some p) e =
+      by-parts w c t (setJob t p noJob) _ _ CV.Nothing (OV.Copies (heard (t .connections) (rowIn (valuesOf t) p .listeners)))
+      (ap (λ (l : List JobRow). withRows l (valuesOf t)) (ended-rows p))
+      (record { functions = texts .functions; jobs = left-set SameJob p noJob _ (gone-same (jobAt t p)) (texts .jobs) })
+      (to-some p)
 
   -- ---- status, options, echoes
 
-  p-status : (h : Bytes) (o : Option ℕ) → Planned (wordsOf (getStatus h)) c t (planStatus o (valuesOf t)) (statusAt o c h t)
+  p-status : (o : Option ℕ) → Planned w c t (planStatus o (valuesOf t)) (statusAt o c (w .job) t)
   unfolding statusAt changed ordered
-  p-status h none = by-parts (wordsOf (getStatus h)) c t t _ _ CV.Nothing OV.Unknown refl texts refl
-  p-status h (some p) = by-parts (wordsOf (getStatus h)) c t t _ _ CV.Nothing (OV.Status p) refl texts refl
+  p-status none = by-parts w c t t _ _ CV.Nothing OV.Unknown refl texts refl
+  p-status (some p) = by-parts w c t t _ _ CV.Nothing (OV.Status p) refl texts refl
 
-  p-option : (name : Bytes) (b : Bool) → same name exceptionsName ≡ b → Planned (wordsOf (option name)) c t (planOption b c (valuesOf t)) (optionIf b c name t)
+  p-option : (name : Bytes) (b : Bool) → same name exceptionsName ≡ b → Planned w c t (planOption b c (valuesOf t)) (optionIf b c name t)
   unfolding optionIf changed ordered valuesOf
-  p-option name false e = refused 15
+  p-option name false e = refuses 15 tt tt
   p-option name true e =
-      by-parts (wordsOf (option name)) c t (setConnection t c (catching (connectionAt t c))) _ _ CV.Nothing OV.Optioned refl (record { functions = texts .functions; jobs = texts .jobs })
+      by-parts w c t (setConnection t c (catching (connectionAt t c))) _ _ CV.Nothing OV.Optioned refl (record { functions = texts .functions; jobs = texts .jobs })
       (ap (λ (b : Bytes). plain c 27 (b ∷ []) ∷ []) (sym (same-is name exceptionsName e)))
 
-  p-echo : Planned (wordsOf echo) c t (done (valuesOf t) CV.Nothing OV.Echo) (settle (copy c 17 ∷ []) t)
+  p-echo : Planned w c t (done (valuesOf t) CV.Nothing OV.Echo) (settle (copy c 17 ∷ []) t)
   unfolding changed ordered
-  p-echo = by-parts (wordsOf echo) c t t _ _ CV.Nothing OV.Echo refl texts refl
+  p-echo = by-parts w c t t _ _ CV.Nothing OV.Echo refl texts refl
 
   -- ---- open and close
 
-  p-open : (a : Asked) → Planned (wordsOf a) c t (done (openedIn c (valuesOf t)) CV.Nothing OV.Nothing) (settle [] (opening c t))
+  p-open : Planned w c t (done (openedIn c (valuesOf t)) CV.Nothing OV.Nothing) (settle [] (opening c t))
   unfolding opening changed ordered valuesOf
-  p-open a = by-parts (wordsOf a) c t (opening c t) _ _ CV.Nothing OV.Nothing refl (record { functions = texts .functions; jobs = texts .jobs }) refl
+  p-open = by-parts w c t (opening c t) _ _ CV.Nothing OV.Nothing refl (record { functions = texts .functions; jobs = texts .jobs }) refl
 
   left-row : (j : Job) → leftBy c j .row ≡ leftRow c (j .row)
   left-row j = go (heldBy c (j .row))
@@ -278,10 +279,10 @@ module _ (c : ℕ) (t : Table) (ok : obeys t ≡ true) where
       go true = refl
       go false = refl
 
-  p-close : Planned (wordsOf toClose) c t (done (closedIn c (valuesOf t)) (CV.Left c) OV.Nothing) (settle [] (closing c t))
+  p-close : Planned w c t (done (closedIn c (valuesOf t)) (CV.Left c) OV.Nothing) (settle [] (closing c t))
   unfolding closing changed ordered valuesOf
   p-close =
-      by-parts (wordsOf toClose) c t (closing c t) _ _ (CV.Left c) OV.Nothing
+      by-parts w c t (closing c t) _ _ (CV.Left c) OV.Nothing
       (λ i. record {
         last = t .last;
         connections = set (t .connections) c closed;
@@ -293,35 +294,35 @@ module _ (c : ℕ) (t : Table) (ok : obeys t ≡ true) where
 
   -- ---- every event
 
-  p-served : (a : Asked) → Planned (wordsOf a) c t (planServed c a t) (served c a t)
+  p-served : {a : Asked} → Suits w a → Planned w c t (planServed c a t) (served c a t)
   unfolding planServed served
-  p-served toOpen = refused 4
-  p-served toClose = p-close
-  p-served (bad n) = refused n
-  p-served (canDo f) = p-canDo f (roomFor (t .functions) f)
-  p-served (cantDo f) = p-cantDo f (known (t .functions) f)
-  p-served reset = p-reset
-  p-served preSleep = p-sleep
-  p-served (grab uniq) = subst (λ (o : Option ℕ). Planned (wordsOf (grab uniq)) c t (planGrab o uniq c (valuesOf t)) (grabAt (best t c) uniq c (sleeping false c t))) (best-values t c) (p-grab uniq (best t c) refl)
-  p-served (submit priority background f u size) = p-submit priority background f u size (joined t f u) refl
-  p-served (work how kind h n d) = p-work kind h n d how _ refl
-  p-served (getStatus h) = p-status h _
-  p-served (option name) = p-option name _ refl
-  p-served echo = p-echo
+  p-served for-open = refuses 4 tt tt
+  p-served for-close = p-close
+  p-served (for-bad n l m) = refused n l m
+  p-served for-can = p-canDo (roomFor (t .functions) (w .first))
+  p-served (for-cannot f) = p-cantDo (known (t .functions) f)
+  p-served for-reset = p-reset
+  p-served for-sleep = p-sleep
+  p-served (for-grab uniq) = subst (λ (o : Option ℕ). Planned w c t (planGrab o uniq c (valuesOf t)) (grabAt (best t c) uniq c (sleeping false c t))) (best-values t c) (p-grab uniq (best t c) refl)
+  p-served (for-submit priority background size) = p-submit priority background size (joined t (w .first) (w .second)) refl
+  p-served (for-work h s) = p-work h s _ refl
+  p-served for-status = p-status _
+  p-served (for-option name) = p-option name _ refl
+  p-served for-echo = p-echo
 
-  p-opening : (a : Asked) (b : Bool) → Planned (wordsOf a) c t (cond b (done (openedIn c (valuesOf t)) CV.Nothing OV.Nothing) (refusal 3 (valuesOf t))) (cond b (settle [] (opening c t)) (refuse c 3 t))
-  p-opening a true = p-open a
-  p-opening a false = refused 3
+  p-opening : (b : Bool) → Planned w c t (cond b (done (openedIn c (valuesOf t)) CV.Nothing OV.Nothing) (refusal 3 (valuesOf t))) (cond b (settle [] (opening c t)) (refuse c 3 t))
+  p-opening true = p-open
+  p-opening false = refuses 3 tt tt
 
-  p-admitted : (a : Asked) (b o : Bool) → Planned (wordsOf a) c t
+  p-admitted : {a : Asked} → Suits w a → (b o : Bool) → Planned w c t
       (cond b (cond o (planServed c a t) (cond (isOpening a) (done (openedIn c (valuesOf t)) CV.Nothing OV.Nothing) (refusal 3 (valuesOf t)))) (refusal 2 (valuesOf t)))
       (admitted b o c a t)
   unfolding admitted
-  p-admitted a false o = refused 2
-  p-admitted a true false = p-opening a (isOpening a)
-  p-admitted a true true = p-served a
+  p-admitted s false o = refuses 2 tt tt
+  p-admitted {a} s true false = p-opening (isOpening a)
+  p-admitted s true true = p-served s
 
-  -- the plan of every event does what the definitions decide
-  pub planned : (a : Asked) → Planned (wordsOf a) c t (planFor c a t) (decide c a t)
+  -- the plan of every event does what the definitions decide, with all words that suit what it asks
+  pub planned : {a : Asked} → Suits w a → Planned w c t (planFor c a t) (decide c a t)
   unfolding planFor decide
-  planned a = p-admitted a (ltb c (length (t .connections))) (connectionAt t c .opened)
+  planned s = p-admitted s (ltb c (length (t .connections))) (connectionAt t c .opened)

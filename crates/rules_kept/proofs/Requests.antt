@@ -133,7 +133,7 @@ module _ (kind : ℕ) (args : List Bytes) (small : length (join args) ≤ 1024) 
 
 -- ---- what an event asks
 
-good-reading : (s : Bytes) (r : Reading) → read requests s ≡ r → Good (fromReading r)
+pub good-reading : (s : Bytes) (r : Reading) → read requests s ≡ r → Good (fromReading r)
 good-reading s (refused n) e = tt
 good-reading s (got kind args) e =
     let g : Got requests s kind args = read-got requests s kind args e in

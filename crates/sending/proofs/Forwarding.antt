@@ -29,7 +29,7 @@ use Rattle.sending.specs.Messages.{Sendable, Forwards}
 -- ---- which packets may be forwarded
 
 -- the answer of reading is a type and where its arguments end
-read-answer : (r : Reading) (k : ℕ) (ends : Ends) → answerOf r ≡ RV.Packet k ends → (as′ : List Bytes) × (r ≡ got k as′) × (ends ≡ endsOf 12 as′)
+pub read-answer : (r : Reading) (k : ℕ) (ends : Ends) → answerOf r ≡ RV.Packet k ends → (as′ : List Bytes) × (r ≡ got k as′) × (ends ≡ endsOf 12 as′)
 unfolding answerOf
 read-answer (refused n) k ends e = let z : _≡_ {A = ℕ} 0 1 = cc in absurd (omega arith)
 read-answer (got j as′) k ends e =
@@ -48,7 +48,7 @@ unfolding requestShape
 below-served k true e o = ltb-true k 37 e
 below-served k false e o = let z : _≡_ {A = ℕ} 0 1 = cc (List·getD-eq-default served Foreign (ltb-false k 37 e)) in absurd (omega arith)
 
-served-below : (p : Bytes) (ends : Ends) (k : ℕ) → answerOf (read requests p) ≡ RV.Packet k ends → k < 37
+pub served-below : (p : Bytes) (ends : Ends) (k : ℕ) → answerOf (read requests p) ≡ RV.Packet k ends → k < 37
 served-below p ends k e =
     let r = read-answer (read requests p) k ends e in
     below-served k (ltb k 37) refl (read-got requests p k (r .0) (r .1) .own)

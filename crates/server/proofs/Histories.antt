@@ -1,10 +1,8 @@
 -- Histories to compute: how to write an event, and what a history answers. Assumes nothing.
-use Prim.Native.Nat.{ℕ, zero, suc, _+_}
+use Prim.Native.Nat.{ℕ}
 use Prim.Native.Char.{code}
 use Prim.Native.String.{String, [] as none′, _∷_ as _then_}
-use mathlib.Core.Bool.{Bool, true, false, _&&_}
-use mathlib.Core.List.{List, [], _∷_, _++_, map}
-use lib.ListN.{length, replicate}
+use mathlib.Core.List.{List, [], _∷_, map}
 use Rattle.octets.specs.Bytes.{Bytes, same, startsWith, firstZero, every}
 use Rattle.sets.specs.Sets.{has, insert, remove, members}
 use Rattle.handle.specs.Handle.{handle, decimal, decimalIn}
@@ -12,10 +10,10 @@ use Rattle.packet.specs.Layout.{rulesOf, requestShape, responseShape, priorityO
 use Rattle.packet.specs.Arguments.{fits, fitAll, join, split}
 use Rattle.packet.specs.Packet.{packet, header, body, read, requests, responses}
 use Rattle.packet.specs.Opaque.{hasZeros, past, hides, seen, visible, opaque, masked}
 use Rattle.server.specs.Table.{fresh, hasHandle, rank, best, freePlace, joined}
-use Rattle.server.specs.Asked.{Event, opens, closes, sends, requested, asked}
+use Rattle.server.specs.Asked.{Event, sends, requested, asked}
 use Rattle.server.specs.Events.{refuse, dropped, woken, toWake, forgot, settle, opening, closing, canDoAt, cantDoAt, unableToAll, sleeping, grabAt, submitNew, submitTo, holdsHandle, workAt, statusAt, optionIf, served, admitted, decide}
 use Rattle.server.specs.Server.{Server, Answer, Sent, addressed, shownBy, opaqueOf, render, decided, next, answer, start, after, answers}
 
 -- the bytes of a text
 unfoldable pub text : String → Bytes

@@ -1,0 +1,74 @@
+-- The packets of one unfinished job, from the bytes in which it lies: an assignment with its workload, and its status. Assumes nothing.
+use Prim.Native.Nat.{ℕ, _+_, _-_, _*_, _≤_, _<_}
+use mathlib.Core.Path.{_≡_, refl, ap, sym, _∙_, subst}
+use mathlib.Core.Bool.{Bool, true, not, cond}
+use mathlib.Core.List.{List, [], _∷_}
+use native.Mathlib.Omega.{arith}
+use lib.ListN.{length, getD, take, drop}
+use lib.Dec.{eqb}
+use Rattle.octets.specs.Bytes.{Bytes}
+use Rattle.packet.specs.Layout as L
+use Rattle.packet.specs.Arguments.{fits, join}
+use Rattle.server.specs.declared.JobRow.{JobRow}
+use Rattle.server.specs.Lists.{fit}
+use Rattle.server.specs.Table.{Function, Job, noRow, functionAt, jobAt, live}
+use Rattle.server.specs.Asked.{sends}
+use Rattle.server.specs.Layout.{tableOf, textAt}
+use Rattle.server.specs.Call.{isSound, serverIn}
+use Rattle.table_bytes.proofs.Fields.{length-fit}
+use Rattle.plans.specs.declared.Order.the-variants as OV
+use Rattle.plans.specs.Values.{rowsOf}
+use Rattle.plans.specs.Plans.{ordered}
+use Rattle.sending.specs.Messages.{message, assignArguments, statusArguments}
+use Rattle.sending.proofs.Rendered.{assign-rendered, status-rendered}
+use Rattle.answering.specs.Ordered.{bytesSent, orderBytes}
+use Rattle.answering.proofs.Jobs.{row-there, job-there, function-there, function-fits, unique-fits, numerator-fits, denominator-fits, job-together, workload-there}
+
+module _ (b : Bytes) (sound : isSound 16 b ≡ true) (rows : List JobRow) (same-rows : rows ≡ rowsOf (tableOf 16 b))
+    (p : ℕ) (inside : p < 32) (alive : live (jobAt (tableOf 16 b) p .row) ≡ true) where
+  abbrev held : Job
+  held = jobAt (tableOf 16 b) p
+
+  abbrev row : JobRow
+  row = getD rows p noRow
+
+  -- the texts and the workload as the code takes them from the bytes
+  module _ (w f u x : Bytes) (lent : 32768 ≤ length w) (ef : f ≡ textAt 32 b (548 + 32 * row .function)) (eu : u ≡ textAt 64 b (1060 + 64 * p))
+      (ex : x ≡ take (1024 * p + row .size - 1024 * p) (drop (1024 * p) w)) where
+    its-name : f ≡ functionAt (tableOf 16 b) (held .row .function) .name
+    its-name = ef ∙ sym (ap (λ (y : Function). y .name) (function-there b sound rows same-rows p inside alive))
+
+    its-unique : u ≡ held .unique
+    its-unique = eu ∙ sym (ap (λ (j : Job). j .unique) (job-there b sound rows same-rows p inside alive))
+
+    its-workload : x ≡ fit (held .row .size) (getD (serverIn 16 b w .workloads) p [])
+    its-workload =
+        let e : 1024 * p + row .size - 1024 * p ≡ row .size = omega arith in
+        ex ∙ rw e (workload-there b sound rows same-rows p inside alive w lent)
+
+    pub assign-fits : (fits L.function f ≡ true) × (fits L.unique u ≡ true) × (length f + length u + length x ≤ 1022)
+    assign-fits =
+        (rw its-name (function-fits b sound rows same-rows p inside alive),
+        rw its-unique (unique-fits b sound rows same-rows p inside alive),
+        rw (its-name, its-unique, its-workload, length-fit (held .row .size) (getD (serverIn 16 b w .workloads) p [])) (job-together b sound rows same-rows p inside alive))
+
+    pub assign-is : (c : ℕ) (uniq : Bool) → message c (cond uniq 31 11) (join (assignArguments uniq (row .serial) f u x)) ≡ orderBytes (OV.Assign uniq p) c 0 [] [] b w
+    unfolding orderBytes bytesSent ordered serverIn
+    assign-is c uniq =
+        assign-rendered (sends c []) (serverIn 16 b w) p (row .serial) f u x (ap (λ (r : JobRow). r .serial) (row-there b sound rows same-rows p inside alive)) its-name its-unique its-workload uniq c
+
+  module _ (n d : Bytes) (en : n ≡ textAt 10 b (3108 + 10 * p)) (ed : d ≡ textAt 10 b (3428 + 10 * p)) where
+    its-numerator : n ≡ held .numerator
+    its-numerator = en ∙ sym (ap (λ (j : Job). j .numerator) (job-there b sound rows same-rows p inside alive))
+
+    its-denominator : d ≡ held .denominator
+    its-denominator = ed ∙ sym (ap (λ (j : Job). j .denominator) (job-there b sound rows same-rows p inside alive))
+
+    pub status-fits : (fits L.number n ≡ true) × (fits L.number d ≡ true)
+    status-fits = (rw its-numerator (numerator-fits b sound rows same-rows p inside alive), rw its-denominator (denominator-fits b sound rows same-rows p inside alive))
+
+    pub status-is : (c : ℕ) (h : Bytes) → message c 20 (join (statusArguments h true (not (eqb (row .holder) 0)) n d)) ≡ orderBytes (OV.Status p) c 0 h [] b []
+    unfolding orderBytes bytesSent ordered
+    status-is c h =
+        rw (its-numerator, its-denominator, row-there b sound rows same-rows p inside alive)
+        (status-rendered (sends c []) (serverIn 16 b []) c h (held .numerator) (held .denominator) true (not (eqb (held .row .holder) 0)))

@@ -1,0 +1,100 @@
+-- Document 01, "Errors that look reasonable": for each a history in which it would show, with the right answer, and one theorem that the
+-- definitions give these answers. The edits in must-fail/ make the errors in the definitions. Assumes nothing.
+use Prim.Native.Nat.{ℕ}
+use Prim.Native.String.{String}
+use mathlib.Core.List.{List, [], _∷_, _++_}
+use lib.ListN.{replicate}
+use lib.Dec.{T}
+use Rattle.octets.specs.Bytes.{Bytes}
+use Rattle.server.specs.Asked.{Event, opens}
+use Rattle.server.proofs.Histories.{text, request, response}
+use Rattle.server.proofs.Edge.{Edge, edge, holds}
+
+-- ---- requests
+
+abbrev canDo : ℕ → String → Event
+unfolding request text
+canDo c function = request c 1 (text function ∷ [])
+
+abbrev submits : ℕ → String → String → Bytes → Event
+unfolding request text
+submits c function unique workload = request c 7 (text function ∷ text unique ∷ workload ∷ [])
+
+abbrev grabs : ℕ → Event
+unfolding request
+grabs c = request c 9 []
+
+abbrev completes : ℕ → String → String → Event
+unfolding request text
+completes c job result = request c 13 (text job ∷ text result ∷ [])
+
+-- ---- "finding a job by its place, so that a late result meets the next tenant"
+
+-- worker 1 ends job 1, takes job 2, which client 2 gave and which has the same place, and sends another result for job 1
+abbrev lateResult : List Event
+unfolding request text
+lateResult =
+    opens 0
+    ∷ opens 1
+    ∷ opens 2
+    ∷ canDo 1 "f"
+    ∷ submits 0 "f" "" (text "first")
+    ∷ grabs 1
+    ∷ completes 1 "H:lap:1" "done"
+    ∷ submits 2 "f" "" (text "second")
+    ∷ grabs 1
+    ∷ completes 1 "H:lap:1" "late"
+    ∷ []
+
+-- it is refused, and client 2 hears nothing of it
+pub lateRefused : Edge
+unfolding request response text
+lateRefused = edge lateResult (replicate 9 0 ++ (14 ∷ [])) (response 1 19 (text "14" ∷ text "handle" ∷ []) ∷ [])
+
+-- job 2 is still there, and held: STATUS_RES says so
+pub tenantStays : Edge
+unfolding request response text
+tenantStays =
+    edge (lateResult ++ (request 2 15 (text "H:lap:2" ∷ []) ∷ []))
+    (replicate 9 0 ++ (14 ∷ 0 ∷ []))
+    (response 2 20 (text "H:lap:2" ∷ text "1" ∷ text "1" ∷ text "0" ∷ text "0" ∷ []) ∷ [])
+
+-- ---- "joining on the unique alone"
+
+-- the same unique under another function makes a second job
+pub jobOfItsOwn : Edge
+unfolding request response text
+jobOfItsOwn =
+    edge (opens 0 ∷ submits 0 "f" "u" [] ∷ submits 0 "g" "u" [] ∷ [])
+    (replicate 3 0)
+    (response 0 8 (text "H:lap:2" ∷ []) ∷ [])
+
+-- ---- "searching past the second zero byte for more separators"
+
+-- zero, `w`, zero, `x`
+abbrev zeros : Bytes
+zeros = 0 ∷ 119 ∷ 0 ∷ 120 ∷ []
+
+-- the workload is assigned whole
+pub wholeWorkload : Edge
+unfolding request response text
+wholeWorkload =
+    edge (opens 0 ∷ opens 1 ∷ canDo 1 "f" ∷ submits 0 "f" "u" zeros ∷ grabs 1 ∷ [])
+    (replicate 5 0)
+    (response 1 11 (text "H:lap:1" ∷ text "f" ∷ zeros ∷ []) ∷ [])
+
+-- ---- "sending a listener two copies after a join"
+
+-- clients 0 and 2 listen to one job, which client 0 submitted twice: each gets one copy
+pub oneCopyEach : Edge
+unfolding request response text
+oneCopyEach =
+    edge (opens 0 ∷ opens 1 ∷ opens 2 ∷ canDo 1 "f" ∷ submits 0 "f" "u" [] ∷ submits 2 "f" "u" [] ∷ submits 0 "f" "u" [] ∷ grabs 1 ∷ completes 1 "H:lap:1" "done" ∷ [])
+    (replicate 9 0)
+    (response 0 13 (text "H:lap:1" ∷ text "done" ∷ []) ∷ response 2 13 (text "H:lap:1" ∷ text "done" ∷ []) ∷ [])
+
+-- ---- none of them is made
+
+pub no-mistake : T (holds lateRefused) × T (holds tenantStays) × T (holds jobOfItsOwn) × T (holds wholeWorkload) × T (holds oneCopyEach)
+unfolding holds lateRefused tenantStays jobOfItsOwn wholeWorkload oneCopyEach
+no-mistake = (tt, tt, tt, tt, tt)

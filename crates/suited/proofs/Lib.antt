@@ -1,0 +1,5 @@
+pub mod Served
+pub mod Requests
+pub mod Sizes
+pub mod Places
+pub mod Orders
