@@ -90,7 +90,7 @@ module _ (n : ℕ) (e : Event) (t w o : Bytes) where
   unfolding serverIn
   own-workloads = own-places 1024 w 32
 
-  refused-by : Taken n t w o → Refusal e (serverIn n t w) → Refused e t w o (performed e (serverIn n t w) t w o)
+  pub refused-by : Taken n t w o → Refusal e (serverIn n t w) → Refused e t w o (performed e (serverIn n t w) t w o)
   unfolding performed sentBytes
   refused-by k r =
       let s = serverIn n t w in

@@ -43,7 +43,7 @@ fit-same k s t a b =
 -- ---- the names of a table
 
 module _ (b : Bytes) where
-  sixteen : length (tableOf 16 b .functions) ≡ 16
+  pub sixteen : length (tableOf 16 b .functions) ≡ 16
   unfolding tableOf
   sixteen = length-places (functionIn b) 0 16
 

@@ -1,6 +1,6 @@
 -- The words of a request are its arguments, whatever its type: its plan does with them what the server's definitions decide.
 -- Assumes nothing.
-use Prim.Native.Nat.{ℕ, zero, suc, _<_}
+use Prim.Native.Nat.{ℕ, zero, suc}
 use mathlib.Core.Path.{_≡_, subst}
 use mathlib.Core.Bool.{true}
 use mathlib.Core.List.{List, []}
@@ -8,22 +8,14 @@ use native.Mathlib.Omega.{arith}
 use lib.ListN.{length, getD}
 use lib.Dec.{ltb}
 use Rattle.octets.specs.Bytes.{Bytes}
-use Rattle.packet.specs.declared.Ends.{Ends}
-use Rattle.packet.specs.declared.Read.the-variants as RV
-use Rattle.packet.specs.Arguments.{endsOf}
-use Rattle.packet.specs.Packet.{got, read, requests}
-use Rattle.packet.specs.Answers.{answerOf, argumentAt}
-use Rattle.packet_laws.proofs.Places.{argument-read}
 use Rattle.server.specs.Table.{Table, closed}
 use Rattle.server.specs.Rules.{obeys}
 use Rattle.server.specs.Asked.{Asked, bad, requested}
 use Rattle.server.specs.Events.{decide}
 use Rattle.outcomes.proofs.Cases.{All}
-use Rattle.rules_kept.proofs.Requests.{Good, good-reading}
 use Rattle.plans.specs.declared.Plan.{Plan}
 use Rattle.plans.specs.Plans.{planServed, planFor}
 use Rattle.planned.proofs.Decides.{Words, that-tells, that-reports, that-ends, that-throws, Suits, for-reset, for-sleep, for-echo, for-bad, for-can, for-cannot, for-grab, for-submit, for-work, for-status, for-option, Planned, planned}
-use Rattle.sending.proofs.Forwarding.{read-answer}
 use Rattle.suited.proofs.Served.{served-plan}
 
 -- what the code passes on for a request of this type with these arguments
@@ -62,11 +54,3 @@ request-planned c t ok kind x y z = planned (wordsGiven kind x y z) c t ok (requ
 pub served-planned : (w : Words) (c : ℕ) (t : Table) → obeys t ≡ true → ltb c (length (t .connections)) ≡ true → getD (t .connections) c closed .opened ≡ true
     → {a : Asked} → Suits w a → Planned w c t (planServed c a t) (decide c a t)
 served-planned w c t ok inside opened {a} s = subst (λ (p : Plan). Planned w c t p (decide c a t)) (served-plan c a t inside opened) (planned w c t ok s)
-
--- what a packet that was read asks is within 01's sizes
-pub read-good : (p : Bytes) (places : Ends) (kind : ℕ) → answerOf (read requests p) ≡ RV.Packet kind places
-    → Good (requested kind (argumentAt p places 0) (argumentAt p places 1) (argumentAt p places 2))
-read-good p places kind e =
-    let r = read-answer (read requests p) kind places e in
-    let at : (i : ℕ) → i < 5 → argumentAt p (endsOf 12 (r .0)) i ≡ getD (r .0) i [] = argument-read requests p kind (r .0) (r .1) in
-    rw (r .2, at 0 (omega arith), at 1 (omega arith), at 2 (omega arith)) (good-reading p (got kind (r .0)) (r .1))

@@ -1,0 +1,3 @@
+pub mod Conclusion
+pub mod Admitted
+pub mod Events
