@@ -31,6 +31,13 @@ fn no_ends() -> Ends
     }
 }
 
+// A refusal that writes nothing.
+fn refused(number: u8) -> Answer
+    ensures { λ r. ⌜ r ≡ record { number = number; length = 0 } ⌝ }
+{
+    Answer { number, length: 0 }
+}
+
 // Opens a connection.
 pub fn open(
     table: &mut [u8],
@@ -41,12 +48,9 @@ pub fn open(
     ensures { λ r. ⌜ left (r .number) (r .length) (now (output .exit)) (now (table .exit)) (now (workloads .exit))
         ≡ call 16 (opens connection) (now (table .entry)) (now (workloads .entry)) (now (output .entry)) ⌝ }
 {
-    let refused = admitting::admission(table, workloads, output, connection, true);
-    if refused != 0 {
-        return Answer {
-            number: refused,
-            length: 0,
-        };
+    let no_open = admitting::admission(table, workloads, output, connection, true);
+    if no_open != 0 {
+        return refused(no_open);
     }
     let v = rows::read_values(table);
     let rows = v.rows;
@@ -68,12 +72,9 @@ pub fn close(
     ensures { λ r. ⌜ left (r .number) (r .length) (now (output .exit)) (now (table .exit)) (now (workloads .exit))
         ≡ call 16 (closes connection) (now (table .entry)) (now (workloads .entry)) (now (output .entry)) ⌝ }
 {
-    let refused = admitting::admission(table, workloads, output, connection, false);
-    if refused != 0 {
-        return Answer {
-            number: refused,
-            length: 0,
-        };
+    let no_close = admitting::admission(table, workloads, output, connection, false);
+    if no_close != 0 {
+        return refused(no_close);
     }
     let v = rows::read_values(table);
     let rows = v.rows;
@@ -119,12 +120,9 @@ pub fn packet(
     ensures { λ r. ⌜ left (r .number) (r .length) (now (output .exit)) (now (table .exit)) (now (workloads .exit))
         ≡ call 16 (sends connection (now (packet .entry))) (now (table .entry)) (now (workloads .entry)) (now (output .entry)) ⌝ }
 {
-    let refused = admitting::admission(table, workloads, output, connection, false);
-    if refused != 0 {
-        return Answer {
-            number: refused,
-            length: 0,
-        };
+    let no_packet = admitting::admission(table, workloads, output, connection, false);
+    if no_packet != 0 {
+        return refused(no_packet);
     }
     let read = packet_read::read_request(packet);
     match read {

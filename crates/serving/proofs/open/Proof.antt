@@ -13,6 +13,9 @@ use Rattle.serving.proofs.open.Tie as tie
 admission-requires : tie.Need-admission-requires
 admission-requires c κs = search needs
 
+refused-requires : tie.Need-refused-requires
+refused-requires c κs = search needs
+
 same-length : tie.Need-same-length
 same-length c = search needs
 
@@ -23,7 +26,7 @@ same-length-3 : tie.Need-same-length-3
 same-length-3 c = search needs
 
 returns : tie.Need-returns
-returns c = refused-call true _ _ _ _ (opens _) refl (open-asks _) _ (c .before .admission .ensures) (c .if1 .taken)
+returns c = rw (c .refused .ensures) (refused-call true _ _ _ _ (opens _) refl (open-asks _) _ (c .before .before .admission .ensures) (c .before .if1 .taken))
 
 read-values-requires : tie.Need-read-values-requires
 read-values-requires c κs = is-admitted _ _ _ _ _ _ (c .before .before .admission .ensures) (c .before .if1 .left) .bytes .longTable
@@ -66,6 +69,7 @@ open-spec =
     tie.close
     (tie.spec
     admission-requires
+    refused-requires
     same-length
     same-length-2
     same-length-3
