@@ -2,22 +2,22 @@
 -- and its workload lies inside its place. Assumes nothing.
 use Prim.Native.Nat.{ℕ, zero, suc, _+_, _*_, _≤_, _<_}
 use mathlib.Core.Path.{_≡_, refl, ap, sym, _∙_, subst}
-use mathlib.Core.Bool.{Bool, true, false, not, _&&_}
+use mathlib.Core.Bool.{true, not, _&&_}
 use mathlib.Core.List.{List, [], _∷_}
 use native.Mathlib.Omega.{arith}
 use borrow.Author.Tests.{ltb-true, leb-true, le-leb}
 use lib.ListN.{length, getD, take, drop, length-take, length-drop, List·getD-map}
 use lib.Dec.{leb, ltb}
-use Rattle.octets.specs.Bytes.{Bytes, zeroFree, same}
+use Rattle.octets.specs.Bytes.{Bytes, same}
 use Rattle.octets.proofs.Strings.{and-left, and-right, and-both}
 use Rattle.packet.specs.declared.Rule.the-variants.{Text}
 use Rattle.packet.specs.Layout as L
 use Rattle.packet.specs.Arguments.{fits}
 use Rattle.server.specs.declared.JobRow.{JobRow}
 use Rattle.server.specs.Lists.{fit}
-use Rattle.server.specs.Table.{Function, Job, Table, noFunction, noJob, noRow, functionAt, jobAt, live}
+use Rattle.server.specs.Table.{Function, Job, noFunction, noJob, noRow, functionAt, jobAt, live}
 use Rattle.server.specs.Rules.{textWithin, storedNumber, together, rowHasMeaning, isKnown, obeys}
-use Rattle.server.specs.Layout.{connectionIn, functionIn, jobIn, tableOf, textAt, isImage}
+use Rattle.server.specs.Layout.{functionIn, jobIn, tableOf, isImage}
 use Rattle.server.specs.Call.{isSound, placeOf, serverIn}
 use Rattle.table_bytes.proofs.Columns.{length-places, places-at}
 use Rattle.plans.specs.Values.{rowsOf}

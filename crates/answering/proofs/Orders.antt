@@ -1,12 +1,11 @@
 -- The bytes of each order's packets are those that the functions of `sending` lay, and the NOOPs follow them. Assumes nothing.
-use Prim.Native.Nat.{ℕ, _+_, _*_, _≤_, _<_}
+use Prim.Native.Nat.{ℕ, _+_, _≤_}
 use mathlib.Core.Path.{_≡_, refl, ap, sym, _∙_}
-use mathlib.Core.Bool.{Bool, true, false, not, cond}
+use mathlib.Core.Bool.{Bool, false, not}
 use mathlib.Core.List.{List, [], _∷_, _++_, map}
 use native.Mathlib.Nat.{zero-add}
 use native.Mathlib.Omega.{arith}
 use lib.ListN.{length, drop, length-append}
-use lib.Dec.{eqb}
 use Rattle.octets.specs.Bytes.{Bytes, same}
 use Rattle.octets.specs.Put.{put}
 use Rattle.octets.proofs.Laying.{length-put, put-none, put-next}
@@ -15,10 +14,10 @@ use Rattle.sets.specs.Sets.{members}
 use Rattle.server.specs.declared.Connection.{Connection}
 use Rattle.server.specs.declared.JobRow.{JobRow}
 use Rattle.server.specs.Asked.{sends}
-use Rattle.server.specs.Events.{Send, noop, exceptionsName}
+use Rattle.server.specs.Events.{noop, exceptionsName}
 use Rattle.server.specs.Server.{render}
 use Rattle.server.specs.Layout.{tableOf}
-use Rattle.server.specs.Call.{sentBytes, serverIn}
+use Rattle.server.specs.Call.{serverIn}
 use Rattle.plans.specs.declared.Order as O′
 use Rattle.plans.specs.declared.Order.the-variants as OV
 use Rattle.plans.specs.declared.Values.{Values}
@@ -117,9 +116,10 @@ module _ (order : O′.Order) (c kind : ℕ) (h p t w : Bytes) where
       pub answered : (at r : ℕ) (o m x : Bytes) → at ≡ length (orderBytes order c kind h p t w) → m ≡ put 0 (orderBytes order c kind h p t w) o
           → (r ≡ at + length (messages (members 16 s) 6 [])) × (x ≡ put at (messages (members 16 s) 6 []) m)
           → (r ≡ length (answerBytes order v c kind h p t w)) × (x ≡ put 0 (answerBytes order v c kind h p t w) o)
-      answered at r o m x e laid l =
-          (omega (arith, l .0, ap length parts, ap length noops-are, length-append (orderBytes order c kind h p t w) noops),
-          l .1 ∙ rw (← zero-add at, e, laid, noops-are, parts) (put-next 0 (orderBytes order c kind h p t w) noops o _ refl))
+      answered at r o m x e laid l = (
+        omega (arith, l .0, ap length parts, ap length noops-are, length-append (orderBytes order c kind h p t w) noops),
+        l .1 ∙ rw (← zero-add at, e, laid, noops-are, parts) (put-next 0 (orderBytes order c kind h p t w) noops o _ refl),
+      )
 
 -- ---- who wakes
 

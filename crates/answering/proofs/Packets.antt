@@ -1,8 +1,8 @@
 -- The packets of one unfinished job, from the bytes in which it lies: an assignment with its workload, and its status. Assumes nothing.
 use Prim.Native.Nat.{ℕ, _+_, _-_, _*_, _≤_, _<_}
-use mathlib.Core.Path.{_≡_, refl, ap, sym, _∙_, subst}
+use mathlib.Core.Path.{_≡_, ap, sym, _∙_}
 use mathlib.Core.Bool.{Bool, true, not, cond}
-use mathlib.Core.List.{List, [], _∷_}
+use mathlib.Core.List.{List, []}
 use native.Mathlib.Omega.{arith}
 use lib.ListN.{length, getD, take, drop}
 use lib.Dec.{eqb}
@@ -47,10 +47,11 @@ module _ (b : Bytes) (sound : isSound 16 b ≡ true) (rows : List JobRow) (same-
         ex ∙ rw e (workload-there b sound rows same-rows p inside alive w lent)
 
     pub assign-fits : (fits L.function f ≡ true) × (fits L.unique u ≡ true) × (length f + length u + length x ≤ 1022)
-    assign-fits =
-        (rw its-name (function-fits b sound rows same-rows p inside alive),
-        rw its-unique (unique-fits b sound rows same-rows p inside alive),
-        rw (its-name, its-unique, its-workload, length-fit (held .row .size) (getD (serverIn 16 b w .workloads) p [])) (job-together b sound rows same-rows p inside alive))
+    assign-fits = (
+      rw its-name (function-fits b sound rows same-rows p inside alive),
+      rw its-unique (unique-fits b sound rows same-rows p inside alive),
+      rw (its-name, its-unique, its-workload, length-fit (held .row .size) (getD (serverIn 16 b w .workloads) p [])) (job-together b sound rows same-rows p inside alive),
+    )
 
     pub assign-is : (c : ℕ) (uniq : Bool) → message c (cond uniq 31 11) (join (assignArguments uniq (row .serial) f u x)) ≡ orderBytes (OV.Assign uniq p) c 0 [] [] b w
     unfolding orderBytes bytesSent ordered serverIn

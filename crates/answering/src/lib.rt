@@ -141,7 +141,16 @@ pub fn answer(
         × (now (output .exit) ≡ put 0 (answerBytes order v c kind (now (job .entry)) (now (packet .entry)) (now (table .entry)) (now (workloads .entry))) (now (output .entry))) ⌝ }
 {
     let at = send_order(
-        output, order, c, table, workloads, rows, kind, packet, ends, job,
+        output,
+        order,
+        c,
+        table,
+        workloads,
+        rows,
+        kind,
+        packet,
+        ends,
+        job,
     );
     let connections = v.connections;
     let able = v.able;

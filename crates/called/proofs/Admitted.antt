@@ -8,17 +8,16 @@ use borrow.Author.Tests.{ltb-true}
 use lib.ListN.{length, getD}
 use lib.Dec.{ltb}
 use Rattle.octets.specs.Bytes.{Bytes}
-use Rattle.octets.specs.Put.{put}
 use Rattle.server.specs.Table.{Table, closed}
 use Rattle.server.specs.Asked.{Event, connectionOf, Asked, toOpen, toClose, reset, preSleep, echo, bad, canDo, cantDo, grab, submit, work, getStatus, option, asked}
-use Rattle.server.specs.Events.{Decision, refuse, served, isOpening, admitted, decide}
+use Rattle.server.specs.Events.{refuse, served, isOpening, admitted, decide}
 use Rattle.server.specs.Server.{decided}
 use Rattle.server.specs.Layout.{connectionIn, tableOf}
 use Rattle.server.specs.Call.{serverIn, tooShort, isSound, refusedBy, performed, call}
 use Rattle.rules_kept.proofs.Rows.{clash}
 use Rattle.table_bytes.proofs.Columns.{length-places}
 use Rattle.calls.proofs.Refusals.{Taken, taken, one-if}
-use Rattle.performing.specs.Concluded.{left, refusalBytes}
+use Rattle.performing.specs.Concluded.{left}
 use Rattle.performing.proofs.Steps.{silent-laid}
 use Rattle.admitting.specs.Admission.{stateRefusal, admission}
 use Rattle.called.proofs.Conclusion.{refusal-performed}

@@ -16,13 +16,13 @@ use Rattle.packet.specs.Arguments.{join}
 use Rattle.packet.specs.Answers.{argumentAt}
 use Rattle.server.specs.declared.JobRow.{JobRow}
 use Rattle.server.specs.Lists.{concat, numbers}
-use Rattle.server.specs.Table.{Job, Table}
+use Rattle.server.specs.Table.{Table}
 use Rattle.server.specs.Asked.{Event}
 use Rattle.server.specs.Events.{Send, Decision, error, refuse, noop}
 use Rattle.server.specs.Server.{Server, render, rework, opaqueOf, decided, next, answer}
 use Rattle.server.specs.Layout.{tableOf, bytesOf, isImage}
 use Rattle.server.specs.Call.{placeOf, sentBytes, serverIn, isSound, performed}
-use Rattle.serials.proofs.Refusals.{Refusal, refusal}
+use Rattle.serials.proofs.Refusals.{refusal}
 use Rattle.calls.proofs.Refusals.{Taken, Refused, refused-by}
 use Rattle.calls.proofs.EveryCall.{taken-running}
 use Rattle.calls.proofs.Output.{output-fits}

@@ -1,8 +1,8 @@
 -- The plans of the events, as the code makes them, concluded on the lent bytes: each is the call of its event. Assumes nothing.
 use Prim.Native.Nat.{ℕ, _<_, _≤_, zero-le}
 use mathlib.Core.Path.{_≡_, refl, ap, sym, _∙_, subst}
-use mathlib.Core.Bool.{Bool, true, false, not, cond}
-use mathlib.Core.List.{List, [], _∷_, _++_, map}
+use mathlib.Core.Bool.{Bool, true, false, cond}
+use mathlib.Core.List.{List, []}
 use native.Mathlib.Omega.{arith}
 use borrow.Author.Tests.{lt-ltb, le-ltb}
 use lib.ListN.{length, getD, drop, length-append, length-drop}
@@ -16,17 +16,16 @@ use Rattle.packet.specs.Packet.{Reading, got, read, requests}
 use Rattle.packet.specs.Packet as P
 use Rattle.packet.specs.Opaque.{endsOpaque, masked, opaque, visible}
 use Rattle.packet.specs.Answers.{answerOf, argumentAt, between}
-use Rattle.packet_laws.proofs.Packets.{Headed, header-good, Got, read-got, requests-well}
+use Rattle.packet_laws.proofs.Packets.{Headed, header-good, read-got, requests-well}
 use Rattle.packet_laws.proofs.Blindness.{opaque-at, opaque-none, answer-masked}
 use Rattle.packet_laws.proofs.Places.{argument-read}
 use Rattle.kinds.proofs.Tests.{bools, range-arm}
 use Rattle.kinds.proofs.Shapes.{at-most-five}
-use Rattle.server.specs.Table.{closed}
-use Rattle.server.specs.Asked.{Event, opens, closes, sends, connectionOf, Asked, toOpen, toClose, bad, requested, fromReading, asked}
-use Rattle.server.specs.Events.{refuse, noop, isOpening, served, admitted, decide}
-use Rattle.server.specs.Server.{opaqueOf, render, decided}
+use Rattle.server.specs.Asked.{Event, opens, closes, sends, Asked, toOpen, toClose, bad, requested, fromReading, asked}
+use Rattle.server.specs.Events.{refuse, isOpening, served, admitted, decide}
+use Rattle.server.specs.Server.{opaqueOf, decided}
 use Rattle.server.specs.Layout.{tableOf}
-use Rattle.server.specs.Call.{serverIn, sentBytes, call}
+use Rattle.server.specs.Call.{serverIn, call}
 use Rattle.serials.proofs.Refusals.{bad-within}
 use Rattle.plans.specs.declared.Plan.{Plan}
 use Rattle.plans.specs.declared.Change.the-variants as CV
@@ -35,10 +34,10 @@ use Rattle.plans.specs.declared.Order.the-variants as OV
 use Rattle.plans.specs.Values.{valuesOf}
 use Rattle.plans.specs.Settling.{droppedRows, toWakeIn}
 use Rattle.plans.specs.Plans.{closedIn, done, openedIn, ordered, planFor, planServed}
-use Rattle.planned.proofs.Decides.{Words, Suits, for-open, for-close, Planned, planned}
+use Rattle.planned.proofs.Decides.{Words, Suits, for-open, for-close, planned}
 use Rattle.sending.proofs.Rendered.{data-whole, noops-rendered}
 use Rattle.sending.proofs.Forwarding.{read-answer, served-below}
-use Rattle.applying.specs.Fitting.{Fitting, Sized}
+use Rattle.applying.specs.Fitting.{Fitting}
 use Rattle.applying.proofs.Laid.{whole}
 use Rattle.carrying.proofs.Changes.{Whole}
 use Rattle.answering.specs.Ordered.{bytesSent}

@@ -6,7 +6,7 @@ use plans::Plan;
 use server::JobRow;
 ghost use mathlib.Core.Path.{_≡_};
 ghost use mathlib.Core.Bool.{true};
-ghost use Prim.Native.Nat.{_+_, _≤_};
+ghost use Prim.Native.Nat.{_≤_};
 ghost use lib.ListN.{length};
 ghost use Rattle.octets.specs.Put.{put};
 ghost use Rattle.server.specs.Lists.{concat};
@@ -61,7 +61,17 @@ fn perform(
     let order = plan.order;
     let change = plan.change;
     let length = answering::answer(
-        output, order, v, c, table, workloads, rows, kind, packet, ends, first,
+        output,
+        order,
+        v,
+        c,
+        table,
+        workloads,
+        rows,
+        kind,
+        packet,
+        ends,
+        first,
     );
     let planned = v.rows;
     reworking::rework(workloads, rows, settling::dropped(planned), opaque);
@@ -105,8 +115,6 @@ pub fn conclude(
             length,
         };
     }
-    let length = perform(
-        table, workloads, output, plan, c, rows, kind, packet, ends,
-    );
+    let length = perform(table, workloads, output, plan, c, rows, kind, packet, ends);
     Answer { number: 0, length }
 }

@@ -1,12 +1,12 @@
--- Laws of the table's numbers read: a number byte by byte, an array filled place after place, and the arrays that this gives.
+-- Laws of the table's numbers read: an array filled place after place, and the arrays that this gives.
 -- Assumes nothing.
 use Prim.Native.Nat.{ℕ, zero, suc, _+_, _*_, _≤_, _<_}
 use mathlib.Core.Path.{_≡_, refl, sym, ap, _∙_}
 use mathlib.Core.List.{List, [], _∷_, _++_, map}
-use native.Mathlib.Nat.{zero-add, add-zero, suc-add, add-suc, mul-zero}
+use native.Mathlib.Nat.{zero-add, add-zero, suc-add, add-suc}
 use native.Mathlib.Numerals.{add-one}
 use native.Mathlib.Omega.{arith}
-use lib.ListN.{length, getD, take, set}
+use lib.ListN.{length, take, set}
 use lib.Seq.{take-suc-set, take-all}
 use Rattle.octets.specs.Bytes.{Bytes}
 use Rattle.server.specs.declared.Connection.{Connection}
@@ -14,20 +14,6 @@ use Rattle.server.specs.declared.JobRow.{JobRow}
 use Rattle.server.specs.Lists.{numbers}
 use Rattle.server.specs.Layout.{littleAt, connectionIn, functionIn, rowIn, jobIn, tableOf}
 use Rattle.plans.specs.Values.{ablesOf, rowsOf, valuesOf}
-
--- ---- one number
-
-pub number-two : (b : Bytes) (at w x : ℕ) → w ≡ getD b at 0 → x ≡ getD b (at + 1) 0 → w + 256 * x ≡ littleAt 2 b at
-unfolding littleAt
-number-two b at w x ew ex = rw (ew, ex, add-one at, mul-zero 256, add-zero (getD b (suc at) 0))
-
-pub number-four : (b : Bytes) (at w x y z : ℕ) → w ≡ getD b at 0 → x ≡ getD b (at + 1) 0 → y ≡ getD b (at + 2) 0 → z ≡ getD b (at + 3) 0
-    → w + 256 * (x + 256 * (y + 256 * z)) ≡ littleAt 4 b at
-unfolding littleAt
-number-four b at w x y z ew ex ey ez =
-    let e : at + 2 ≡ suc (suc at) = omega arith in
-    let f : at + 3 ≡ suc (suc (suc at)) = omega arith in
-    rw (ew, ex, ey, ez, add-one at, e, f, mul-zero 256, add-zero (getD b (suc (suc (suc at))) 0))
 
 -- ---- an array filled
 

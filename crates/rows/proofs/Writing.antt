@@ -1,6 +1,6 @@
--- Laws of the table's numbers written: a number byte by byte, a column value after value, the rows' fields taken apart into columns,
+-- Laws of the table's numbers written: a column value after value, the rows' fields taken apart into columns,
 -- and the columns one after the other. Assumes nothing.
-use Prim.Native.Nat.{ℕ, zero, suc, _+_, _*_, _/_, _%_, _≤_, _<_}
+use Prim.Native.Nat.{ℕ, zero, suc, _+_, _*_, _%_, _≤_, _<_}
 use mathlib.Core.Path.{_≡_, refl, sym, ap, ap₂, _∙_}
 use mathlib.Core.Bool.{Bool, true, false}
 use mathlib.Core.List.{List, [], _∷_, _++_, map, append-assoc, append-nil}
@@ -11,7 +11,7 @@ use lib.Seq.{take-suc, take-length, length-take-le}
 use mir.Val.{boolByte}
 use Rattle.octets.specs.Bytes.{Bytes}
 use Rattle.octets.specs.Put.{put}
-use Rattle.octets.proofs.Laying.{put-one, put-more, put-next, put-none}
+use Rattle.octets.proofs.Laying.{put-next, put-none}
 use Rattle.server.specs.declared.Connection.{Connection}
 use Rattle.server.specs.declared.JobRow.{JobRow}
 use Rattle.server.specs.Table.{noRow, closed}
@@ -22,19 +22,6 @@ use Rattle.table_bytes.proofs.Columns.{numbers-long}
 use Rattle.rows.specs.declared.Columns.{Columns}
 use Rattle.rows.specs.declared.Flags.{Flags}
 use Rattle.rows.specs.Columns.{begun, flag, columnsBegun, flagsBegun, columnsOf, flagsOf, rowBytes, flagBytes, numberBytes, connectionBytes}
-
--- ---- one number
-
-module _ (b : Bytes) (at x : ℕ) where
-  pub two-put : set (set b at (x % 256)) (at + 1) (x / 256 % 256) ≡ put at (little 2 x) b
-  unfolding little
-  two-put = rw (put-one at (x % 256) b) (put-more at (x % 256 ∷ []) b 1 (x / 256 % 256) refl)
-
-  pub four-put : set (set (set (set b at (x % 256)) (at + 1) (x / 256 % 256)) (at + 2) (x / 256 / 256 % 256)) (at + 3) (x / 256 / 256 / 256 % 256) ≡ put at (little 4 x) b
-  unfolding little
-  four-put =
-      rw (put-one at (x % 256) b, put-more at (x % 256 ∷ []) b 1 (x / 256 % 256) refl, put-more at (x % 256 ∷ x / 256 % 256 ∷ []) b 2 (x / 256 / 256 % 256) refl)
-      (put-more at (x % 256 ∷ x / 256 % 256 ∷ x / 256 / 256 % 256 ∷ []) b 3 (x / 256 / 256 / 256 % 256) refl)
 
 -- ---- a column
 

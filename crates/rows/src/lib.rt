@@ -9,7 +9,7 @@ ghost use mathlib.Core.List.{_++_};
 ghost use Prim.Native.Nat.{_+_, _*_, _≤_, _<_};
 ghost use lib.ListN.{length};
 ghost use Rattle.octets.specs.Put.{put};
-ghost use Rattle.server.specs.Layout.{column, little, littleAt, rowIn, tableOf};
+ghost use Rattle.server.specs.Layout.{column, little, rowIn, tableOf};
 ghost use Rattle.plans.specs.Values.{ablesOf, rowsOf, valuesOf};
 ghost use Rattle.rows.specs.Columns.{columnsOf, connectionBytes, flagBytes, flagsOf, numberBytes, rowBytes};
 
@@ -31,48 +31,6 @@ struct Flags {
     exceptions: [u8; 16],
 }
 
-// A number in four bytes, the lowest first.
-pub fn number4(b: &[u8], at: usize) -> u32
-    requires { ⌜ at + 4 ≤ length (now b) ⌝ }
-    ensures { λ r. ⌜ r ≡ littleAt 4 (now (b .entry)) at ⌝ }
-{
-    let w = octets::wide(b[at]);
-    let x = octets::wide(b[at + 1]);
-    let y = octets::wide(b[at + 2]);
-    let z = octets::wide(b[at + 3]);
-    w + 256 * (x + 256 * (y + 256 * z))
-}
-
-// A number in two bytes, the lowest first.
-pub fn number2(b: &[u8], at: usize) -> u16
-    requires { ⌜ at + 2 ≤ length (now b) ⌝ }
-    ensures { λ r. ⌜ r ≡ littleAt 2 (now (b .entry)) at ⌝ }
-{
-    let w = octets::wide(b[at]);
-    let x = octets::wide(b[at + 1]);
-    (w + 256 * x) as u16
-}
-
-// Lays a number in four bytes over `b` from `at` on.
-pub fn put4(b: &mut [u8], at: usize, x: u32)
-    requires { ⌜ at + 4 ≤ length (now b) ⌝ }
-    ensures { λ _. ⌜ now (b .exit) ≡ put at (little 4 x) (now (b .entry)) ⌝ }
-{
-    b[at] = (x % 256) as u8;
-    b[at + 1] = (x / 256 % 256) as u8;
-    b[at + 2] = (x / 256 / 256 % 256) as u8;
-    b[at + 3] = (x / 256 / 256 / 256 % 256) as u8;
-}
-
-// Lays a number in two bytes over `b` from `at` on.
-pub fn put2(b: &mut [u8], at: usize, x: u16)
-    requires { ⌜ at + 2 ≤ length (now b) ⌝ }
-    ensures { λ _. ⌜ now (b .exit) ≡ put at (little 2 x) (now (b .entry)) ⌝ }
-{
-    b[at] = (x % 256) as u8;
-    b[at + 1] = (x / 256 % 256) as u8;
-}
-
 // ---- reading
 
 // The row of the job at place `p`.
@@ -81,13 +39,13 @@ fn read_row(table: &[u8], p: usize) -> JobRow
     ensures { λ r. ⌜ r ≡ rowIn (now (table .entry)) p ⌝ }
 {
     JobRow {
-        serial: number4(table, 68 + 4 * p),
+        serial: little::number4(table, 68 + 4 * p),
         function: table[516 + p],
         priority: table[452 + p],
         background: table[484 + p] == 1,
-        listeners: number4(table, 196 + 4 * p),
-        holder: number2(table, 388 + 2 * p),
-        size: number2(table, 324 + 2 * p),
+        listeners: little::number4(table, 196 + 4 * p),
+        holder: little::number2(table, 388 + 2 * p),
+        size: little::number2(table, 324 + 2 * p),
     }
 }
 
@@ -122,7 +80,7 @@ fn read_able(table: &[u8]) -> [u32; 16]
     let mut able = [0u32; 16];
     let mut i = 0;
     while i < 16 {
-        able[i] = number4(table, 4 + 4 * i);
+        able[i] = little::number4(table, 4 + 4 * i);
         i += 1;
     }
     able
@@ -156,7 +114,7 @@ pub fn read_values(table: &[u8]) -> Values
     requires { ⌜ 3796 ≤ length (now table) ⌝ }
     ensures { λ r. ⌜ r ≡ valuesOf (tableOf 16 (now (table .entry))) ⌝ }
 {
-    let last = number4(table, 0);
+    let last = little::number4(table, 0);
     let connections = read_connections(table);
     let able = read_able(table);
     let rows = read_rows(table);
@@ -225,7 +183,7 @@ fn put_column4(table: &mut [u8], at: usize, values: &[u32])
 {
     let mut i = 0;
     while i < values.len() {
-        put4(table, at + 4 * i, values[i]);
+        little::put4(table, at + 4 * i, values[i]);
         i += 1;
     }
 }
@@ -237,7 +195,7 @@ fn put_column2(table: &mut [u8], at: usize, values: &[u16])
 {
     let mut i = 0;
     while i < values.len() {
-        put2(table, at + 2 * i, values[i]);
+        little::put2(table, at + 2 * i, values[i]);
         i += 1;
     }
 }
@@ -255,7 +213,7 @@ fn write_head(table: &mut [u8], last: u32, able: [u32; 16])
     requires { ⌜ 3796 ≤ length (now table) ⌝ }
     ensures { λ _. ⌜ now (table .exit) ≡ put 0 (little 4 last ++ column (little 4) able) (now (table .entry)) ⌝ }
 {
-    put4(table, 0, last);
+    little::put4(table, 0, last);
     put_column4(table, 4, &able);
 }
 

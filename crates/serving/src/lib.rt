@@ -5,16 +5,13 @@
 use packet::Ends;
 use packet::Read;
 use performing::Answer;
-use plans::Values;
 ghost use mathlib.Core.Path.{_≡_};
 ghost use mathlib.Core.Bool.{false};
 ghost use Rattle.packet.specs.declared.Read.the-variants as RV;
 ghost use Rattle.packet.specs.Packet.{read, requests};
 ghost use Rattle.packet.specs.Answers.{answerOf};
 ghost use Rattle.server.specs.Asked.{closes, opens, sends};
-ghost use Rattle.server.specs.Layout.{tableOf};
 ghost use Rattle.server.specs.Call.{call};
-ghost use Rattle.plans.specs.Values.{valuesOf};
 ghost use Rattle.performing.specs.Concluded.{left};
 ghost use Rattle.admitting.specs.Admission.{admission};
 
@@ -39,12 +36,7 @@ fn refused(number: u8) -> Answer
 }
 
 // Opens a connection.
-pub fn open(
-    table: &mut [u8],
-    workloads: &mut [u8],
-    output: &mut [u8],
-    connection: u32,
-) -> Answer
+pub fn open(table: &mut [u8], workloads: &mut [u8], output: &mut [u8], connection: u32) -> Answer
     ensures { λ r. ⌜ left (r .number) (r .length) (now (output .exit)) (now (table .exit)) (now (workloads .exit))
         ≡ call 16 (opens connection) (now (table .entry)) (now (workloads .entry)) (now (output .entry)) ⌝ }
 {
@@ -57,18 +49,11 @@ pub fn open(
     let plan = planning::open(connection as usize, v);
     let c = connection as u8;
     let ends = no_ends();
-    performing::conclude(
-        table, workloads, output, plan, c, rows, 0, b"", ends,
-    )
+    performing::conclude(table, workloads, output, plan, c, rows, 0, b"", ends)
 }
 
 // Closes a connection.
-pub fn close(
-    table: &mut [u8],
-    workloads: &mut [u8],
-    output: &mut [u8],
-    connection: u32,
-) -> Answer
+pub fn close(table: &mut [u8], workloads: &mut [u8], output: &mut [u8], connection: u32) -> Answer
     ensures { λ r. ⌜ left (r .number) (r .length) (now (output .exit)) (now (table .exit)) (now (workloads .exit))
         ≡ call 16 (closes connection) (now (table .entry)) (now (workloads .entry)) (now (output .entry)) ⌝ }
 {
@@ -81,9 +66,7 @@ pub fn close(
     let plan = planning::close(connection as usize, v);
     let c = connection as u8;
     let ends = no_ends();
-    performing::conclude(
-        table, workloads, output, plan, c, rows, 0, b"", ends,
-    )
+    performing::conclude(table, workloads, output, plan, c, rows, 0, b"", ends)
 }
 
 // A request that was read, on a connection that is open.
@@ -104,9 +87,7 @@ fn serve(
     let rows = v.rows;
     let plan = requesting::plan_request(table, connection as usize, kind, packet, ends, v);
     let c = connection as u8;
-    performing::conclude(
-        table, workloads, output, plan, c, rows, kind, packet, ends,
-    )
+    performing::conclude(table, workloads, output, plan, c, rows, kind, packet, ends)
 }
 
 // Takes one packet from a connection.
@@ -130,6 +111,14 @@ pub fn packet(
             let length = performing::refuse(output, connection as u8, number);
             Answer { number, length }
         }
-        Read::Packet { kind, ends } => serve(table, workloads, output, connection, packet, kind, ends),
+        Read::Packet { kind, ends } => serve(
+            table,
+            workloads,
+            output,
+            connection,
+            packet,
+            kind,
+            ends,
+        ),
     }
 }

@@ -1,5 +1,5 @@
 -- `serving::serve` meets its contract: the plan of the request concluded. Assumes nothing.
-use mathlib.Core.Path.{_∙_, sym, refl}
+use mathlib.Core.Path.{_∙_, refl}
 use Rattle.called.proofs.Conclusion.{sound}
 use Rattle.called.proofs.Admitted.{is-admitted}
 use Rattle.called.proofs.Events.{request-small, request-ready, request-call}

@@ -1,10 +1,10 @@
--- `rows::put2` meets its contract: two stores, one after the other, are one run. Assumes nothing.
+-- `little::put2` meets its contract: two stores, one after the other, are one run. Assumes nothing.
 use native.Mathlib.Omega.{arith}
 use borrow.Author.Needs.{needs}
 use lib.ListN.{length-set}
-use Rattle.rows.proofs.Writing.{two-put}
-use Rattle.rows.proofs.put2.Statement.{statement}
-use Rattle.rows.proofs.put2.Tie as tie
+use Rattle.little.proofs.Numbers.{two-put}
+use Rattle.little.proofs.put2.Statement.{statement}
+use Rattle.little.proofs.put2.Tie as tie
 
 cast-b : tie.Need-cast-b
 cast-b c = search needs

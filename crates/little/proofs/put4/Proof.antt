@@ -1,10 +1,10 @@
--- `rows::put4` meets its contract: four stores, one after the other, are one run. Assumes nothing.
+-- `little::put4` meets its contract: four stores, one after the other, are one run. Assumes nothing.
 use native.Mathlib.Omega.{arith}
 use borrow.Author.Needs.{needs}
 use lib.ListN.{length-set}
-use Rattle.rows.proofs.Writing.{four-put}
-use Rattle.rows.proofs.put4.Statement.{statement}
-use Rattle.rows.proofs.put4.Tie as tie
+use Rattle.little.proofs.Numbers.{four-put}
+use Rattle.little.proofs.put4.Statement.{statement}
+use Rattle.little.proofs.put4.Tie as tie
 
 cast-b : tie.Need-cast-b
 cast-b c = search needs

@@ -1,8 +1,8 @@
--- `rows::number2` meets its contract: two bytes, the lowest first, make the layout's number. Assumes nothing.
+-- `little::number2` meets its contract: two bytes, the lowest first, make the layout's number. Assumes nothing.
 use borrow.Author.Needs.{needs}
-use Rattle.rows.proofs.Reading.{number-two}
-use Rattle.rows.proofs.number2.Statement.{statement}
-use Rattle.rows.proofs.number2.Tie as tie
+use Rattle.little.proofs.Numbers.{number-two}
+use Rattle.little.proofs.number2.Statement.{statement}
+use Rattle.little.proofs.number2.Tie as tie
 
 shared-slice-read-wide : tie.Need-shared-slice-read-wide
 shared-slice-read-wide c = search needs

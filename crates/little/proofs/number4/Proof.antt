@@ -1,8 +1,8 @@
--- `rows::number4` meets its contract: four bytes, the lowest first, make the layout's number. Assumes nothing.
+-- `little::number4` meets its contract: four bytes, the lowest first, make the layout's number. Assumes nothing.
 use borrow.Author.Needs.{needs}
-use Rattle.rows.proofs.Reading.{number-four}
-use Rattle.rows.proofs.number4.Statement.{statement}
-use Rattle.rows.proofs.number4.Tie as tie
+use Rattle.little.proofs.Numbers.{number-four}
+use Rattle.little.proofs.number4.Statement.{statement}
+use Rattle.little.proofs.number4.Tie as tie
 
 shared-slice-read-wide : tie.Need-shared-slice-read-wide
 shared-slice-read-wide c = search needs
