@@ -12,25 +12,20 @@ use Rattle.server.specs.Table.{Table, closed}
 use Rattle.server.specs.Asked.{Event, connectionOf, Asked, toOpen, toClose, reset, preSleep, echo, bad, canDo, cantDo, grab, submit, work, getStatus, option, asked}
 use Rattle.server.specs.Events.{refuse, served, isOpening, admitted, decide}
 use Rattle.server.specs.Server.{decided}
-use Rattle.server.specs.Layout.{connectionIn, tableOf}
+use Rattle.server.specs.Layout.{tableOf}
 use Rattle.server.specs.Call.{serverIn, tooShort, isSound, refusedBy, performed, call}
 use Rattle.rules_kept.proofs.Rows.{clash}
-use Rattle.table_bytes.proofs.Columns.{length-places}
 use Rattle.calls.proofs.Refusals.{Taken, taken, one-if}
 use Rattle.performing.specs.Concluded.{left}
 use Rattle.performing.proofs.Steps.{silent-laid}
 use Rattle.admitting.specs.Admission.{stateRefusal, admission}
-use Rattle.called.proofs.Conclusion.{refusal-performed}
+use Rattle.called.proofs.Conclusion.{sixteen, refusal-performed}
 
 -- ---- on usable bytes a call performs
 
 pub call-performed : (e : Event) (t w o : Bytes) → tooShort 16 t w o || not (isSound 16 t) ≡ false → performed e (serverIn 16 t w) t w o ≡ call 16 e t w o
 unfolding call
 call-performed e t w o h = rw h
-
-pub sixteen : (t : Bytes) → length (tableOf 16 t .connections) ≡ 16
-unfolding tableOf
-sixteen t = length-places (connectionIn 16 t) 0 16
 
 -- ---- what is decided at once
 

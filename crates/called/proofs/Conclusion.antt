@@ -20,8 +20,9 @@ use Rattle.server.specs.Table.{Table}
 use Rattle.server.specs.Asked.{Event}
 use Rattle.server.specs.Events.{Send, Decision, error, refuse, noop}
 use Rattle.server.specs.Server.{Server, render, rework, opaqueOf, decided, next, answer}
-use Rattle.server.specs.Layout.{tableOf, bytesOf, isImage}
+use Rattle.server.specs.Layout.{connectionIn, tableOf, bytesOf, isImage}
 use Rattle.server.specs.Call.{placeOf, sentBytes, serverIn, isSound, performed}
+use Rattle.table_bytes.proofs.Columns.{length-places}
 use Rattle.serials.proofs.Refusals.{refusal}
 use Rattle.calls.proofs.Refusals.{Taken, Refused, refused-by}
 use Rattle.calls.proofs.EveryCall.{taken-running}
@@ -37,7 +38,6 @@ use Rattle.sending.proofs.Rendered.{none-rendered, error-rendered}
 use Rattle.reworking.specs.Reworked.{reworkedRows}
 use Rattle.reworking.proofs.Rows.{rework-rows}
 use Rattle.applying.specs.Fitting.{Fitting, Sized}
-use Rattle.applying.proofs.Laid.{whole}
 use Rattle.answering.specs.Orderly.{Orderly}
 use Rattle.answering.specs.Ordered.{bytesSent, answerBytes}
 use Rattle.suited.proofs.Requests.{wordsGiven}
@@ -72,6 +72,10 @@ refusal-rendered e s c n = go (ltb n 9)
     go false = error-rendered e s c n
 
 -- ---- on the lent bytes
+
+pub sixteen : (t : Bytes) → length (tableOf 16 t .connections) ≡ 16
+unfolding tableOf
+sixteen t = length-places (connectionIn 16 t) 0 16
 
 pub sound : {t w o : Bytes} → Taken 16 t w o → isSound 16 t ≡ true
 unfolding isSound
@@ -114,9 +118,6 @@ module _ (e : Event) (t w o : Bytes) (kept : Taken 16 t w o) (plan : Plan) (c ki
       done : Carried words c (tableOf 16 t) plan (decided e (tableOf 16 t))
       done = when-done words c (tableOf 16 t) (f .plans) z
 
-      sixteen : length (tableOf 16 t .connections) ≡ 16
-      sixteen = whole t (sound kept) .connections
-
       number-is : 0 ≡ answer e (serverIn 16 t w) .number
       unfolding answer serverIn
       number-is = sym (ap (λ (d : Decision). d .number) (done .is))
@@ -126,7 +127,7 @@ module _ (e : Event) (t w o : Bytes) (kept : Taken 16 t w o) (plan : Plan) (c ki
       packets-are =
           f .shows
           ∙ ap (λ (n : ℕ). sentBytes (map (render e (serverIn 16 t w)) (ordered (plan .order) n c kind (argumentAt p ends 0) (tableOf 16 t)
-          ++ map noop (toWakeIn (plan .values .able) (droppedRows (plan .values .rows)) (plan .values .connections))))) (sym sixteen)
+          ++ map noop (toWakeIn (plan .values .able) (droppedRows (plan .values .rows)) (plan .values .connections))))) (sym (sixteen t))
           ∙ ap (λ (d : Decision). sentBytes (map (render e (serverIn 16 t w)) (d .packets))) (sym (done .is))
 
       table-is : tableLeft plan c kind p ends t w ≡ next e (serverIn 16 t w) .table

@@ -48,8 +48,8 @@ use Rattle.suited.proofs.Places.{served-fitting, open-fitting, close-fitting}
 use Rattle.suited.proofs.Orders.{served-orderly, silent-orderly}
 use Rattle.requesting.proofs.Asks.{asks, good-arguments}
 use Rattle.performing.specs.Concluded.{Ready, concluded, left, opaqueIn, opaquePlace, refusalBytes}
-use Rattle.called.proofs.Conclusion.{sound, Follows, small-number, ready, concluded-performed, refusal-performed}
-use Rattle.called.proofs.Admitted.{Admitted, call-performed, sixteen}
+use Rattle.called.proofs.Conclusion.{sixteen, sound, Follows, small-number, ready, concluded-performed, refusal-performed}
+use Rattle.called.proofs.Admitted.{Admitted, call-performed}
 
 -- ---- the opaque argument of a request
 
