@@ -1,0 +1,38 @@
+-- `lap::lap_close` meets its contract: it is `serving::close`, and the length fits into 32 bits. Assumes nothing.
+use Rattle.lap.proofs.Lengths.{small-length}
+use borrow.Author.Needs.{needs}
+use Rattle.lap.proofs.lap_close.Statement.{statement}
+use Rattle.lap.proofs.lap_close.Tie as tie
+
+close-requires : tie.Need-close-requires
+close-requires c κs = search needs
+
+cast-length : tie.Need-cast-length
+cast-length c = search (needs, small-length _ _ _ _ _ _ _ _ _ (c .before .before .before .before .before .before .before .close .ensures))
+
+cast-result : tie.Need-cast-result
+cast-result c = search needs
+
+same-length : tie.Need-same-length
+same-length c = search needs
+
+same-length-2 : tie.Need-same-length-2
+same-length-2 c = search needs
+
+same-length-3 : tie.Need-same-length-3
+same-length-3 c = search needs
+
+returns : tie.Need-returns
+returns c = search needs
+
+pub lap-close-spec : {M : Type 1} → statement M
+lap-close-spec =
+    tie.close
+    (tie.spec
+    close-requires
+    cast-length
+    cast-result
+    same-length
+    same-length-2
+    same-length-3
+    returns)

@@ -1,0 +1,153 @@
+//! The buffers that the archive is lent, each beside what it must hold, with guard bytes before and after.
+#![forbid(unsafe_code)]
+
+use crate::archive;
+use crate::event::Event;
+use crate::image;
+use crate::layout::{OUTPUT, TABLE};
+use crate::random::Random;
+use crate::server::{Server, WORKLOADS};
+
+const GUARD: u8 = 0xc7;
+const GUARDS_AFTER: usize = 48;
+
+/// One buffer: the bytes as they are, the bytes as they must be, and the part that is lent.
+pub struct Buffer {
+    actual: Vec<u8>,
+    expected: Vec<u8>,
+    start: usize,
+    length: usize,
+}
+
+impl Buffer {
+    fn new(start: usize, length: usize) -> Self {
+        let bytes = vec![GUARD; start + length + GUARDS_AFTER];
+        Buffer { actual: bytes.clone(), expected: bytes, start, length }
+    }
+
+    fn lend(&mut self) -> &mut [u8] {
+        &mut self.actual[self.start..self.start + self.length]
+    }
+
+    /// The first bytes of the lent part must be these after the call.
+    fn expect(&mut self, bytes: &[u8]) {
+        self.expected[self.start..self.start + bytes.len()].copy_from_slice(bytes);
+    }
+
+    /// The whole lent part gets this value, as it is and as it must be.
+    fn fill(&mut self, value: u8) {
+        self.lend().fill(value);
+        self.expected[self.start..self.start + self.length].fill(value);
+    }
+
+    /// The first bytes of the lent part are set, as they are and as they must be.
+    fn set(&mut self, bytes: &[u8]) {
+        self.lend()[..bytes.len()].copy_from_slice(bytes);
+        self.expect(bytes);
+    }
+
+    /// Where the bytes first are not as they must be.
+    fn difference(&self, name: &str) -> Result<(), String> {
+        if self.actual == self.expected {
+            return Ok(());
+        }
+        let pairs = self.actual.iter().zip(&self.expected);
+        let at = pairs.clone().position(|(actual, expected)| actual != expected).unwrap_or(0);
+        let count = pairs.filter(|(actual, expected)| actual != expected).count();
+        Err(format!(
+            "{name}: {count} bytes differ, the first at offset {} of {} lent: {:02x} where {:02x} is right",
+            at as isize - self.start as isize,
+            self.length,
+            self.actual[at],
+            self.expected[at],
+        ))
+    }
+}
+
+/// All that a host lends.
+pub struct Host {
+    pub table: Buffer,
+    pub workloads: Buffer,
+    pub output: Buffer,
+    calls: u64,
+}
+
+impl Host {
+    /// Buffers of the least lengths or longer, at any alignment.
+    pub fn new(random: &mut Random) -> Self {
+        let mut buffer = |least: usize| {
+            let more = *random.pick(&[0, 0, 1, 7, 100, 4_396]);
+            Buffer::new(8 + random.below(8), least + more)
+        };
+        Host { table: buffer(TABLE), workloads: buffer(WORKLOADS), output: buffer(OUTPUT), calls: 0 }
+    }
+
+    /// Buffers of the given lengths, which may be too short.
+    pub fn with_lengths(table: usize, workloads: usize, output: usize) -> Self {
+        let buffer = |length| Buffer::new(8, length);
+        Host { table: buffer(table), workloads: buffer(workloads), output: buffer(output), calls: 0 }
+    }
+
+    /// Table and workloads are set to these bytes, or to as many of them as the buffers hold.
+    pub fn set(&mut self, table: &[u8], workloads: &[u8]) {
+        let table = &table[..table.len().min(self.table.length)];
+        self.table.set(table);
+        self.workloads.set(&workloads[..workloads.len().min(self.workloads.length)]);
+    }
+
+    /// One byte of the table is set.
+    pub fn set_byte(&mut self, at: usize, value: u8) {
+        self.table.actual[self.table.start + at] = value;
+        self.table.expected[self.table.start + at] = value;
+    }
+
+    /// The archive makes a table over any bytes and must refuse it exactly for short buffers.
+    pub fn fresh(&mut self, random: &mut Random) -> Result<u32, String> {
+        self.table.fill(random.byte());
+        self.workloads.fill(random.byte());
+        let right = u32::from(self.table.length < TABLE || self.workloads.length < WORKLOADS);
+        if right == 0 {
+            self.table.expect(&[0; TABLE]);
+            self.workloads.expect(&[0; WORKLOADS]);
+        }
+        let number = archive::fresh(self.table.lend(), self.workloads.lend());
+        self.compare((number, 0), (right, 0))?;
+        Ok(right)
+    }
+
+    /// The archive runs an event and must report and write what the ordinary server answered.
+    pub fn step(&mut self, event: &Event, server: &Server, number: u32, packets: &[u8]) -> Result<(), String> {
+        self.run(event, number, packets, |host| {
+            let start = host.table.start;
+            image::write(server, &mut host.table.expected[start..]);
+            host.workloads.expect(&server.workloads);
+        })
+    }
+
+    /// The archive runs an event that must be refused by 1: nothing is written.
+    pub fn refused(&mut self, event: &Event) -> Result<(), String> {
+        self.run(event, crate::server::BAD_LENT, &[], |_| {})
+    }
+
+    fn run(&mut self, event: &Event, number: u32, packets: &[u8], expect: impl Fn(&mut Host)) -> Result<(), String> {
+        // The pattern changes from call to call, so that no byte is written with the value that it has by chance.
+        self.calls += 1;
+        self.output.fill([0xa5, 0x5a, 0x00, 0xff][(self.calls % 4) as usize]);
+        expect(self);
+        self.output.expect(packets);
+        let report = archive::event(self.table.lend(), self.workloads.lend(), self.output.lend(), event);
+        self.compare(report, (number, packets.len() as u32))
+    }
+
+    fn compare(&self, report: (u32, u32), right: (u32, u32)) -> Result<(), String> {
+        if report.0 != right.0 {
+            return Err(format!("number {} where {} is right (length {}, {})", report.0, right.0, report.1, right.1));
+        }
+        if report.1 != right.1 {
+            return Err(format!("length {} where {} is right (number {})", report.1, right.1, right.0));
+        }
+        self.output.difference("output")?;
+        self.table.difference("table")?;
+        self.workloads.difference("workloads")
+    }
+}

@@ -1,0 +1,26 @@
+//! An ordinary job server with the limits of document 01, written from the documents alone, to compare the core with.
+//! It shares no code with the core. Only the module `archive` holds unsafe code: it calls the core's archive.
+#![deny(unsafe_code)]
+#![cfg_attr(not(feature = "archive"), forbid(unsafe_code))]
+
+#[cfg(feature = "archive")]
+#[allow(unsafe_code)]
+pub mod archive;
+pub mod damage;
+pub mod event;
+pub mod handle;
+pub mod hex;
+pub mod histories;
+pub mod image;
+pub mod layout;
+#[cfg(feature = "archive")]
+pub mod lent;
+pub mod outbox;
+pub mod packet;
+pub mod random;
+pub mod replay;
+pub mod rules;
+pub mod scripts;
+pub mod server;
+pub mod state;
+pub mod text;

@@ -1,0 +1,186 @@
+//! Fixed histories for what random ones meet too rarely: the example, the largest output, full queues, all asleep.
+#![forbid(unsafe_code)]
+
+use crate::event::Event;
+use crate::handle;
+use crate::histories::request;
+use crate::server::{CONNECTIONS, FUNCTIONS, JOBS};
+
+pub struct Script {
+    pub name: &'static str,
+    /// The last serial of the table that it starts from, which is a fresh one otherwise.
+    pub last_serial: u32,
+    pub events: Vec<Event>,
+}
+
+pub fn all() -> Vec<Script> {
+    vec![
+        example(),
+        largest_output(),
+        largest_assignment(),
+        refusals_of_new_jobs(),
+        all_asleep(),
+        holder_of_all_leaves(),
+        client_of_all_leaves(),
+        sizes(),
+    ]
+}
+
+fn packet(connection: usize, kind: u32, arguments: &[&[u8]]) -> Event {
+    Event::Packet(connection as u32, request(kind, arguments))
+}
+
+fn open_all() -> Vec<Event> {
+    (0..CONNECTIONS as u32).map(Event::Open).collect()
+}
+
+fn function(number: usize) -> Vec<u8> {
+    format!("function-{}", number % FUNCTIONS).into_bytes()
+}
+
+/// Document 000's example as document 01 has it.
+fn example() -> Script {
+    let events = vec![
+        Event::Open(1),
+        Event::Open(0),
+        packet(1, 1, &[b"reverse"]),
+        packet(1, 9, &[]),
+        packet(1, 4, &[]),
+        packet(0, 7, &[b"reverse", b"", b"test"]),
+        packet(1, 9, &[]),
+        packet(1, 13, &[b"H:lap:1", b"tset"]),
+    ];
+    Script { name: "example", last_serial: 0, events }
+}
+
+/// The largest worker packet to 16 listeners: 16,592 bytes, of each type that carries data.
+fn largest_output() -> Script {
+    let mut events = open_all();
+    events.push(packet(3, 1, &[b"f"]));
+    for (serial, kind) in [(1, 28), (1, 29), (1, 13), (2, 25)] {
+        for connection in 0..CONNECTIONS {
+            events.push(packet(connection, 26, &[b"exceptions"]));
+            events.push(packet(connection, 7, &[b"f", b"u", b"w"]));
+        }
+        events.push(packet(3, 9, &[]));
+        events.push(packet(3, kind, &[handle::print(serial).bytes(), &[0xee; 1_024 - 8]]));
+    }
+    Script { name: "largest output", last_serial: 0, events }
+}
+
+/// An assignment of 1,041 bytes: the longest handle, and a submission of 1,024 bytes.
+fn largest_assignment() -> Script {
+    let mut events = open_all();
+    for unique in [0, 1, 64] {
+        events.push(packet(0, 1, &[&[b'f'; 32]]));
+        events.push(packet(0, 7, &[&[b'f'; 32], &vec![b'u'; unique], &vec![0; 1_022 - 32 - unique]]));
+        events.push(packet(0, if unique == 1 { 9 } else { 30 }, &[]));
+    }
+    Script { name: "largest assignment", last_serial: u32::MAX - 3, events }
+}
+
+/// 16 functions, 32 jobs and the last serial at once: 11 before 12 before 13, and joins through all of them.
+fn refusals_of_new_jobs() -> Script {
+    let mut events = open_all();
+    for place in 0..JOBS {
+        events.push(packet(0, 7, &[&function(place), format!("{place}").as_bytes(), b"w"]));
+    }
+    let tries = |events: &mut Vec<Event>| {
+        events.push(packet(2, 7, &[b"unknown", b"u", b"w"]));
+        events.push(packet(2, 1, &[b"unknown"]));
+        events.push(packet(2, 7, &[&function(0), b"", b"w"]));
+        events.push(packet(2, 18, &[&function(3), b"u", b"w"]));
+        events.push(packet(2, 7, &[&function(5), b"5", b"w"]));
+        events.push(packet(2, 34, &[&function(6), b"6", b"w"]));
+    };
+    tries(&mut events);
+    // One job ends: a place is free, and its function is still named by another job.
+    events.push(packet(1, 1, &[&function(0)]));
+    events.push(packet(1, 9, &[]));
+    events.push(packet(1, 14, &[handle::print(u32::MAX - 31).bytes()]));
+    tries(&mut events);
+    // The second job of the function ends too: after CANT_DO a function place is free.
+    events.push(packet(1, 9, &[]));
+    events.push(packet(1, 14, &[handle::print(u32::MAX - 15).bytes()]));
+    events.push(packet(1, 2, &[&function(0)]));
+    events.push(packet(2, 7, &[b"unknown", b"u", b"w"]));
+    events.push(packet(2, 1, &[b"unknown"]));
+    tries(&mut events);
+    Script { name: "refusals of new jobs", last_serial: u32::MAX - 32, events }
+}
+
+/// 16 sleepers woken by a submission, then 15 of them by a close.
+fn all_asleep() -> Script {
+    let mut events = open_all();
+    let sleep = |events: &mut Vec<Event>| {
+        for connection in 0..CONNECTIONS {
+            events.push(packet(connection, 1, &[b"f"]));
+            events.push(packet(connection, 4, &[]));
+        }
+    };
+    sleep(&mut events);
+    events.push(packet(7, 18, &[b"f", b"u", b"w"]));
+    events.push(packet(9, 30, &[]));
+    sleep(&mut events);
+    events.push(packet(9, 12, &[b"H:lap:1", b"0000000001", b"9999999999"]));
+    events.push(packet(4, 15, &[b"H:lap:1"]));
+    events.push(Event::Close(9));
+    events.push(packet(4, 15, &[b"H:lap:1"]));
+    Script { name: "all asleep", last_serial: 0, events }
+}
+
+/// One connection holds 32 jobs and leaves: those that are wanted return, the others are dropped.
+fn holder_of_all_leaves() -> Script {
+    let mut events = open_all();
+    for place in 0..JOBS {
+        events.push(packet(0, 1, &[&function(place)]));
+        events.push(packet(15, 1, &[&function(place)]));
+        let kind = [7, 18, 33, 32][place / 3 % 4];
+        events.push(packet(place % 3, kind, &[&function(place), b"", &vec![place as u8; 31 * place]]));
+        events.push(packet(0, 9, &[]));
+        events.push(packet(0, 12, &[handle::print(place as u32 + 1).bytes(), b"12", b"345"]));
+    }
+    events.push(packet(15, 4, &[]));
+    events.push(Event::Close(1));
+    events.push(Event::Close(0));
+    events.extend((0..JOBS).map(|_| packet(15, 30, &[])));
+    Script { name: "holder of all jobs leaves", last_serial: 0, events }
+}
+
+/// One connection waits for 32 jobs over 16 functions and leaves: everything is forgotten.
+fn client_of_all_leaves() -> Script {
+    let mut events = open_all();
+    for place in 0..JOBS {
+        events.push(packet(6, 7, &[&function(place), b"", &[0xff; 900]]));
+    }
+    events.push(Event::Close(6));
+    events.push(Event::Open(6));
+    events.push(packet(6, 7, &[b"again", b"", b""]));
+    Script { name: "client of all jobs leaves", last_serial: 0, events }
+}
+
+/// Arguments at their limits and one byte beyond them.
+fn sizes() -> Script {
+    let mut events = open_all();
+    for length in [0, 1, 2, 31, 32, 33, 62, 63, 64, 65] {
+        let bytes = vec![b'1'; length];
+        for kind in [1, 2, 14, 15, 26] {
+            events.push(packet(0, kind, &[&bytes]));
+        }
+        for kind in [13, 25, 28, 29] {
+            events.push(packet(0, kind, &[&bytes, b""]));
+            events.push(packet(0, kind, &[&bytes]));
+        }
+        events.push(packet(0, 7, &[&bytes, b"", b""]));
+        events.push(packet(0, 18, &[b"f", &bytes, b""]));
+        events.push(packet(0, 12, &[&bytes, b"1", b"1"]));
+    }
+    for length in [0, 1, 9, 10, 11] {
+        events.push(packet(0, 12, &[b"H:lap:1", &vec![b'9'; length], b"1"]));
+        events.push(packet(0, 12, &[b"H:lap:1", b"1", &vec![b'9'; length]]));
+    }
+    for length in [0, 1, 1_023, 1_024, 1_025, 1_036] {
+        events.push(packet(0, 16, &[&vec![0; length]]));
+    }
+    Script { name: "sizes", last_serial: 0, events }
+}

@@ -1,0 +1,74 @@
+//! The random histories reach what they are for: every number, every request done, every type sent, joins and sleep.
+use peer::event::Event;
+use peer::histories::{History, SUBMISSIONS};
+use peer::outbox::Outbox;
+
+#[test]
+fn histories_reach_everything() {
+    let mut out = Outbox::default();
+    let (mut numbers, mut done, mut sent) = ([0; 16], [0; 37], [0; 37]);
+    let (mut joins, mut full, mut crowded, mut sleepers, mut listeners, mut largest) = (0, 0, 0, 0, 0, 0);
+    for seed in 1..=30 {
+        let mut history = History::new(seed);
+        let mut server = history.start();
+        for _ in 0..2_000 {
+            let event = history.next(&server);
+            let last_serial = server.last_serial;
+            let number = event.run(&mut server, &mut out);
+            numbers[number as usize] += 1;
+            if let (Event::Packet(_, packet), 0) = (&event, number) {
+                done[packet[7] as usize] += 1;
+                let submission = SUBMISSIONS.contains(&u32::from(packet[7]));
+                joins += usize::from(submission && server.last_serial == last_serial);
+                largest += usize::from(packet.len() == 12 + 1_024);
+            }
+            for packet in out.addressed() {
+                sent[packet[8] as usize] += 1;
+            }
+            full += usize::from(server.jobs.iter().all(Option::is_some));
+            crowded += usize::from(server.functions.iter().all(Option::is_some));
+            sleepers += usize::from(server.connections.iter().filter(|connection| connection.asleep).count() > 2);
+            listeners += server.jobs.iter().flatten().filter(|job| job.listeners.count_ones() > 2).count();
+        }
+    }
+    for number in [0, 2, 3, 4, 5, 6, 7, 8, 9, 10, 11, 12, 13, 14, 15] {
+        assert!(numbers[number] >= 20, "number {number}: {numbers:?}");
+    }
+    for kind in [1, 2, 3, 4, 7, 9, 12, 13, 14, 15, 16, 18, 21, 25, 26, 28, 29, 30, 32, 33, 34] {
+        assert!(done[kind] >= 100, "type {kind}: {done:?}");
+    }
+    for kind in [6, 8, 10, 11, 12, 13, 14, 17, 19, 20, 25, 27, 28, 29, 31] {
+        assert!(sent[kind] >= 50, "type {kind}: {sent:?}");
+    }
+    for (count, what) in [
+        (joins, "joins"),
+        (full, "full"),
+        (crowded, "crowded"),
+        (sleepers, "sleepers"),
+        (listeners, "listeners"),
+        (largest, "largest"),
+    ] {
+        assert!(count >= 100, "{what}: {count}");
+    }
+    println!(
+        "joins {joins}, full {full}, crowded {crowded}, sleepers {sleepers}, listeners {listeners}, largest {largest}"
+    );
+}
+
+#[test]
+fn a_seed_gives_the_same_history_each_time() {
+    let run = |seed: u64| {
+        let mut history = History::new(seed);
+        let mut server = history.start();
+        let mut out = Outbox::default();
+        (0..300)
+            .map(|_| {
+                let event = history.next(&server);
+                event.run(&mut server, &mut out);
+                event
+            })
+            .collect::<Vec<_>>()
+    };
+    assert_eq!(run(5), run(5));
+    assert_ne!(run(5), run(6));
+}

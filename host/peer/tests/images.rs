@@ -1,0 +1,203 @@
+//! The table's bytes: docs/TABLE.md's example, round trips over random histories, and each table rule broken.
+mod common;
+use common::{done, opened, response};
+use peer::damage;
+use peer::histories::History;
+use peer::image::{image, obeys, read};
+use peer::layout::*;
+use peer::outbox::Outbox;
+use peer::packet::{self, Side};
+use peer::random::Random;
+use peer::rules::{broken, RULES};
+use peer::server::Server;
+
+/// The table after the first six lines of document 01's replay, but for who is asleep: connection 1 was woken.
+fn example() -> Server {
+    let mut server = opened(&[1, 0]);
+    done(&mut server, 1, 1, &[b"reverse"], &[]);
+    done(&mut server, 1, 9, &[], &[response(1, 10, &[])]);
+    done(&mut server, 1, 4, &[], &[]);
+    let packets = [response(0, 8, &[b"H:lap:1"]), response(1, 6, &[])];
+    done(&mut server, 0, 7, &[b"reverse", b"", b"test"], &packets);
+    server
+}
+
+#[test]
+fn the_example_of_the_table_page() {
+    let mut bytes = vec![0; TABLE];
+    for (at, part) in [
+        (0, &b"\x01"[..]),
+        (4, b"\x02"),
+        (68, b"\x01"),
+        (196, b"\x01"),
+        (324, b"\x04"),
+        (452, b"\x01"),
+        (548, b"reverse"),
+        (3_108, b"0"),
+        (3_428, b"0"),
+        (3_748, b"\x01\x01"),
+    ] {
+        bytes[at..at + part.len()].copy_from_slice(part);
+    }
+    let mut server = example();
+    assert_eq!(image(&server), bytes);
+    done(&mut server, 1, 9, &[], &[response(1, 11, &[b"H:lap:1", b"reverse", b"test"])]);
+    bytes[388] = 2;
+    assert_eq!(image(&server), bytes);
+    assert_eq!(image(&Server::new()), vec![0; TABLE]);
+}
+
+#[test]
+fn histories_obey_the_rules_and_come_back_from_their_images() {
+    let mut out = Outbox::default();
+    for seed in 100..125 {
+        let mut history = History::new(seed);
+        let mut server = history.start();
+        for index in 0..800 {
+            let event = history.next(&server);
+            let before = server.clone();
+            let number = event.run(&mut server, &mut out);
+            if number != 0 {
+                assert!(server == before, "seed {seed}, event {index}: a refusal changed the server");
+            }
+            if (1..=8).contains(&number) {
+                assert!(out.bytes().is_empty());
+            }
+            assert!(out.bytes().len() <= OUTPUT);
+            for sent in out.addressed() {
+                assert!(
+                    packet::read(Side::Response, &sent[1..]).is_ok(),
+                    "seed {seed}, event {index}: a packet not to be sent"
+                );
+            }
+            let bytes = image(&server);
+            assert_eq!(broken(&bytes), Vec::<&str>::new(), "seed {seed}, event {index}: {event}");
+            assert!(read(&bytes, &server.workloads) == server, "seed {seed}, event {index}");
+        }
+    }
+}
+
+/// A table that obeys is the only image of what it says, and the next event keeps the rules.
+#[test]
+fn damaged_tables_that_obey_are_images() {
+    let mut out = Outbox::default();
+    let (mut good, mut bad) = (0, 0);
+    for seed in 200..206 {
+        let mut history = History::new(seed);
+        let mut server = history.start();
+        for _ in 0..700 {
+            history.next(&server).run(&mut server, &mut out);
+        }
+        let table = image(&server);
+        let mut random = Random::new(seed);
+        for _ in 0..1_500 {
+            let mut bytes = table.clone();
+            for _ in 0..1 + random.below(3) {
+                damage::field(&mut bytes, &mut random);
+            }
+            if !obeys(&bytes) {
+                bad += 1;
+                continue;
+            }
+            good += 1;
+            let mut next = read(&bytes, &server.workloads);
+            assert_eq!(image(&next), bytes);
+            let event = history.next(&next);
+            event.run(&mut next, &mut out);
+            assert_eq!(broken(&image(&next)), Vec::<&str>::new(), "seed {seed}: {event}");
+        }
+    }
+    assert!(good > 1_000 && bad > 1_000, "{good} {bad}");
+}
+
+/// The example with one more function and one more job; connection 2 sleeps and can do nothing.
+fn broad() -> Vec<u8> {
+    let mut server = example();
+    assert_eq!(server.open(2), 0);
+    done(&mut server, 2, 4, &[], &[]);
+    done(&mut server, 0, 7, &[b"sort", b"unique", b"w"], &[response(0, 8, &[b"H:lap:2"])]);
+    done(&mut server, 1, 1, &[b"print"], &[]);
+    let bytes = image(&server);
+    assert!(obeys(&bytes));
+    bytes
+}
+
+#[test]
+fn each_rule_is_broken_by_some_table() {
+    let mut seen = Vec::new();
+    let mut breaks = |rule: &str, changes: &[(usize, &[u8])]| {
+        let mut bytes = broad();
+        for (at, part) in changes {
+            bytes[*at..*at + part.len()].copy_from_slice(part);
+        }
+        let all = broken(&bytes);
+        assert!(all.iter().any(|name| name.starts_with(rule)), "{rule} holds; broken: {all:?}");
+        let rule = *all.iter().find(|name| name.starts_with(rule)).unwrap();
+        seen.push(rule);
+        all
+    };
+    // Those with one name in the list break alone.
+    assert_eq!(breaks("serials distinct", &[(SERIAL, &[2])]).len(), 1);
+    assert_eq!(breaks("serials from 1", &[(SERIAL, &[3])]).len(), 1);
+    assert_eq!(breaks("serials from 1", &[(LAST_SERIAL, &[1])]).len(), 1);
+    for digits in [&b"\0"[..], b"a", b"0/", b"1234567:90"] {
+        assert_eq!(breaks("stored texts", &[(NUMERATOR, digits)]).len(), 1);
+        assert_eq!(breaks("stored texts", &[(DENOMINATOR + 10, digits)]).len(), 1);
+    }
+    // sort and unique are 10 bytes, so 1,012 more are the most.
+    assert_eq!(breaks("function, unique and workload", &[(SIZE + 2, &1_013u16.to_le_bytes())]).len(), 1);
+    assert_eq!(breaks("every field with a meaning: numbers", &[(PRIORITY, &[3])]).len(), 1);
+    assert_eq!(breaks("every field with a meaning: numbers", &[(BACKGROUND, &[2])]).len(), 1);
+    assert_eq!(breaks("every field with a meaning: numbers", &[(OPEN + 9, &[2])]).len(), 1);
+    assert_eq!(breaks("every field with a meaning: numbers", &[(EXCEPTIONS, &[2])]).len(), 1);
+    assert_eq!(breaks("every field with a meaning: numbers", &[(ASLEEP, &[2])]).len(), 1);
+    breaks("every field with a meaning: numbers", &[(HOLDER, &[17])]);
+    breaks("every field with a meaning: numbers", &[(FUNCTION, &[16])]);
+    for at in [NAME + 31, UNIQUE + 63, NUMERATOR + 9, DENOMINATOR + 9] {
+        assert_eq!(breaks("every field with a meaning: zeros", &[(at, b"1")]).len(), 1, "{at}");
+    }
+    for at in [LISTENERS + 8, SIZE + 4, HOLDER + 4, PRIORITY + 2, BACKGROUND + 2, FUNCTION + 2] {
+        assert_eq!(breaks("every field with a meaning: a free job place", &[(at, &[1])]).len(), 1, "{at}");
+    }
+    for at in [UNIQUE + 128, NUMERATOR + 20, DENOMINATOR + 20] {
+        assert_eq!(breaks("every field with a meaning: a free job place", &[(at, b"1")]).len(), 1, "{at}");
+    }
+    breaks("every field with a meaning: a job's function", &[(FUNCTION, &[5])]);
+    assert_eq!(breaks("known functions distinct", &[(NAME + 64, b"sort\0")]).len(), 1);
+    assert_eq!(breaks("known functions as defined", &[(ABLE + 8, &[0])]).len(), 1);
+    assert_eq!(breaks("known functions as defined", &[(ABLE + 12, &[1])]).len(), 1);
+    assert_eq!(breaks("known functions as defined", &[(NAME + 96, b"x")]).len(), 1);
+    for at in [ABLE, ABLE + 1, ABLE + 2, LISTENERS, LISTENERS + 3] {
+        assert_eq!(breaks("abilities, listeners", &[(at, &[0x90])]).len(), 1, "{at}");
+    }
+    assert_eq!(breaks("abilities, listeners", &[(HOLDER, &[9])]).len(), 1);
+    assert_eq!(breaks("abilities, listeners", &[(EXCEPTIONS + 9, &[1])]).len(), 1);
+    assert_eq!(breaks("abilities, listeners", &[(ASLEEP + 9, &[1])]).len(), 1);
+    assert_eq!(breaks("a queued job", &[(LISTENERS, &[0])]).len(), 1);
+    let shared: [(usize, &[u8]); 2] = [(FUNCTION + 1, &[0]), (UNIQUE, b"unique")];
+    breaks("no two jobs share", &shared);
+    assert_eq!(breaks("no sleeper", &[(ASLEEP + 1, &[1])]).len(), 1);
+    assert_eq!(breaks("no sleeper", &[(ABLE, &[6])]).len(), 1);
+    // Every rule was met but the one that the places' lengths keep.
+    for (name, _) in RULES {
+        assert!(seen.contains(&name) || name == "names within sizes", "{name}");
+    }
+}
+
+#[test]
+fn what_no_rule_forbids() {
+    // Texts of a queued job, serials out of place order, serials at their end, the largest workload.
+    let changes: [&[(usize, &[u8])]; 4] = [
+        &[(NUMERATOR, b"007"), (DENOMINATOR, b"1234567890")],
+        &[(SERIAL, &[2]), (SERIAL + 4, &[1])],
+        &[(LAST_SERIAL, &[255; 4]), (SERIAL, &[255; 4])],
+        &[(SIZE + 2, &1_012u16.to_le_bytes())],
+    ];
+    for changes in changes {
+        let mut bytes = broad();
+        for (at, part) in changes {
+            bytes[*at..*at + part.len()].copy_from_slice(part);
+        }
+        assert_eq!(broken(&bytes), Vec::<&str>::new());
+    }
+}

@@ -1,0 +1,11 @@
+#!/usr/bin/env bash
+# A C program over the archive and its header answers every stored capture as its stored answer says. The header stands by itself.
+set -euo pipefail
+cd "$(dirname "$0")/../.."
+bash host/archive.sh
+build=target/c_replay
+mkdir -p "$build"
+strict=(-Wall -Wextra -Werror -pedantic -Iinclude)
+gcc -std=c11 "${strict[@]}" -fsyntax-only -x c include/lap.h
+gcc -std=c11 -O2 "${strict[@]}" host/replay/replay.c target/staticlib/liblap.a -o "$build/replay"
+REPLAY=$build/replay bash host/tests/captures.sh > "$build/log" || { tail -n 12 "$build/log"; exit 1; }

@@ -1,0 +1,36 @@
+#!/usr/bin/env bash
+# The archive does what an ordinary job server in Rust does, written from the documents alone: the same number, length, output, table and
+# workloads, byte for byte, in fixed and random histories, on damaged tables and on buffers that are too short. The ordinary server passes
+# its own tests first. Last, the comparing program must find each of the ten faults of host/peer/tests/faults.c.
+set -euo pipefail
+cd "$(dirname "$0")/../.."
+bash host/archive.sh
+archive=$PWD/target/staticlib
+faulty=$PWD/target/faulty
+options=(--offline -j2 --quiet --manifest-path host/peer/Cargo.toml)
+
+export CARGO_TARGET_DIR=$PWD/target/peer
+cargo test "${options[@]}"
+LAP_ARCHIVE_DIR=$archive cargo run --release "${options[@]}" --features archive --bin compare
+
+# The faulty archive: the right one with its functions renamed, and the faults on top. It has a cargo folder of its own, so that the right
+# comparing program stays linked with the right archive.
+mkdir -p "$faulty"
+rm -f "$faulty/liblap.a"
+objcopy --redefine-sym lap_fresh=core_fresh --redefine-sym lap_open=core_open --redefine-sym lap_close=core_close \
+  --redefine-sym lap_packet=core_packet "$archive/liblap.a" "$faulty/liblap.a"
+gcc -std=c11 -O2 -Wall -Wextra -Werror -Iinclude -c host/peer/tests/faults.c -o "$faulty/faults.o"
+ar r "$faulty/liblap.a" "$faulty/faults.o"
+export CARGO_TARGET_DIR=$faulty/cargo
+LAP_ARCHIVE_DIR=$faulty cargo build --release "${options[@]}" --features archive --bin compare
+compare=$CARGO_TARGET_DIR/release/compare
+LAP_FAULT=0 "$compare" --events 2000 > "$faulty/printed"
+for fault in $(seq 1 10); do
+  status=0
+  LAP_FAULT=$fault "$compare" --events 60000 > "$faulty/printed" || status=$?
+  if [ "$status" != 1 ]; then
+    echo "fault $fault was not found (exit status $status)"
+    exit 1
+  fi
+done
+echo "10 faults found, 0 missed"
