@@ -21,7 +21,7 @@ use Rattle.table_bytes.proofs.Same as S
 use Rattle.number_rules.specs.NumberRules.{numbersMean, numbersHaveMeaning}
 use Rattle.number_rules.proofs.Walks.{and-true}
 use Rattle.number_rules.proofs.Agreement.{all-same, all-read, pairwise-read, wanted-is}
-use Rattle.text_rules.specs.TextRules.{nameAt, uniqueAt, numeratorAt, denominatorAt, rowAt, numbersAt, storedIfLive, numbersStored, nameLength, sizeWithin, sizesWithinIn, textsEmpty, emptyIfFree, freeTextsEmpty, isKnownAt, namesApartAt, functionsDistinctIn, knownIfWanted, functionsAsDefinedIn, uniquesApartAt, uniquesDistinctIn}
+use Rattle.text_rules.specs.TextRules.{nameAt, uniqueAt, numeratorAt, denominatorAt, rowAt, numbersAt, storedIfLive, numbersStored, nameLength, sizeWithin, sizesWithinIn, textsEmpty, emptyIfFree, freeTextsEmpty, isKnownAt, namesApartAt, functionsDistinctIn, knownIfWanted, functionsAsDefinedIn, uniquesApartBy, uniquesApartAt, uniquesDistinctIn}
 use Rattle.text_rules.proofs.Texts.{text-within, text-clean}
 
 -- ---- any text of a place fits it
@@ -164,7 +164,7 @@ module _ (n : ℕ) (b : Bytes) where
       (λ k h. let e : 0 + k ≡ k = omega arith in rw (e, wanted-is t k, function-at k (rw l at h)))
 
   uniques-apart : (p k : ℕ) → p < 32 → k < 32 → uniquesApartAt b (rowsOf (tableOf n b)) p k ≡ uniquesApart (jobIn b p) (jobIn b k)
-  unfolding uniquesApartAt uniqueAt
+  unfolding uniquesApartBy uniqueAt
   uniques-apart p k h l = rw (row-at p h, row-at k l)
 
   pub uniques-distinct : uniquesDistinctIn b (rowsOf (tableOf n b)) ≡ uniquesDistinct (tableOf n b)

@@ -2,7 +2,7 @@
 use Prim.Native.Nat.{ℕ, suc, _+_, _-_, _*_, _<_, _≤_}
 use mathlib.Core.Path.{_≡_, refl, sym, ap, _∙_}
 use mathlib.Core.Bool.{Bool, true, false, not, cond, _&&_, _||_, true≢false}
-use mathlib.Core.List.{List, [], _∷_}
+use mathlib.Core.List.{[], _∷_}
 use native.Mathlib.Omega.{arith}
 use borrow.Author.Tests.{lt-ltb, le-ltb, eq-eqb, ne-eqb, not-true, not-false}
 use lib.ListN.{length, take, drop, length-take}
@@ -13,7 +13,7 @@ use Rattle.octets.proofs.Strings.{zero-le-length}
 use Rattle.server.specs.declared.JobRow.{JobRow}
 use Rattle.server.specs.Table.{live}
 use Rattle.server.specs.Layout.{textAt}
-use Rattle.text_rules.specs.TextRules.{nameAt, uniqueAt, nameLength, rowAt, uniquesApartAt}
+use Rattle.text_rules.specs.TextRules.{nameAt, uniqueAt, nameLength, uniquesApartBy}
 
 -- ---- what stands before the first zero byte
 
@@ -87,18 +87,14 @@ apart-then true true c false e h = absurd (true≢false (sym h))
 apart-then true false c d e h = absurd (true≢false (sym h))
 apart-then false b c d e h = absurd (true≢false (sym h))
 
-pub uniques-skip : (b : Bytes) (rs : List JobRow) (p k : ℕ)
-    → not (live (rowAt rs p) && (live (rowAt rs k) && eqb (rowAt rs p .function) (rowAt rs k .function))) ≡ true → true ≡ uniquesApartAt b rs p k
-unfolding uniquesApartAt
-uniques-skip b rs p k h =
-    sym (apart-before (live (rowAt rs p)) (live (rowAt rs k)) (not (same (uniqueAt b p) [])) (eqb (rowAt rs p .function) (rowAt rs k .function))
-    (same (uniqueAt b p) (uniqueAt b k)) (not-true _ h))
+pub uniques-skip : (b : Bytes) (row other : JobRow) (p k : ℕ) → not (live row && (live other && eqb (row .function) (other .function))) ≡ true → true ≡ uniquesApartBy b row other p k
+unfolding uniquesApartBy
+uniques-skip b row other p k h =
+    sym (apart-before (live row) (live other) (not (same (uniqueAt b p) [])) (eqb (row .function) (other .function)) (same (uniqueAt b p) (uniqueAt b k)) (not-true _ h))
 
-pub uniques-compared : (b : Bytes) (rs : List JobRow) (p k n : ℕ) (s w : Bytes) (e : Bool)
-    → not (live (rowAt rs p) && (live (rowAt rs k) && eqb (rowAt rs p .function) (rowAt rs k .function))) ≡ false
-    → n ≡ length (uniqueAt b p) → s ≡ uniqueAt b p → w ≡ uniqueAt b k → e ≡ same s w → eqb n 0 || not e ≡ uniquesApartAt b rs p k
-unfolding uniquesApartAt
-uniques-compared b rs p k n s w e h l f g q =
+pub uniques-compared : (b : Bytes) (row other : JobRow) (p k n : ℕ) (s w : Bytes) (e : Bool) → not (live row && (live other && eqb (row .function) (other .function))) ≡ false
+    → n ≡ length (uniqueAt b p) → s ≡ uniqueAt b p → w ≡ uniqueAt b k → e ≡ same s w → eqb n 0 || not e ≡ uniquesApartBy b row other p k
+unfolding uniquesApartBy
+uniques-compared b row other p k n s w e h l f g q =
     rw (l, empty-is (uniqueAt b p), q, f, g)
-    (sym (apart-then (live (rowAt rs p)) (live (rowAt rs k)) (same (uniqueAt b p) []) (eqb (rowAt rs p .function) (rowAt rs k .function))
-    (same (uniqueAt b p) (uniqueAt b k)) (not-false _ h)))
+    (sym (apart-then (live row) (live other) (same (uniqueAt b p) []) (eqb (row .function) (other .function)) (same (uniqueAt b p) (uniqueAt b k)) (not-false _ h)))

@@ -85,10 +85,13 @@ functionsAsDefinedIn b ables rs = all (knownIfWanted b ables rs) (numbers 0 16)
 
 -- ---- uniques
 
-unfoldable pub uniquesApartAt : Bytes → List JobRow → ℕ → ℕ → Bool
-uniquesApartAt b rs p k =
-    not (live (rowAt rs p) && (live (rowAt rs k) && (not (same (uniqueAt b p) [])
-    && (eqb (rowAt rs p .function) (rowAt rs k .function) && same (uniqueAt b p) (uniqueAt b k)))))
+-- the jobs at places p and k, whose rows these are
+unfoldable pub uniquesApartBy : Bytes → JobRow → JobRow → ℕ → ℕ → Bool
+uniquesApartBy b row other p k =
+    not (live row && (live other && (not (same (uniqueAt b p) []) && (eqb (row .function) (other .function) && same (uniqueAt b p) (uniqueAt b k)))))
+
+abbrev pub uniquesApartAt : Bytes → List JobRow → ℕ → ℕ → Bool
+uniquesApartAt b rs p k = uniquesApartBy b (rowAt rs p) (rowAt rs k) p k
 
 -- the job at place p and each later one
 unfoldable pub uniqueApartFrom : Bytes → List JobRow → ℕ → Bool

@@ -5,7 +5,7 @@ ghost use mathlib.Core.Bool.{cond, not};
 ghost use Prim.Native.Nat.{_<_, _≤_};
 ghost use lib.ListN.{length};
 ghost use Rattle.server.specs.Rules.{storedNumber};
-ghost use Rattle.text_rules.specs.TextRules.{denominatorAt, freeTextsEmpty, functionsAsDefinedIn, functionsDistinctIn, isKnownAt, nameApartFrom, nameAt, nameLength, namesApartAt, numbersAt, numbersStored, numeratorAt, sizesWithinIn, textsEmpty, uniqueApartFrom, uniqueAt, uniquesApartAt, uniquesDistinctIn};
+ghost use Rattle.text_rules.specs.TextRules.{denominatorAt, freeTextsEmpty, functionsAsDefinedIn, functionsDistinctIn, isKnownAt, nameApartFrom, nameAt, nameLength, namesApartAt, numbersAt, numbersStored, numeratorAt, sizesWithinIn, textsEmpty, uniqueApartFrom, uniqueAt, uniquesApartBy, uniquesDistinctIn};
 use server::JobRow;
 
 // ---- texts by place
@@ -208,12 +208,10 @@ pub fn functions_as_defined(table: &[u8], able: [u32; 16], rows: [JobRow; 32]) -
 // ---- uniques
 
 // Whether the jobs at the two places, if both are live, differ in function or unique, or the first has no unique.
-fn uniques_apart(table: &[u8], rows: [JobRow; 32], p: usize, k: usize) -> bool
+fn uniques_apart(table: &[u8], row: JobRow, other: JobRow, p: usize, k: usize) -> bool
     requires { ⌜ (3796 ≤ length (now table)) × ((p < 32) × (k < 32)) ⌝ }
-    ensures { λ r. ⌜ r ≡ uniquesApartAt (now (table .entry)) rows p k ⌝ }
+    ensures { λ r. ⌜ r ≡ uniquesApartBy (now (table .entry)) row other p k ⌝ }
 {
-    let row = rows[p];
-    let other = rows[k];
     if !(searching::is_live(row) & (searching::is_live(other) & (row.function == other.function))) {
         return true;
     }
@@ -225,10 +223,11 @@ fn unique_apart_from(table: &[u8], rows: [JobRow; 32], p: usize) -> bool
     requires { ⌜ (3796 ≤ length (now table)) × (p < 32) ⌝ }
     ensures { λ r. ⌜ r ≡ uniqueApartFrom (now (table .entry)) rows p ⌝ }
 {
+    let row = rows[p];
     let mut ok = true;
     let mut k = p + 1;
     while k < 32 {
-        ok = ok & uniques_apart(table, rows, p, k);
+        ok = ok & uniques_apart(table, row, rows[k], p, k);
         k += 1;
     }
     ok

@@ -4,18 +4,6 @@ use Rattle.text_rules.proofs.Texts.{uniques-skip, uniques-compared}
 use Rattle.text_rules.proofs.uniques_apart.Statement.{statement}
 use Rattle.text_rules.proofs.uniques_apart.Tie as tie
 
-mul-row : tie.Need-mul-row
-mul-row c = search needs
-
-array-copy-out-row : tie.Need-array-copy-out-row
-array-copy-out-row c = search needs
-
-mul-other : tie.Need-mul-other
-mul-other c = search needs
-
-array-copy-out-other : tie.Need-array-copy-out-other
-array-copy-out-other c = search needs
-
 is-live-requires : tie.Need-is-live-requires
 is-live-requires c κs = search needs
 
@@ -24,7 +12,7 @@ is-live-requires-2 c κs = search needs
 
 returns : tie.Need-returns
 returns c =
-    uniques-skip _ _ _ _ (rw (c .before .before .before .before .is-live .ensures, c .before .before .before .is-live2 .ensures) at (c .if1 .taken))
+    uniques-skip _ _ _ _ _ (rw (c .before .before .before .before .is-live .ensures, c .before .before .before .is-live2 .ensures) at (c .if1 .taken))
 
 unique-length-requires : tie.Need-unique-length-requires
 unique-length-requires c κs = search needs
@@ -41,17 +29,13 @@ equal-requires c κs = search needs
 returns-2 : tie.Need-returns-2
 returns-2 c =
     let r = c .before .before .before .before in
-    uniques-compared _ _ _ _ _ _ _ _ (rw (r .before .before .before .before .is-live .ensures, r .before .before .before .is-live2 .ensures) at (r .if1 .left))
+    uniques-compared _ _ _ _ _ _ _ _ _ (rw (r .before .before .before .before .is-live .ensures, r .before .before .before .is-live2 .ensures) at (r .if1 .left))
     (c .before .before .before .unique-length .ensures .0) (c .before .before .unique .ensures) (c .before .unique2 .ensures) (c .equal .ensures)
 
 pub uniques-apart-spec : {M : Type 1} → statement M
 uniques-apart-spec =
     tie.close
     (tie.spec
-    mul-row
-    array-copy-out-row
-    mul-other
-    array-copy-out-other
     is-live-requires
     is-live-requires-2
     returns
