@@ -4,12 +4,14 @@ use lines::Line;
 ghost use mathlib.Core.Path.{_≡_};
 ghost use Rattle.input.specs.Reading.{hasLine, start};
 
-// Where reading stands: the line under way, the next place in the chunk and the chunk's end, and whether the input is over.
+// Where reading stands: the line under way, the next place in the chunk and the chunk's end, whether the input is over, and whether
+// that is because reading failed.
 pub struct Input {
     pub line: Line,
     pub at: usize,
     pub end: usize,
     pub over: bool,
+    pub failed: bool,
 }
 
 // Nothing is read yet.
@@ -22,6 +24,7 @@ pub fn start() -> Input
         at: 0,
         end: 0,
         over: false,
+        failed: false,
     }
 }
 
@@ -33,6 +36,7 @@ fn begun(input: Input) -> Input {
         at: input.at,
         end: input.end,
         over: input.over,
+        failed: input.failed,
     }
 }
 
@@ -50,6 +54,7 @@ fn fed(input: Input, chunk: &[u8], buffer: &mut [u8]) -> Input {
         at: at,
         end: input.end,
         over: input.over,
+        failed: input.failed,
     }
 }
 
@@ -62,6 +67,7 @@ fn refilled(input: Input, chunk: &mut [u8]) -> Input {
         at: 0,
         end: io::count(got, chunk),
         over: got <= 0,
+        failed: got < 0,
     }
 }
 
@@ -84,11 +90,14 @@ pub fn next(input: Input, chunk: &mut [u8], buffer: &mut [u8]) -> Input {
     now
 }
 
-// Whether a line has come: its line feed, or some of it where the input is over.
+// Whether a line has come: its line feed, or some of it where the input is over. What came of a line before reading failed is none.
 pub fn has_line(input: Input) -> bool
     ensures { λ r. ⌜ r ≡ hasLine input ⌝ }
 {
     let line = input.line;
+    if input.failed {
+        return false;
+    }
     if input.over {
         return lines::is_open(line);
     }

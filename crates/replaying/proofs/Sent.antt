@@ -1,0 +1,90 @@
+-- What a call leaves in the output is addressed packets, one after the other: those that it sends. Assumes nothing.
+use Prim.Native.Nat.{_+_, _^_, _<_, _≤_}
+use mathlib.Core.Path.{_≡_, refl, ap, _∙_}
+use mathlib.Core.Bool.{Bool, true, false, not, cond, _||_}
+use mathlib.Core.List.{List, [], _∷_, _++_, map}
+use native.Mathlib.Omega.{arith}
+use lib.ListN.{length, take, length-append}
+use lib.Seq.{take-append-seam}
+use Rattle.octets.specs.Bytes.{Bytes, numberAt}
+use Rattle.octets.proofs.Strings.{number-written}
+use Rattle.octets.proofs.Laying.{put-start, length-put}
+use Rattle.packet.specs.Packet.{packet}
+use Rattle.server.specs.Lists.{concat}
+use Rattle.server.specs.Asked.{Event}
+use Rattle.server.specs.Server.{Sent, addressed, answer}
+use Rattle.server.specs.Call.{Result, outputSize, serverIn, tooShort, isSound, sentBytes, refusedBy, performed, call}
+use Rattle.calls.proofs.Refusals.{taken}
+use Rattle.calls.proofs.Output.{output-fits}
+use Rattle.calls.proofs.EveryCall.{taken-running}
+use Rattle.replaying.specs.Packets.{packetLength, Addressed, Packed, packetsIn}
+use Rattle.replaying.specs.Replayed.{sentPackets}
+use Rattle.replaying.proofs.Cutting.{packets-in}
+
+-- ---- one packet
+
+sent-formed : (p : Sent) → length (addressed p) < 2 ^ 32 → length (addressed p) ≡ packetLength (addressed p)
+unfolding packet
+sent-formed p h =
+    let d = p .shown ++ p .opaquePart in
+    let n : numberAt (addressed p) 9 ≡ length d = number-written (length d) d (omega arith) in
+    rw n (omega arith)
+
+pub all-formed : (ps : List Sent) → length (concat (map addressed ps)) < 2 ^ 32 → Addressed (map addressed ps)
+all-formed [] h = tt
+all-formed (p ∷ ps) h =
+    let l = length-append (addressed p) (concat (map addressed ps)) in
+    (sent-formed p (omega arith), all-formed ps (omega arith))
+
+-- ---- what a call leaves
+
+record Answered (r : Result) (ps : List Bytes) : Type 0 where
+  formed : Addressed ps
+  whole : take (r .length′) (r .output) ≡ concat ps
+  inside : r .length′ ≤ length (r .output)
+  few : r .length′ ≤ outputSize
+
+module _ (e : Event) (t w o : Bytes) where
+  answered-refused : Answered (refusedBy 1 t w o) []
+  unfolding refusedBy
+  answered-refused = record { formed = tt; whole = refl; inside = omega arith; few = omega arith }
+
+  answered-performed : tooShort 16 t w o || not (isSound 16 t) ≡ false → Answered (performed e (serverIn 16 t w) t w o) (map addressed (answer e (serverIn 16 t w) .sent))
+  unfolding performed sentBytes
+  answered-performed q =
+      let k = taken 16 t w o q in
+      let s = sentBytes (answer e (serverIn 16 t w) .sent) in
+      let f : length s ≤ outputSize = output-fits 16 (omega arith) e (serverIn 16 t w) (taken-running 16 t w o k) in
+      let l : length s ≤ length o = omega (arith, k .longOutput) in
+      record {
+        formed = all-formed (answer e (serverIn 16 t w) .sent) (omega (arith, f));
+        whole = ap (take (length s)) (put-start s o l) ∙ take-append-seam s _;
+        inside = rw length-put l;
+        few = f;
+      }
+
+  answered : Answered (call 16 e t w o) (sentPackets 16 e t w o)
+  unfolding call sentPackets
+  answered = go (tooShort 16 t w o || not (isSound 16 t)) refl
+    where
+      go : (b : Bool) → tooShort 16 t w o || not (isSound 16 t) ≡ b
+          → Answered (cond b (refusedBy 1 t w o) (performed e (serverIn 16 t w) t w o)) (cond b [] (map addressed (answer e (serverIn 16 t w) .sent)))
+      go true q = answered-refused
+      go false q = answered-performed q
+
+  -- as a caller knows it: the length and the output that the call left
+  module _ (r : Result) (q : r ≡ call 16 e t w o) where
+    known : Answered r (sentPackets 16 e t w o)
+    known = rw q answered
+
+    pub call-inside : r .length′ ≤ length (r .output)
+    call-inside = known .inside
+
+    pub call-few : r .length′ ≤ outputSize
+    call-few = known .few
+
+    pub call-packed : Packed (take (r .length′) (r .output))
+    call-packed = record { packets = sentPackets 16 e t w o; formed = known .formed; whole = known .whole }
+
+    pub call-packets : packetsIn (take (r .length′) (r .output)) ≡ sentPackets 16 e t w o
+    call-packets = packets-in _ (sentPackets 16 e t w o) (known .formed) (known .whole)

@@ -1,0 +1,42 @@
+-- `replaying::step` meets its contract: a text that is too short, or the frame of the line and the reply to it. Assumes nothing.
+use Rattle.replaying.proofs.Replies.{short-text, line-replied}
+use borrow.Author.Needs.{needs}
+use Rattle.replaying.proofs.step.Statement.{statement}
+use Rattle.replaying.proofs.step.Tie as tie
+
+returns : tie.Need-returns
+returns c = short-text _ _ _ _ _ (c .if1 .taken)
+
+read-frame-requires : tie.Need-read-frame-requires
+read-frame-requires c κs = search needs
+
+reply-requires : tie.Need-reply-requires
+reply-requires c κs = (c .before .before .before .before .before .read-frame .ensures .1, c .before .before .before .before .before .before .before .if1 .left)
+
+same-length : tie.Need-same-length
+same-length c = search needs
+
+same-length-2 : tie.Need-same-length-2
+same-length-2 c = search needs
+
+same-length-3 : tie.Need-same-length-3
+same-length-3 c = search needs
+
+same-length-4 : tie.Need-same-length-4
+same-length-4 c = search needs
+
+returns-2 : tie.Need-returns-2
+returns-2 c = line-replied _ _ _ _ _ _ _ (c .before .before .before .before .before .before .before .before .before .before .before .before .before .before .before .before .if1 .left) (c .before .before .before .before .before .before .before .before .before .before .before .before .before .before .read-frame .ensures .0) (c .before .before .before .before .before .before .before .before .reply .ensures)
+
+pub step-spec : {M : Type 1} → statement M
+step-spec =
+    tie.close
+    (tie.spec
+    returns
+    read-frame-requires
+    reply-requires
+    same-length
+    same-length-2
+    same-length-3
+    same-length-4
+    returns-2)

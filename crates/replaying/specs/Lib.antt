@@ -1,0 +1,4 @@
+pub mod Frames
+pub mod Packets
+pub mod Replayed
+pub mod Spoken
