@@ -19,7 +19,7 @@ pub enum Serial {
 }
 
 // Lays a number in decimal, in at most `most` digits, over `out` from `at` on, and returns the place after it.
-fn put_digits(out: &mut [u8], at: usize, number: u32, most: usize) -> usize
+pub fn put_digits(out: &mut [u8], at: usize, number: u32, most: usize) -> usize
     requires { ⌜ at + most ≤ length (now out) ⌝ }
     ensures { λ r. ⌜ (r ≡ at + length (decimalIn most number)) × (r ≤ at + most) × (now (out .exit) ≡ put at (decimalIn most number) (now (out .entry))) ⌝ }
 {

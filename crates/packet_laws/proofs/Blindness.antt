@@ -31,7 +31,7 @@ starts-front f r [] h = refl
 starts-front [] r (y ∷ p) h = absurd (not-suc-le-zero h)
 starts-front (x ∷ f) r (y ∷ p) h = rw (starts-front f r p (le-of-suc-le-suc h))
 
-number-front : (f r : Bytes) (at : ℕ) → at + 3 < length f → numberAt (f ++ r) at ≡ numberAt f at
+pub number-front : (f r : Bytes) (at : ℕ) → at + 3 < length f → numberAt (f ++ r) at ≡ numberAt f at
 number-front f r at h =
     let g : (i : ℕ) → i < length f → getD (f ++ r) i 0 ≡ getD f i 0 = List·getD-append f r 0 in
     rw (g at (omega arith), g (at + 1) (omega arith), g (at + 2) (omega arith), g (at + 3) (omega arith))

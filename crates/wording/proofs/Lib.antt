@@ -1,0 +1,6 @@
+pub mod Seen
+pub mod Arguments
+pub mod Said
+pub mod Bounds
+pub mod Blind
+pub mod Examples
