@@ -1,17 +1,17 @@
 -- Events, packets and answers that differ in opaque bytes alone: same addresses, types, lengths and other bytes. Of two such events
 -- the server decides the same at equal tables, and the packets sent differ in opaque bytes alone. Assumes nothing.
-use Prim.Native.Nat.{ℕ, zero, suc, _+_}
+use Prim.Native.Nat.{ℕ, _+_}
 use mathlib.Core.Path.{_≡_, refl, ap, ap₂, sym, _∙_}
-use mathlib.Core.List.{[], _∷_, _++_}
+use mathlib.Core.List.{_∷_, _++_}
 use lib.ListN.{length, drop, length-append}
 use Rattle.octets.specs.Bytes.{Bytes, bigEndian}
 use Rattle.packet.specs.Packet.{packet, requests, responses}
 use Rattle.packet.specs.Opaque.{visible, opaque, masked}
-use Rattle.server.specs.Lists.{fit}
 use Rattle.server.specs.Table.{Table}
 use Rattle.server.specs.Asked.{Event, opens, closes, sends, connectionOf, asked}
 use Rattle.server.specs.Events.{Send, plain, copy, assign}
 use Rattle.server.specs.Server.{Server, Sent, Answer, shownBy, opaqueOf, render, addressed, decided}
+use Rattle.server.proofs.Lists.{length-fit}
 use Rattle.outcomes.proofs.Cases.{All2}
 
 -- ---- what it is to differ in opaque bytes alone
@@ -57,11 +57,6 @@ unfolding bytesBefore
 like-before p q l =
     let n : length (p .shown ++ p .opaquePart) ≡ length (q .shown ++ q .opaquePart) = length-append (p .shown) _ ∙ ap₂ _+_ (ap length (l .shown)) (l .size) ∙ sym (length-append (q .shown) _) in
     rw (n, l .to, l .kind, l .shown)
-
-length-fit : (n : ℕ) (xs : Bytes) → length (fit n xs) ≡ n
-length-fit zero xs = refl
-length-fit (suc n) [] = ap suc (length-fit n [])
-length-fit (suc n) (x ∷ xs) = ap suc (length-fit n xs)
 
 -- ---- what two events ask and show, if they are alike
 

@@ -26,12 +26,12 @@ use Rattle.server.specs.Rules.{textWithin, storedNumber, together}
 use Rattle.server.specs.Asked.{Event, Asked, connectionOf, asked}
 use Rattle.server.specs.Events.{Send, plain, copy, assign, Decision, refuse, settle, noop, dropped, toWake, hears, listenersOf}
 use Rattle.server.specs.Server.{Server, Sent, render, decided, answer}
+use Rattle.server.proofs.Lists.{length-fit}
 use Rattle.outcomes.proofs.Cases.{All, cond-both, all-append, all-map, all-any}
 use Rattle.outcomes.proofs.Outcome.{Change, Outcome, outcome}
 use Rattle.rules_kept.proofs.Rows.{implies-use, all-at, all-row}
 use Rattle.rules_kept.proofs.Going.{best-found}
 use Rattle.rules_kept.proofs.Obeyed.{obeyed}
-use Rattle.table_bytes.proofs.Fields.{length-fit}
 use Rattle.calls.proofs.Follows.{Running}
 use Rattle.blindness.proofs.Alike.{bytesBefore, addressed-is}
 use Rattle.byte_blindness.proofs.Forwarded.{Forwarded, work-forwarded, echo-forwarded}

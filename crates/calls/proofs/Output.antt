@@ -23,14 +23,13 @@ use Rattle.server.specs.Asked.{Event, Work, Asked, echo, work, getStatus, conne
 use Rattle.server.specs.Events.{Send, plain, copy, assign, Decision, errorTexts, refuse, settle, dropped, wakes, toWake, noop, created, exceptionsName, flag, hears, listenersOf, worked, statusAt, served, admitted, decide}
 use Rattle.server.specs.Server.{Server, shownBy, opaqueOf, render, decided, answer}
 use Rattle.server.specs.Call.{outputSize, sentBytes}
+use Rattle.server.proofs.Lists.{length-numbers, length-fit}
 use Rattle.outcomes.proofs.Cases.{cond-both}
 use Rattle.outcomes.proofs.Outcome.{Change, Outcome, outcome}
 use Rattle.rules_kept.proofs.Rows.{all-at, found}
 use Rattle.rules_kept.proofs.Lengths.{long-settle, long-decided}
 use Rattle.rules_kept.proofs.Going.{best-found}
 use Rattle.rules_kept.proofs.Obeyed.{obeyed}
-use Rattle.table_bytes.proofs.Fields.{length-fit}
-use Rattle.table_bytes.proofs.Columns.{length-numbers}
 use Rattle.calls.proofs.Refusals.{short-at}
 use Rattle.calls.proofs.Follows.{Running, fitting}
 use Rattle.calls.proofs.Quiet.{worker-wakes-nobody}

@@ -11,9 +11,10 @@ use Rattle.octets.specs.Put.{over, put}
 use Rattle.octets.proofs.Laying.{put-start}
 use Rattle.server.specs.Lists.{fit, concat, numbers}
 use Rattle.server.specs.Layout.{column}
+use Rattle.server.proofs.Lists.{length-fit}
 use Rattle.outcomes.proofs.Cases.{All}
 use Rattle.table_bytes.specs.Tests.{part}
-use Rattle.table_bytes.proofs.Fields.{Lies, lies-part, length-fit}
+use Rattle.table_bytes.proofs.Fields.{Lies, lies-part}
 use Rattle.table_bytes.proofs.Columns.{places-are, column-lies}
 use Rattle.table_bytes.proofs.Same.{part-add}
 use Rattle.table_bytes.proofs.Image.{put-own}

@@ -12,8 +12,8 @@ use Rattle.octets.specs.Put.{put}
 use Rattle.octets.proofs.Laying.{put-next}
 use Rattle.server.specs.Lists.{fit}
 use Rattle.server.specs.Layout.{column}
+use Rattle.server.proofs.Lists.{length-fit}
 use Rattle.texts.specs.Places.{putWhere}
-use Rattle.table_bytes.proofs.Fields.{length-fit}
 use Rattle.rows.proofs.Bytes.{put-front}
 
 -- a run laid over one of its own length, in the middle of a longer run

@@ -10,8 +10,8 @@ use Rattle.octets.specs.Put.{put}
 use Rattle.server.specs.Lists.{fit}
 use Rattle.server.specs.Table.{Function, Job, Table}
 use Rattle.server.specs.Layout.{column, bytesOf}
+use Rattle.server.proofs.Lists.{length-fit}
 use Rattle.texts.specs.Places.{putWhere}
-use Rattle.table_bytes.proofs.Fields.{length-fit}
 use Rattle.table_bytes.proofs.Columns.{length-column}
 use Rattle.plans.specs.declared.Values.{Values}
 use Rattle.plans.specs.Values.{valuesOf}

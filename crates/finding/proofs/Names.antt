@@ -15,7 +15,8 @@ use Rattle.server.specs.Table.{Function, noFunction, functionAt, known, roomFor
 use Rattle.server.specs.Rules.{textWithin}
 use Rattle.server.specs.Layout.{namesAt, tableOf, bytesOf, functionIn, jobIn, isImage}
 use Rattle.server.specs.Call.{isSound}
-use Rattle.table_bytes.proofs.Fields.{Lies, lies-part, length-fit, beforeZero, fit-text}
+use Rattle.server.proofs.Lists.{length-fit}
+use Rattle.table_bytes.proofs.Fields.{Lies, lies-part, beforeZero, fit-text}
 use Rattle.table_bytes.proofs.Columns.{length-places, places-at, column-lies}
 use Rattle.table_bytes.proofs.Laid.{laid}
 use Rattle.table_bytes.proofs.Image.{image-is}

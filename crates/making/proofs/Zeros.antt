@@ -1,18 +1,17 @@
 -- A fresh table's bytes are zeros, column by column. Assumes nothing.
 use Prim.Native.Nat.{ℕ, zero, suc, _+_, _*_}
-use mathlib.Core.Path.{_≡_, refl, sym, ap, ap₂, _∙_}
+use mathlib.Core.Path.{_≡_, refl, ap, ap₂, _∙_}
 use mathlib.Core.List.{[], _∷_, _++_}
 use native.Mathlib.Nat.{mul-suc, mul-zero}
 use native.Mathlib.Omega.{arith}
 use lib.ListN.{replicate, replicate-append-replicate}
 use Rattle.octets.specs.Bytes.{Bytes}
 use Rattle.octets.specs.Put.{put}
-use Rattle.octets.proofs.Laying.{put-none}
 use Rattle.server.specs.Lists.{fit}
 use Rattle.server.specs.Table.{Table, closed, noFunction, noJob, fresh}
 use Rattle.server.specs.Layout.{little, column, tableSize, bytesOf}
+use Rattle.server.proofs.Lists.{fit-none}
 use Rattle.texts.specs.Places.{zeros}
-use Rattle.texts.proofs.Padding.{laid-over-zeros}
 
 -- ---- one field
 
@@ -24,7 +23,7 @@ little-zeros (suc k) = ap (λ (l : Bytes). 0 ∷ l) (little-zeros k)
 -- the empty text in its place
 text-zeros : (k : ℕ) → fit k [] ≡ zeros k
 unfolding zeros
-text-zeros k = sym (laid-over-zeros k [] (omega arith)) ∙ put-none 0 (replicate k 0)
+text-zeros k = fit-none k
 
 pub text-laid : (x b : Bytes) (k : ℕ) → x ≡ put 0 (fit k []) b → x ≡ put 0 (zeros k) b
 text-laid x b k e = e ∙ ap (λ (s : Bytes). put 0 s b) (text-zeros k)

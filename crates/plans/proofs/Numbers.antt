@@ -28,10 +28,6 @@ use Rattle.plans.specs.Settling.{droppedRows, wakesIn, wokenIn, toWakeIn
 
 -- ---- lists: the numbers from i on, and rows of jobs
 
-pub length-numbers : (i n : ℕ) → length (numbers i n) ≡ n
-length-numbers i zero = refl
-length-numbers i (suc n) = ap suc (length-numbers (suc i) n)
-
 -- what is made from each of the numbers below n
 pub number-made : {A : Type 0} (f : ℕ → A) (d : A) (i n k : ℕ) → k < n → getD (map f (numbers i n)) k d ≡ f (i + k)
 number-made f d i zero k h = absurd (omega arith)

@@ -18,6 +18,7 @@ use Rattle.server.specs.Lists.{fit, concat, numbers}
 use Rattle.server.specs.Table.{noRow}
 use Rattle.server.specs.Server.{reworked}
 use Rattle.server.specs.Call.{placeOf}
+use Rattle.server.proofs.Lists.{fit-none}
 use Rattle.outcomes.proofs.Cases.{All}
 use Rattle.table_bytes.specs.Tests.{part}
 use Rattle.table_bytes.proofs.Columns.{length-places, places-at}
@@ -28,11 +29,6 @@ use Rattle.reworking.specs.Reworked.{reworkedRows}
 use Rattle.reworking.proofs.Rows.{length-reworked, whole-reworked, reworked-at}
 
 -- ---- runs
-
--- a place without a text
-fit-none : (k : ℕ) → fit k [] ≡ replicate k 0
-fit-none zero = refl
-fit-none (suc k) = ap (λ (l : Bytes). 0 ∷ l) (fit-none k)
 
 -- a buffer's own bytes, laid right after a run, change nothing
 put-kept : (k : ℕ) (s b : Bytes) → put 0 (s ++ part k b (length s)) b ≡ put 0 s b

@@ -1,16 +1,16 @@
 -- No event changes how many connections, functions, jobs and workloads there are, nor a workload's 1,024 bytes. Assumes nothing.
-use Prim.Native.Nat.{ℕ, zero, suc}
+use Prim.Native.Nat.{ℕ, suc}
 use mathlib.Core.Path.{_≡_, refl, ap, _∙_}
 use mathlib.Core.List.{List, [], _∷_}
 use lib.ListN.{length, length-set, length-map, length-replicate}
 use lib.Dec.{eqb}
 use Rattle.octets.specs.Bytes.{Bytes}
 use Rattle.server.specs.declared.JobRow.{JobRow}
-use Rattle.server.specs.Lists.{fit}
 use Rattle.server.specs.Table.{Job, Table, closed, live}
 use Rattle.server.specs.Asked.{Event, Asked, connectionOf, asked}
 use Rattle.server.specs.Events.{Send, Decision, refuse, settle, dropped, woken, forgot, unlessLost, opening, closing, unable, leftBy, unableToAll, sleeping}
 use Rattle.server.specs.Server.{Server, reworked, rework, decided, next, opaqueOf}
+use Rattle.server.proofs.Lists.{length-fit}
 use Rattle.outcomes.proofs.Cases.{cond-both, All}
 use Rattle.outcomes.proofs.Outcome.{Change, Outcome, outcome}
 use Rattle.rules_kept.proofs.Rows.{length-mapFrom}
@@ -57,23 +57,18 @@ long-decided e t = long-outcome (connectionOf e) t (outcome (connectionOf e) (as
 
 -- ---- workloads
 
-length-fit : (n : ℕ) (xs : Bytes) → length (fit n xs) ≡ n
-length-fit zero xs = refl
-length-fit (suc n) [] = ap suc (length-fit n [])
-length-fit (suc n) (x ∷ xs) = ap suc (length-fit n xs)
-
 abbrev pub Whole : Bytes → Type 0
 Whole w = length w ≡ 1024
 
-whole-reworked : (j k : JobRow) (o w : Bytes) → Whole w → Whole (reworked j k o w)
-whole-reworked j k o w e =
+pub whole-place : (j k : JobRow) (o w : Bytes) → Whole w → Whole (reworked j k o w)
+whole-place j k o w e =
     cond-both Whole (eqb (j .serial) (k .serial)) e (cond-both Whole (live k) (length-fit 1024 o) (length-replicate {A = ℕ} 1024 0))
 
 whole-rework : (js ks : List Job) (o : Bytes) {ws : List Bytes} → All Whole ws → All Whole (rework js ks o ws)
 whole-rework [] ks o e = e
 whole-rework (j ∷ js) [] o e = e
 whole-rework (j ∷ js) (k ∷ ks) o All.none = All.none
-whole-rework (j ∷ js) (k ∷ ks) o (All.more e es) = All.more (whole-reworked (j .row) (k .row) o _ e) (whole-rework js ks o es)
+whole-rework (j ∷ js) (k ∷ ks) o (All.more e es) = All.more (whole-place (j .row) (k .row) o _ e) (whole-rework js ks o es)
 
 length-rework : (js ks : List Job) (o : Bytes) (ws : List Bytes) → length (rework js ks o ws) ≡ length ws
 length-rework [] ks o ws = refl

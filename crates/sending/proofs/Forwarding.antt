@@ -53,11 +53,6 @@ served-below p ends k e =
     let r = read-answer (read requests p) k ends e in
     below-served k (ltb k 37) refl (read-got requests p k (r .0) (r .1) .own)
 
--- an echo answers by type 17 what came by type 16
-pub echo-forwards : (p : Bytes) (ends : Ends) → answerOf (read requests p) ≡ RV.Packet 16 ends → Forwards p ends 17
-unfolding responseShape requestShape
-echo-forwards p ends e = read-forwards p ends 16 17 e refl
-
 -- what a worker says of its job goes out by the type by which it came
 told : ℕ → Asked → Bool
 told k toOpen = true

@@ -23,10 +23,6 @@ pub message-length : (to kind : ℕ) (d : Bytes) → length (message to kind d) 
 unfolding message packet
 message-length to kind d = omega arith
 
--- no packet that may be sent has more than 1,101 bytes
-pub sendable-short : (to kind : ℕ) (as′ : List Bytes) → Sendable kind as′ → length (message to kind (join as′)) ≤ 1101
-sendable-short to kind as′ s = omega (arith, message-length to kind (join as′), s .limited)
-
 -- a part that runs to the end and comes back with s over its start
 tail-back : (k : ℕ) (s b : Bytes) → k ≤ length b → take k b ++ (put 0 s (take (length b - k) (drop k b)) ++ drop (length b - k) (drop k b)) ≡ put k s b
 unfolding put

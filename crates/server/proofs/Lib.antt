@@ -1,3 +1,4 @@
+pub mod Lists
 pub mod Histories
 pub mod Edge
 pub mod Mistakes

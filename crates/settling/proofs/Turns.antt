@@ -14,9 +14,10 @@ use Rattle.server.specs.declared.JobRow.{JobRow}
 use Rattle.server.specs.Lists.{numbers}
 use Rattle.server.specs.Table.{noRow, closed}
 use Rattle.server.specs.Events.{lost, awake}
+use Rattle.server.proofs.Lists.{length-numbers}
 use Rattle.rules_kept.proofs.Rows.{length-mapFrom, mapFrom-at}
 use Rattle.plans.specs.Settling.{droppedRows}
-use Rattle.plans.proofs.Numbers.{length-numbers, number-made}
+use Rattle.plans.proofs.Numbers.{number-made}
 use Rattle.settling.specs.Busy.{unions, wokenBy, markedBy}
 
 -- ---- an array filled from the front: its first i entries are those of the whole

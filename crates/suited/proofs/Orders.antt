@@ -31,7 +31,7 @@ use Rattle.plans.specs.declared.Plan.{Plan}
 use Rattle.plans.specs.declared.Order as O′
 use Rattle.plans.specs.declared.Order.the-variants as OV
 use Rattle.plans.specs.Values.{valuesOf}
-use Rattle.plans.specs.Plans.{planCanDo, planCantDo, planGrab, planNew, planJoin, planSubmit, planWork, planStatus, planOption, planServed, planFor}
+use Rattle.plans.specs.Plans.{planCanDo, planCantDo, planGrab, planNew, planJoin, planSubmit, planWork, planStatus, planOption, planServed}
 use Rattle.plans.proofs.Numbers.{best-values}
 use Rattle.planned.proofs.Decides.{Suits, for-open, for-close, for-reset, for-sleep, for-echo, for-bad, for-can, for-cannot, for-grab, for-submit, for-work, for-status, for-option}
 use Rattle.carrying.proofs.Changes.{Whole}
@@ -39,7 +39,6 @@ use Rattle.sending.specs.Messages.{Forwards}
 use Rattle.sending.proofs.Forwarding.{read-forwards, served-below, work-forwards, forward-sendable, forward-given}
 use Rattle.answering.specs.Orderly.{Orderly}
 use Rattle.suited.proofs.Requests.{wordsGiven, request-suits}
-use Rattle.suited.proofs.Served.{each-plan}
 
 -- ---- the shape of a request whose argument is answered
 
@@ -164,21 +163,7 @@ module _ (c : ℕ) (t : Table) (whole : Whole t) (p : Bytes) (places : Ends) (ki
   pub served-orderly : Orderly (planServed c (requested kind x y z) t .order) t p places kind x
   served-orderly = served-by (request-suits kind x y z) refl
 
-  pub request-orderly : Orderly (planFor c (requested kind x y z) t .order) t p places kind x
-  request-orderly = each-plan c (requested kind x y z) t Orders (λ e. served-orderly) zero-le (λ n. zero-le)
-
--- ---- the other two events send nothing themselves
-
-abbrev Silent : Plan → Type 0
-Silent p = p .order ≡ OV.Nothing
-
-pub open-silent : (c : ℕ) (t : Table) → planFor c toOpen t .order ≡ OV.Nothing
-unfolding planServed
-open-silent c t = each-plan c toOpen t Silent (λ e. refl) refl (λ n. refl)
-
-pub close-silent : (c : ℕ) (t : Table) → planFor c toClose t .order ≡ OV.Nothing
-unfolding planServed
-close-silent c t = each-plan c toClose t Silent (λ e. refl) refl (λ n. refl)
+-- ---- an event that sends nothing itself
 
 pub silent-orderly : (order : O′.Order) → order ≡ OV.Nothing → (t : Table) (p : Bytes) (places : Ends) (kind : ℕ) (h : Bytes) → Orderly order t p places kind h
 silent-orderly order e t p places kind h = rw e zero-le

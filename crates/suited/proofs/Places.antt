@@ -14,7 +14,7 @@ use Rattle.packet.specs.declared.Rule.the-variants.{Text, Digits}
 use Rattle.packet.specs.Arguments.{digits, fits}
 use Rattle.server.specs.Lists.{find}
 use Rattle.server.specs.Table.{Job, Table, noRow, noJob, live, hasHandle, roomFor, joined}
-use Rattle.server.specs.Asked.{Work, Asked, toOpen, toClose, requested}
+use Rattle.server.specs.Asked.{Work, Asked, toOpen, toClose}
 use Rattle.server.specs.Events.{exceptionsName, holdsHandle}
 use Rattle.outcomes.proofs.Cases.{cond-both}
 use Rattle.rules_kept.proofs.Rows.{found}
@@ -26,7 +26,7 @@ use Rattle.plans.specs.Plans.{planCanDo, planCantDo, planGrab, planNew, planJoi
 use Rattle.planned.proofs.Decides.{Words, Says, that-tells, that-reports, that-ends, that-throws, Suits, for-open, for-close, for-reset, for-sleep, for-echo, for-bad, for-can, for-cannot, for-grab, for-submit, for-work, for-status, for-option}
 use Rattle.carrying.proofs.Changes.{Whole}
 use Rattle.applying.specs.Fitting.{Fitting}
-use Rattle.suited.proofs.Requests.{wordsGiven, request-suits}
+use Rattle.suited.proofs.Requests.{wordsGiven}
 use Rattle.suited.proofs.Served.{each-plan}
 
 -- ---- lengths
@@ -125,12 +125,9 @@ module _ (w : Words) (c : ℕ) (t : Table) (whole : Whole t) where
   fitting {a} s g =
       each-plan c a t Fits (λ e. served-fitting (omega (arith, ltb-true c (length (t .connections)) e, whole .connections)) s g) zero-le (λ n. zero-le)
 
--- ---- requests, and the other two events
+-- ---- the events that bring no packet
 
 module _ (c : ℕ) (t : Table) (whole : Whole t) where
-  pub request-fitting : (kind : ℕ) (x y z : Bytes) → Good (requested kind x y z) → Fitting (planFor c (requested kind x y z) t .change) x y z
-  request-fitting kind x y z g = fitting (wordsGiven kind x y z) c t whole (request-suits kind x y z) g
-
   pub open-fitting : (x y z : Bytes) → Fitting (planFor c toOpen t .change) x y z
   open-fitting x y z = fitting (wordsGiven 0 x y z) c t whole for-open tt
 

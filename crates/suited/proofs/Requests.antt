@@ -14,7 +14,7 @@ use Rattle.server.specs.Asked.{Asked, bad, requested}
 use Rattle.server.specs.Events.{decide}
 use Rattle.outcomes.proofs.Cases.{All}
 use Rattle.plans.specs.declared.Plan.{Plan}
-use Rattle.plans.specs.Plans.{planServed, planFor}
+use Rattle.plans.specs.Plans.{planServed}
 use Rattle.planned.proofs.Decides.{Words, that-tells, that-reports, that-ends, that-throws, Suits, for-reset, for-sleep, for-echo, for-bad, for-can, for-cannot, for-grab, for-submit, for-work, for-status, for-option, Planned, planned}
 use Rattle.suited.proofs.Served.{served-plan}
 
@@ -45,10 +45,6 @@ module _ (kind : ℕ) (x y z : Bytes) where
       (All.more (for-work x (that-throws [] [])) (All.more (for-option x) (All.more unserved (All.more (for-work x (that-tells [] [])) (All.more (for-work x (that-tells [] []))  -- 25 to 29
       (All.more (for-grab _) (All.more unserved (All.more (for-submit _ _ _) (All.more (for-submit _ _ _) (All.more (for-submit _ _ _) All.none)))))))))))))))))))))))))))))))))))
       kind
-
-pub request-planned : (c : ℕ) (t : Table) → obeys t ≡ true → (kind : ℕ) (x y z : Bytes)
-    → Planned (wordsGiven kind x y z) c t (planFor c (requested kind x y z) t) (decide c (requested kind x y z) t)
-request-planned c t ok kind x y z = planned (wordsGiven kind x y z) c t ok (request-suits kind x y z)
 
 -- on a connection that is open
 pub served-planned : (w : Words) (c : ℕ) (t : Table) → obeys t ≡ true → ltb c (length (t .connections)) ≡ true → getD (t .connections) c closed .opened ≡ true

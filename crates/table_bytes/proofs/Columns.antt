@@ -11,13 +11,10 @@ use lib.Seq.{ext-getD}
 use Rattle.octets.specs.Bytes.{Bytes, zeroFree}
 use Rattle.server.specs.Lists.{fit, numbers}
 use Rattle.server.specs.Layout.{little, littleAt, flagByte, flagAt, textAt, column}
-use Rattle.table_bytes.proofs.Fields.{Lies, lies-left, lies-right, length-little, length-fit, little-lies, byte-lies, flag-lies, text-lies}
+use Rattle.server.proofs.Lists.{length-numbers, length-fit}
+use Rattle.table_bytes.proofs.Fields.{Lies, lies-left, lies-right, length-little, little-lies, byte-lies, flag-lies, text-lies}
 
 -- ---- lists by place
-
-pub length-numbers : (i n : ℕ) → length (numbers i n) ≡ n
-length-numbers i zero = refl
-length-numbers i (suc n) = ap suc (length-numbers (suc i) n)
 
 module _ {A : Type 0} where
   pub length-places : (g : ℕ → A) (i n : ℕ) → length (map g (numbers i n)) ≡ n

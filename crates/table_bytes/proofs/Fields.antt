@@ -13,6 +13,7 @@ use lib.Dec.{eqb}
 use Rattle.octets.specs.Bytes.{Bytes, firstZero, zeroFree}
 use Rattle.server.specs.Lists.{fit}
 use Rattle.server.specs.Layout.{little, littleAt, flagByte, flagAt, textAt}
+use Rattle.server.proofs.Lists.{length-fit}
 use Rattle.table_bytes.specs.Tests.{part}
 
 -- ---- how long a field is
@@ -21,11 +22,6 @@ pub length-little : (k n : ℕ) → length (little k n) ≡ k
 unfolding little
 length-little zero n = refl
 length-little (suc k) n = ap suc (length-little k (n / 256))
-
-pub length-fit : (k : ℕ) (s : Bytes) → length (fit k s) ≡ k
-length-fit zero s = refl
-length-fit (suc k) [] = ap suc (length-fit k [])
-length-fit (suc k) (x ∷ s) = ap suc (length-fit k s)
 
 -- ---- where bytes lie
 

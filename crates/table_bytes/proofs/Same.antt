@@ -14,9 +14,10 @@ use Rattle.octets.specs.Bytes.{Bytes, same, firstZero, every}
 use Rattle.octets.proofs.Strings.{and-both, same-refl}
 use Rattle.server.specs.Lists.{all, numbers, fit}
 use Rattle.server.specs.Layout.{column, little, littleAt, flagByte, flagAt, textAt}
+use Rattle.server.proofs.Lists.{length-fit}
 use Rattle.table_bytes.specs.Tests.{part, isZero, isFlag, isPadded, areFlags, arePadded}
 use Rattle.table_bytes.proofs.Columns.{length-places, numbers-long, flags-long, texts-long}
-use Rattle.table_bytes.proofs.Fields.{length-little, length-fit, little-again, beforeZero}
+use Rattle.table_bytes.proofs.Fields.{length-little, little-again, beforeZero}
 
 -- ---- parts
 

@@ -13,6 +13,7 @@ use Rattle.octets.specs.Put.{over, put}
 use Rattle.octets.proofs.Laying.{put-none, put-put, put-more}
 use Rattle.server.specs.Lists.{fit}
 use Rattle.server.specs.Layout.{textAt}
+use Rattle.server.proofs.Lists.{fit-none}
 use Rattle.texts.specs.Places.{zeros}
 
 -- ---- read
@@ -55,15 +56,10 @@ module _ (b : Bytes) (at : ℕ) where
 
 -- ---- laid
 
-fit-none : (width : ℕ) → zeros width ≡ fit width []
-unfolding zeros
-fit-none zero = refl
-fit-none (suc w) = ap (λ (l : Bytes). 0 ∷ l) (fit-none w)
-
 -- a text and zeros up to the width
 fit-zeros : (width : ℕ) (s : Bytes) → length s ≤ width → s ++ zeros (width - length s) ≡ fit width s
 unfolding zeros
-fit-zeros w [] h = rw sub-zero (fit-none w)
+fit-zeros w [] h = rw sub-zero (sym (fit-none w))
 fit-zeros zero (x ∷ s) h = absurd (not-suc-le-zero h)
 fit-zeros (suc w) (x ∷ s) h = rw suc-sub-suc (ap (λ (l : Bytes). x ∷ l) (fit-zeros w s (le-of-suc-le-suc h)))
 
@@ -74,7 +70,7 @@ text-laid b o p at end width s h e f g = rw (g, f, e, put-put, fit-zeros width s
 -- over zeros
 pub laid-over-zeros : (width : ℕ) (s : Bytes) → length s ≤ width → put 0 s (replicate width 0) ≡ fit width s
 unfolding put over zeros
-laid-over-zeros w [] h = fit-none w
+laid-over-zeros w [] h = sym (fit-none w)
 laid-over-zeros zero (x ∷ s) h = absurd (not-suc-le-zero h)
 laid-over-zeros (suc w) (x ∷ s) h = ap (λ (l : Bytes). x ∷ l) (laid-over-zeros w s (le-of-suc-le-suc h))
 

@@ -50,11 +50,14 @@ pub fn fresh(table: &mut [u8], workloads: &mut [u8]) -> u32 {
     unsafe { lap_fresh(table.as_mut_ptr(), table.len(), workloads.as_mut_ptr(), workloads.len()) }
 }
 
-pub fn open(table: &mut [u8], workloads: &mut [u8], output: &mut [u8], connection: u32) -> Report {
+/// A call without a packet: `lap_open` or `lap_close`.
+type Quiet = unsafe extern "C" fn(*mut u8, usize, *mut u8, usize, *mut u8, usize, u32, *mut u32) -> u32;
+
+fn quiet(call: Quiet, table: &mut [u8], workloads: &mut [u8], output: &mut [u8], connection: u32) -> Report {
     let mut length = NO_LENGTH;
     // Safe: as above; `length` lives through the call.
     let number = unsafe {
-        lap_open(
+        call(
             table.as_mut_ptr(),
             table.len(),
             workloads.as_mut_ptr(),
@@ -68,22 +71,12 @@ pub fn open(table: &mut [u8], workloads: &mut [u8], output: &mut [u8], connectio
     (number, length)
 }
 
+pub fn open(table: &mut [u8], workloads: &mut [u8], output: &mut [u8], connection: u32) -> Report {
+    quiet(lap_open, table, workloads, output, connection)
+}
+
 pub fn close(table: &mut [u8], workloads: &mut [u8], output: &mut [u8], connection: u32) -> Report {
-    let mut length = NO_LENGTH;
-    // Safe: as above.
-    let number = unsafe {
-        lap_close(
-            table.as_mut_ptr(),
-            table.len(),
-            workloads.as_mut_ptr(),
-            workloads.len(),
-            output.as_mut_ptr(),
-            output.len(),
-            connection,
-            &mut length,
-        )
-    };
-    (number, length)
+    quiet(lap_close, table, workloads, output, connection)
 }
 
 pub fn packet(table: &mut [u8], workloads: &mut [u8], output: &mut [u8], connection: u32, packet: &[u8]) -> Report {
