@@ -8,4 +8,4 @@ mkdir -p "$build"
 strict=(-Wall -Wextra -Werror -pedantic -Iinclude)
 gcc -std=c11 "${strict[@]}" -fsyntax-only -x c include/lap.h
 gcc -std=c11 -O2 "${strict[@]}" host/replay/replay.c target/staticlib/liblap.a -o "$build/replay"
-REPLAY=$build/replay bash host/tests/captures.sh > "$build/log" || { tail -n 12 "$build/log"; exit 1; }
+bash host/captures.sh "$build/replay" answer > "$build/log" || { tail -n 12 "$build/log"; exit 1; }

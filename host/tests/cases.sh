@@ -1,5 +1,5 @@
 #!/usr/bin/env bash
-# docs/CASES.md prints every file of captures/ as it is, and each pair in words that are computed anew from it (host/cases.py).
+# Every case has a capture, an answer and both in words, and docs/CASES.md prints each of these files as it is (host/cases.py).
 set -euo pipefail
 cd "$(dirname "$0")/../.."
 python3 -B host/cases.py

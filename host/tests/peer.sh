@@ -1,7 +1,8 @@
 #!/usr/bin/env bash
 # The archive does what an ordinary job server in Rust does, written from the documents alone: the same number, length, output, table and
 # workloads, byte for byte, in fixed and random histories, on damaged tables and on buffers that are too short. The ordinary server passes
-# its own tests first. Last, the comparing program must find each of the ten faults of host/peer/tests/faults.c.
+# its own tests first. The program show prints what the ordinary server's show prints, on random captures; SHOW names it, or else it is
+# target/bin/show. Last, the comparing program must find each of the ten faults of host/peer/tests/faults.c.
 set -euo pipefail
 cd "$(dirname "$0")/../.."
 bash host/archive.sh
@@ -11,7 +12,21 @@ options=(--offline -j2 --quiet --manifest-path host/peer/Cargo.toml)
 
 export CARGO_TARGET_DIR=$PWD/target/peer
 cargo test "${options[@]}"
-LAP_ARCHIVE_DIR=$archive cargo run --release "${options[@]}" --features archive --bin compare
+LAP_ARCHIVE_DIR=$archive cargo build --release "${options[@]}" --features archive --bin compare --bin capture --bin show
+programs=$CARGO_TARGET_DIR/release
+"$programs/compare"
+
+# 20,000 lines in four captures: the mix of compare's histories, and damaged lines.
+show=${SHOW:-target/bin/show}
+words=$PWD/target/words
+mkdir -p "$words"
+for seed in 1 2 3 4; do
+  "$programs/capture" --lines 5000 --seed "$seed" > "$words/capture"
+  "$programs/show" < "$words/capture" > "$words/right"
+  "$show" < "$words/capture" > "$words/printed"
+  bash host/same.sh "$words/right" "$words/printed" "$show, seed $seed"
+done
+echo "same: 20000 lines of random captures in words"
 
 # The faulty archive: the right one with its functions renamed, and the faults on top. It has a cargo folder of its own, so that the right
 # comparing program stays linked with the right archive.

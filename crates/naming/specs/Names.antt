@@ -8,6 +8,10 @@ use Rattle.packet.specs.declared.Shape.{Shape}
 use Rattle.packet.specs.declared.Shape.the-variants.{Foreign, Empty, Function, Submission, WorkStatus, WorkData, Handle, Echo, OptionName, Assignment, UniqueAssignment, Error, StatusAnswer}
 use Rattle.handle.specs.Handle.{padded}
 
+-- between two words
+abbrev pub space : Bytes
+space = 32 ∷ []
+
 -- the word for a number that has none
 abbrev pub unknown : Bytes
 unknown = 63 ∷ []  -- ?

@@ -1,6 +1,3 @@
-pub mod Framing
-pub mod Cutting
-pub mod Lines
-pub mod Sent
+pub mod Digits
 pub mod Replies
 pub mod Texts

@@ -1,4 +1,1 @@
-pub mod Frames
-pub mod Packets
 pub mod Replayed
-pub mod Spoken

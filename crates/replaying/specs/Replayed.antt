@@ -1,47 +1,32 @@
--- One line of the replay, as one function of the line and the lent bytes: length and text of what it says, output, table, workloads.
--- 01, "Replay program". Assumes nothing.
+-- What the replay program says, in digits. 01, "Replay program". Assumes nothing.
 use Prim.Native.Nat.{ℕ}
-use mathlib.Core.Bool.{not, cond, _||_}
-use mathlib.Core.Option.{Option, none, some}
-use mathlib.Core.List.{List, [], map}
-use lib.ListN.{length}
-use lib.Dec.{ltb}
+use mathlib.Core.List.{List, [], _∷_, _++_}
 use Rattle.octets.specs.Bytes.{Bytes}
-use Rattle.octets.specs.Put.{put}
-use Rattle.server.specs.Asked.{Event}
-use Rattle.server.specs.Server.{addressed, answer}
-use Rattle.server.specs.Call.{serverIn, tooShort, isSound, call}
-use Rattle.server.specs.Replay.{frame, answerLines, noFrame}
+use Rattle.hex.specs.Hex.{hex}
+use Rattle.server.specs.Server.{Server}
+use Rattle.server.specs.Replay.{answerLines}
+use Rattle.framing.specs.Spoken.{Speech, Told, told, said, spoken}
 
--- what a line says and leaves
-pub record Replayed : Type 0 where
-  pub length′ : ℕ
-  pub text : Bytes
-  pub output : Bytes
-  pub table : Bytes
-  pub workloads : Bytes
+-- one addressed packet, or the number, in digits
+abbrev pub lineOf : Bytes → Bytes
+lineOf p = hex p ++ (10 ∷ [])
 
-abbrev pub replying : ℕ → Bytes → Bytes → Bytes → Bytes → Replayed
-replying length′ text output table workloads = record { length′ = length′; text = text; output = output; table = table; workloads = workloads }
-
--- the packets that a call sends; none, where it is refused by 1
-unfoldable pub sentPackets : ℕ → Event → Bytes → Bytes → Bytes → List Bytes
-sentPackets n e t w o = cond (tooShort n t w o || not (isSound n t)) [] (map addressed (answer e (serverIn n t w) .sent))
-
--- the lines over the start of the text
-abbrev pub saying : Bytes → Bytes → Bytes → Bytes → Bytes → Replayed
-saying lines text output table workloads = replying (length lines) (put 0 lines text) output table workloads
-
--- a frame's event is called, and its answer said; what isn't a frame the server does not see
-unfoldable pub replies : Option Event → Bytes → Bytes → Bytes → Bytes → Replayed
-replies none t w o x = saying noFrame x o t w
-replies (some e) t w o x = let r = call 16 e t w o in saying (answerLines (sentPackets 16 e t w o) (r .number)) x (r .output) (r .table) (r .workloads)
+-- the lines of the answer; the number of what isn't a frame is 16
+abbrev pub inDigits : Speech
+inDigits f ps n t = answerLines ps n
 
 -- room for what any line says: two digits for each of the 16,592 bytes of the longest output, less than one line end for each of them,
 -- and the number's line
 abbrev pub textSize : ℕ
 textSize = 49779
 
--- a shorter text: nothing is said, and nothing changed
-unfoldable pub replayed : Bytes → Bytes → Bytes → Bytes → Bytes → Replayed
-replayed line t w o x = cond (ltb (length x) textSize) (replying 0 x o t w) (replies (frame line) t w o x)
+-- one line on the lent bytes: table, workloads, output, text
+unfoldable pub replayed : Bytes → Bytes → Bytes → Bytes → Bytes → Told
+replayed line t w o x = told textSize inDigits line t w o x
+
+-- a whole text, on the lent bytes and by the server
+abbrev pub replayedText : List Bytes → Bytes → Bytes → Bytes → Bytes → Bytes
+replayedText lines t w o x = said textSize (λ k. inDigits) 1 lines t w o x
+
+abbrev pub answeredText : List Bytes → Server → Bytes
+answeredText lines s = spoken (λ k. inDigits) 1 lines s

@@ -15,9 +15,9 @@ use Rattle.packet.specs.Packet.{Direction, Reading, refused, got, read, request
 use Rattle.packet_laws.proofs.Splitting.{fit-length, split-join}
 use Rattle.packet_laws.proofs.Packets.{Got, read-got, Well, requests-well, responses-well}
 use Rattle.packet_laws.proofs.Blindness.{Hidden, hides-parts, number-front, parted-visible, read-alike, read-masked, unhidden-opaque, visible-opaque}
-use Rattle.naming.specs.Names.{nameOf}
+use Rattle.naming.specs.Names.{nameOf, space}
 use Rattle.wording.proofs.Said.{texts-same}
-use Rattle.wording.specs.Lines.{argumentText, fromServer, labelBefore, packetText, readText, requestLine, responseLine, saying, space, toServer, valueOf}
+use Rattle.wording.specs.Lines.{argumentText, fromServer, labelBefore, packetText, readText, requestLine, responseLine, saying, toServer, valueOf}
 use Rattle.handle.specs.Handle.{decimal}
 
 -- ---- arguments that differ in the last one

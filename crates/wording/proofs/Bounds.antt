@@ -1,7 +1,7 @@
--- How long a line is at the most: 1,265 bytes. A text with that much room after `at` has room for any packet's line.
--- Assumes nothing.
-use Prim.Native.Nat.{ℕ, zero, suc, _+_, _*_, _≤_}
-use mathlib.Core.Path.{_≡_, refl}
+-- How long a line is at the most: 1,265 bytes, and not much longer than its packet. A text with that much room after `at` has room
+-- for any packet's line. Assumes nothing.
+use Prim.Native.Nat.{ℕ, zero, suc, _+_, _-_, _*_, _≤_}
+use mathlib.Core.Path.{_≡_, refl, ap, _∙_}
 use mathlib.Core.Bool.{Bool, true, false, cond}
 use mathlib.Core.List.{List, [], _∷_, _++_}
 use native.Mathlib.Omega.{arith}
@@ -20,11 +20,12 @@ use Rattle.packet_laws.proofs.Packets.{Headed, header-good, Got, read-got}
 use Rattle.kinds.proofs.Shapes.{at-most-five}
 use Rattle.handle.specs.Handle.{decimal}
 use Rattle.handle.proofs.Decimal.{decimal-most}
-use Rattle.naming.specs.Names.{labelOf, nameOf, reasonOf}
+use Rattle.naming.specs.Names.{labelOf, nameOf, reasonOf, space}
+use Rattle.naming.specs.Pieces.{pieces}
+use Rattle.naming.proofs.Pieces.{more-long}
 use Rattle.naming.proofs.Words.{label-short, name-short, reason-short}
 use Rattle.wording.proofs.Seen.{length-seen}
-use Rattle.wording.proofs.Arguments.{more-long}
-use Rattle.wording.specs.Lines.{argumentText, argumentTexts, bytesWord, fromServer, labelBefore, packetText, readText, refusalText, refusedText, requestLine, responseLine, saying, shown, sized, space, toServer, valueOf}
+use Rattle.wording.specs.Lines.{argumentText, argumentTexts, bytesWord, fromServer, labelBefore, packetText, readText, refusalText, refusedText, requestLine, responseLine, saying, shown, sized, toServer, valueOf}
 
 -- ---- one argument
 
@@ -63,9 +64,10 @@ total f zero = 0
 total f (suc n) = total f n + length (f n)
 
 texts-short : (shape : Shape) (f : ℕ → Bytes) (n : ℕ) → length (argumentTexts shape f n) ≤ n * 29 + total f n
-unfolding argumentTexts total
+unfolding argumentTexts pieces total
 texts-short shape f zero = omega arith
-texts-short shape f (suc n) = omega (arith, more-long shape f n, texts-short shape f n, argument-text-short shape n (f n))
+texts-short shape f (suc n) =
+    omega (arith, more-long (λ i. argumentText shape i (f i)) n, texts-short shape f n, argument-text-short shape n (f n))
 
 total-first : (a : Bytes) (args : List Bytes) (n : ℕ) → total (λ i. getD (a ∷ args) i []) (suc n) ≡ length a + total (λ i. getD args i []) n
 unfolding total
@@ -81,7 +83,7 @@ total-joined (a ∷ (b ∷ bs)) =
 
 -- ---- one packet
 
-refusal-short : (n : ℕ) → length (refusalText n) ≤ 42
+pub refusal-short : (n : ℕ) → length (refusalText n) ≤ 42
 unfolding refusalText
 refusal-short n = omega (arith, length-append (decimal n) (space ++ reasonOf n), decimal-most n, reason-short n)
 
@@ -94,28 +96,24 @@ refused-short kind n = either (ltb n 9)
     either false = omega (arith, length-append (nameOf kind) (space ++ refusalText n), name-short kind, refusal-short n)
 
 module _ (w : Direction) (most : w .most ≤ 1088) (s : Bytes) where
-  read-short : (r : Reading) → read w s ≡ r → length (readText (w .shape) (numberAt s 4) r) ≤ 1251
+  -- at most 1,251 bytes, and at most 151 more than the packet has
+  read-short : (r : Reading) → read w s ≡ r → (length (readText (w .shape) (numberAt s 4) r) ≤ 1251) × (length (readText (w .shape) (numberAt s 4) r) ≤ length s + 151)
   unfolding readText packetText
-  read-short (refused n) e = omega (arith, refused-short (numberAt s 4) n)
+  read-short (refused n) e = (omega (arith, refused-short (numberAt s 4) n), omega (arith, refused-short (numberAt s 4) n))
   read-short (got k args) e =
       let g : Got w s k args = read-got w s k args e in
       let h : Headed (w .magic) (w .most) s = header-good _ _ s (g .headed) in
       let j = split-join _ (drop 12 s) args (g .splits) in
-      let l : length (join args) ≤ 1088 = rw (j .0, length-drop) (omega (arith, h .limited, h .whole, most)) in
+      let l : length (join args) ≡ length s - 12 = ap length (j .0) ∙ length-drop 12 s in
       let n : length args ≡ length (rulesOf (w .shape k)) = fit-length _ args (j .1) in
       let t : total (λ i. getD args i []) (length (rulesOf (w .shape k))) ≤ length (join args) = rw (← n) (total-joined args) in
       let f : ℕ → Bytes = λ i. getD args i [] in
-      omega (
-        arith,
-        length-append (nameOf k) (argumentTexts (w .shape k) f (length (rulesOf (w .shape k)))),
-        name-short k,
-        texts-short (w .shape k) f (length (rulesOf (w .shape k))),
-        at-most-five (w .shape k),
-        t,
-        l,
-      )
+      let a : Bytes = argumentTexts (w .shape k) f (length (rulesOf (w .shape k))) in
+      let m : length (nameOf k ++ a) ≤ length s + 151 =
+      omega (arith, length-append (nameOf k) a, name-short k, texts-short (w .shape k) f (length (rulesOf (w .shape k))), at-most-five (w .shape k), t, l, h .whole) in
+      (omega (arith, m, h .limited, h .whole, most), m)
 
-  saying-short : length (saying w s) ≤ 1251
+  saying-short : (length (saying w s) ≤ 1251) × (length (saying w s) ≤ length s + 151)
   unfolding saying
   saying-short = read-short (read w s) refl
 
@@ -123,8 +121,14 @@ module _ (w : Direction) (most : w .most ≤ 1088) (s : Bytes) where
 
 pub request-line-short : (c : ℕ) (s : Bytes) → length (requestLine c s) ≤ 1265
 unfolding requestLine
-request-line-short c s = omega (arith, length-append (decimal c) (toServer ++ saying requests s), decimal-most c, saying-short requests (omega arith) s)
+request-line-short c s = omega (arith, length-append (decimal c) (toServer ++ saying requests s), decimal-most c, saying-short requests (omega arith) s .0)
 
-pub response-line-short : (c : ℕ) (s : Bytes) → length (responseLine c s) ≤ 1265
-unfolding responseLine
-response-line-short c s = omega (arith, length-append (decimal c) (fromServer ++ saying responses s), decimal-most c, saying-short responses (omega arith) s)
+module _ (c : ℕ) (s : Bytes) where
+  pub response-line-short : length (responseLine c s) ≤ 1265
+  unfolding responseLine
+  response-line-short = omega (arith, length-append (decimal c) (fromServer ++ saying responses s), decimal-most c, saying-short responses (omega arith) s .0)
+
+  -- not much longer than the packet
+  pub response-line-near : length (responseLine c s) ≤ length s + 165
+  unfolding responseLine
+  response-line-near = omega (arith, length-append (decimal c) (fromServer ++ saying responses s), decimal-most c, saying-short responses (omega arith) s .1)

@@ -8,11 +8,12 @@ use Rattle.packet.specs.Arguments.{fits, split}
 use Rattle.packet.specs.Packet.{header, body, read}
 use Rattle.handle.specs.Handle.{decimal, decimalIn}
 use Rattle.naming.specs.Names.{labelOf, labelsOf, nameOf, reasonOf}
+use Rattle.naming.specs.Pieces.{pieces}
 use Rattle.wording.specs.Lines.{argumentText, argumentTexts, labelBefore, packetText, readText, refusalText, refusedText, requestLine, responseLine, saying, seenByte, seenBytes, shown, sized, valueOf}
 
 -- one name that opens all that a line uses
 unfoldable compute : ℕ → Bytes → Bytes
-unfolding requestLine responseLine saying readText packetText refusedText refusalText argumentTexts argumentText labelBefore valueOf sized shown seenBytes seenByte nameOf reasonOf labelOf labelsOf decimal decimalIn read header body split fits rulesOf requestShape responseShape startsWith firstZero every same
+unfolding requestLine responseLine saying readText packetText refusedText refusalText argumentTexts argumentText pieces labelBefore valueOf sized shown seenBytes seenByte nameOf reasonOf labelOf labelsOf decimal decimalIn read header body split fits rulesOf requestShape responseShape startsWith firstZero every same
 compute c s = requestLine c s
 
 -- 1 -> CAN_DO reverse

@@ -1,7 +1,7 @@
 -- What the answer of the packet reader says of the text: a refusal's, or that of the type with the arguments where they lie.
 -- Assumes nothing.
-use Prim.Native.Nat.{ℕ, zero, suc, _<_, _≤_, _^_}
-use mathlib.Core.Path.{_≡_, refl, ap, ap₂, _∙_, sym}
+use Prim.Native.Nat.{ℕ, _<_, _≤_, _^_}
+use mathlib.Core.Path.{_≡_, refl, ap, _∙_, sym}
 use mathlib.Core.Bool.{Bool, true, false}
 use mathlib.Core.List.{List, [], _++_}
 use native.Mathlib.Omega.{arith}
@@ -20,6 +20,7 @@ use Rattle.packet_laws.proofs.Packets.{Headed, header-good, read-got}
 use Rattle.packet_laws.proofs.Places.{argument-read}
 use Rattle.kinds.proofs.Shapes.{at-most-five}
 use Rattle.naming.specs.Names.{nameOf}
+use Rattle.naming.proofs.Pieces.{same-pieces}
 use Rattle.wording.specs.Lines.{argumentText, argumentTexts, packetText, readText, refusedText, saying}
 
 -- ---- the answer and the reading that it stands for
@@ -43,9 +44,7 @@ packet-answer (got j as′) k ends e =
 pub texts-same : (shape : Shape) (f g : ℕ → Bytes) (n : ℕ) → ((i : ℕ) → i < n → argumentText shape i (f i) ≡ argumentText shape i (g i))
     → argumentTexts shape f n ≡ argumentTexts shape g n
 unfolding argumentTexts
-texts-same shape f g zero h = refl
-texts-same shape f g (suc n) h =
-    ap₂ {C = Bytes} (λ (a : Bytes) (b : Bytes). a ++ b) (texts-same shape f g n (λ i l. h i (omega arith))) (h n (omega arith))
+texts-same shape f g n h = same-pieces (λ i. argumentText shape i (f i)) (λ i. argumentText shape i (g i)) n h
 
 module _ (w : Direction) (s : Bytes) where
   module _ (n : ℕ) (e : RV.Refused n ≡ answerOf (read w s)) where

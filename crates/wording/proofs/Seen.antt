@@ -21,8 +21,8 @@ use Rattle.packet.specs.Layout.{rulesOf}
 use Rattle.packet.specs.Opaque.{isOpaque}
 use Rattle.packet.proofs.Rule.{the-type}
 use Rattle.kinds.proofs.Tests.{bools, key-arm}
-use Rattle.naming.specs.Names.{labelOf, nameOf}
-use Rattle.wording.specs.Lines.{labelBefore, quotes, refusalText, refusedText, seenByte, seenBytes, shown, sized, space, valueOf}
+use Rattle.naming.specs.Names.{labelOf, nameOf, space}
+use Rattle.wording.specs.Lines.{labelBefore, quotes, refusalText, refusedText, seenByte, seenBytes, shown, sized, valueOf}
 
 -- ---- one byte
 

@@ -1,6 +1,6 @@
 -- One packet in words: the connection, an arrow, the protocol's name of the type and the arguments; or that it is refused, and why.
 -- An opaque argument is its length alone. Assumes nothing.
-use Prim.Native.Nat.{ℕ, zero, suc}
+use Prim.Native.Nat.{ℕ}
 use mathlib.Core.Bool.{cond}
 use mathlib.Core.List.{[], _∷_, _++_}
 use lib.ListN.{length, getD}
@@ -13,12 +13,10 @@ use Rattle.packet.specs.Layout.{rulesOf}
 use Rattle.packet.specs.Opaque.{isOpaque}
 use Rattle.packet.specs.Packet.{Direction, Reading, refused, got, read, requests, responses}
 use Rattle.handle.specs.Handle.{decimal}
-use Rattle.naming.specs.Names.{labelOf, nameOf, reasonOf}
+use Rattle.naming.specs.Names.{labelOf, nameOf, reasonOf, space}
+use Rattle.naming.specs.Pieces.{pieces}
 
 -- ---- the fixed words
-
-abbrev pub space : Bytes
-space = 32 ∷ []
 
 abbrev pub quotes : Bytes
 quotes = 34 ∷ 34 ∷ []  -- ""
@@ -68,8 +66,7 @@ argumentText shape i a = space ++ (labelBefore shape i ++ valueOf (getD (rulesOf
 
 -- the first n arguments in order, each given by its place
 unfoldable pub argumentTexts : Shape → (ℕ → Bytes) → ℕ → Bytes
-argumentTexts shape f zero = []
-argumentTexts shape f (suc n) = argumentTexts shape f n ++ argumentText shape n (f n)
+argumentTexts shape f n = pieces (λ i. argumentText shape i (f i)) n
 
 -- ---- one packet
 

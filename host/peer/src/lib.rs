@@ -6,6 +6,7 @@
 #[cfg(feature = "archive")]
 #[allow(unsafe_code)]
 pub mod archive;
+pub mod captures;
 pub mod damage;
 pub mod event;
 pub mod handle;
@@ -15,6 +16,8 @@ pub mod image;
 pub mod layout;
 #[cfg(feature = "archive")]
 pub mod lent;
+pub mod lines;
+pub mod options;
 pub mod outbox;
 pub mod packet;
 pub mod random;
@@ -22,5 +25,7 @@ pub mod replay;
 pub mod rules;
 pub mod scripts;
 pub mod server;
+pub mod show;
 pub mod state;
 pub mod text;
+pub mod words;

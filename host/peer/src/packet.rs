@@ -113,7 +113,7 @@ pub fn read(side: Side, bytes: &[u8]) -> Result<Packet<'_>, u32> {
     if &bytes[..4] != side.magic() {
         return Err(WRONG_MAGIC);
     }
-    let kind = number(&bytes[4..8]);
+    let kind = kind(bytes);
     let size = number(&bytes[8..12]) as usize;
     if size > side.limit() {
         return Err(TOO_LARGE);
@@ -146,6 +146,11 @@ pub fn write(side: Side, kind: u32, arguments: &[&[u8]], output: &mut [u8]) -> R
     output[8..12].copy_from_slice(&(data.len() as u32).to_be_bytes());
     output[12..length].copy_from_slice(&data);
     Ok(length)
+}
+
+/// The type that a whole header names, served or not.
+pub fn kind(bytes: &[u8]) -> u32 {
+    number(&bytes[4..8])
 }
 
 fn number(bytes: &[u8]) -> u32 {

@@ -3,6 +3,7 @@
 
 use crate::event::Event;
 use crate::hex;
+use crate::lines::lines;
 use crate::outbox::Outbox;
 use crate::server::Server;
 
@@ -24,13 +25,12 @@ pub fn frame(line: &[u8]) -> Option<Event> {
     }
 }
 
-/// The whole output for a whole input. A last line without a line end counts.
+/// The whole output for a whole input.
 pub fn replay(input: &[u8]) -> String {
     let mut server = Server::new();
     let mut out = Outbox::default();
     let mut output = String::new();
-    for line in input.split_inclusive(|&byte| byte == b'\n') {
-        let line = line.strip_suffix(b"\n").unwrap_or(line);
+    for line in lines(input) {
         let number = match frame(line) {
             Some(event) => {
                 let number = event.run(&mut server, &mut out);

@@ -103,7 +103,7 @@ impl Server {
             Err(number) => {
                 if let Some(text) = error_text(number) {
                     let digits = [b'0' + (number / 10) as u8, b'0' + (number % 10) as u8];
-                    out.send(sender, ERROR, &[&digits, text]);
+                    out.send(sender, ERROR, &[&digits, text.as_bytes()]);
                 }
                 number
             }
@@ -337,15 +337,15 @@ impl Server {
 }
 
 /// The texts of ERROR packets; refusals 1 to 8 send none.
-fn error_text(number: u32) -> Option<&'static [u8]> {
-    let text: &[u8] = match number {
-        9 => b"type",
-        10 => b"arguments",
-        11 => b"functions",
-        12 => b"jobs",
-        13 => b"serials",
-        14 => b"handle",
-        15 => b"option",
+pub fn error_text(number: u32) -> Option<&'static str> {
+    let text = match number {
+        9 => "type",
+        10 => "arguments",
+        11 => "functions",
+        12 => "jobs",
+        13 => "serials",
+        14 => "handle",
+        15 => "option",
         _ => return None,
     };
     Some(text)

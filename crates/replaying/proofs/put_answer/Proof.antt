@@ -2,7 +2,7 @@
 use mathlib.Core.Path.{sym}
 use lib.Seq.{length-take-le}
 use Rattle.hex.specs.Hex.{hex}
-use Rattle.replaying.proofs.Lines.{answer-place, answer-laid}
+use Rattle.replaying.proofs.Digits.{answer-place, answer-laid}
 use borrow.Author.Needs.{needs}
 use Rattle.replaying.proofs.put_answer.Statement.{statement}
 use Rattle.replaying.proofs.put_answer.Tie as tie

@@ -1,5 +1,5 @@
 -- `replaying::put_line` meets its contract: the digits, and right after them the line end. Assumes nothing.
-use Rattle.replaying.proofs.Lines.{digits-room, line-room, line-place, line-laid}
+use Rattle.replaying.proofs.Digits.{digits-room, line-room, line-place, line-laid}
 use borrow.Author.Needs.{needs}
 use Rattle.replaying.proofs.put_line.Statement.{statement}
 use Rattle.replaying.proofs.put_line.Tie as tie

@@ -1,5 +1,5 @@
--- `replaying::step` meets its contract: a text that is too short, or the frame of the line and the reply to it. Assumes nothing.
-use Rattle.replaying.proofs.Replies.{short-text, line-replied}
+-- `replaying::step` meets its contract: a text that is too short, or the lines of what answering the frame left. Assumes nothing.
+use Rattle.replaying.proofs.Replies.{short-text, reply-packed, replied}
 use borrow.Author.Needs.{needs}
 use Rattle.replaying.proofs.step.Statement.{statement}
 use Rattle.replaying.proofs.step.Tie as tie
@@ -10,8 +10,11 @@ returns c = short-text _ _ _ _ _ (c .if1 .taken)
 read-frame-requires : tie.Need-read-frame-requires
 read-frame-requires c κs = search needs
 
-reply-requires : tie.Need-reply-requires
-reply-requires c κs = (c .before .before .before .before .before .read-frame .ensures .1, c .before .before .before .before .before .before .before .if1 .left)
+answer-frame-requires : tie.Need-answer-frame-requires
+answer-frame-requires c κs = search needs
+
+put-answer-requires : tie.Need-put-answer-requires
+put-answer-requires c κs = reply-packed _ _ _ _ _ _ _ _ _ (c .before .before .before .before .before .before .before .before .answer-frame .ensures) _ (c .before .before .before .before .before .before .before .before .before .before .before .before .before .before .before .if1 .left)
 
 same-length : tie.Need-same-length
 same-length c = search needs
@@ -26,7 +29,9 @@ same-length-4 : tie.Need-same-length-4
 same-length-4 c = search needs
 
 returns-2 : tie.Need-returns-2
-returns-2 c = line-replied _ _ _ _ _ _ _ (c .before .before .before .before .before .before .before .before .before .before .before .before .before .before .before .before .if1 .left) (c .before .before .before .before .before .before .before .before .before .before .before .before .before .before .read-frame .ensures .0) (c .before .before .before .before .before .before .before .before .reply .ensures)
+returns-2 c =
+    let laid = c .before .before .put-answer .ensures in
+    replied _ _ _ _ _ _ _ _ _ (c .before .before .before .before .before .before .before .before .before .before .before .answer-frame .ensures) _ _ (c .before .before .before .before .before .before .before .before .before .before .before .before .before .before .before .before .before .before .if1 .left) (c .before .before .before .before .before .before .before .before .before .before .before .before .before .before .before .before .read-frame .ensures .0) _ _ (laid .0) (laid .1)
 
 pub step-spec : {M : Type 1} → statement M
 step-spec =
@@ -34,7 +39,8 @@ step-spec =
     (tie.spec
     returns
     read-frame-requires
-    reply-requires
+    answer-frame-requires
+    put-answer-requires
     same-length
     same-length-2
     same-length-3

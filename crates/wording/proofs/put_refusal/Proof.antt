@@ -1,8 +1,8 @@
 -- `wording::put_refusal` meets its contract: the word, the number, a space and the reason. Assumes nothing.
 use mathlib.Core.List.{_++_}
 use Rattle.handle.specs.Handle.{decimal}
-use Rattle.naming.specs.Names.{reasonOf}
-use Rattle.wording.specs.Lines.{refusalText, refusedWord, space}
+use Rattle.naming.specs.Names.{reasonOf, space}
+use Rattle.wording.specs.Lines.{refusalText, refusedWord}
 use Rattle.naming.proofs.Runs.{laid-then, laid-third, room-first, room-second, room-then, room-third}
 use borrow.Author.Needs.{needs}
 use Rattle.wording.proofs.put_refusal.Statement.{statement}

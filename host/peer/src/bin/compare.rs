@@ -10,6 +10,7 @@ use peer::histories::History;
 use peer::image;
 use peer::layout::{OUTPUT, TABLE};
 use peer::lent::Host;
+use peer::options;
 use peer::outbox::Outbox;
 use peer::random::Random;
 use peer::rules;
@@ -71,8 +72,8 @@ struct Reached {
 }
 
 fn main() -> ExitCode {
-    let (events, seed) = match arguments() {
-        Ok(arguments) => arguments,
+    let [events, seed] = match options::numbers(["--events", "--seed"], [300_000, 1]) {
+        Ok(numbers) => numbers,
         Err(text) => {
             eprintln!("{text}\nusage: compare [--events N] [--seed S]");
             return ExitCode::from(2);
@@ -89,20 +90,6 @@ fn main() -> ExitCode {
             ExitCode::from(1)
         }
     }
-}
-
-fn arguments() -> Result<(u64, u64), String> {
-    let (mut events, mut seed) = (300_000, 1);
-    let mut given = std::env::args().skip(1);
-    while let Some(name) = given.next() {
-        let value = given.next().and_then(|value| value.parse().ok()).ok_or(format!("{name} needs a number"))?;
-        match name.as_str() {
-            "--events" => events = value,
-            "--seed" => seed = value,
-            _ => return Err(format!("{name} is not known")),
-        }
-    }
-    Ok((events, seed))
 }
 
 fn compare(events: u64, first_seed: u64, counts: &mut Counts) -> Result<(), String> {

@@ -1,0 +1,53 @@
+-- Which job a packet concerns: the one whose handle stands in it, or else in the first packet that was sent. Assumes nothing.
+use Prim.Native.Nat.{ℕ}
+use mathlib.Core.Bool.{Bool, true, false, cond}
+use mathlib.Core.List.{List, [], _∷_}
+use lib.ListN.{getD, drop}
+use Rattle.octets.specs.Bytes.{Bytes}
+use Rattle.packet.specs.declared.Shape.{Shape}
+use Rattle.packet.specs.declared.Shape.the-variants.{Foreign, Empty, Function, Submission, WorkStatus, WorkData, Handle, Echo, OptionName, Assignment, UniqueAssignment, Error, StatusAnswer}
+use Rattle.packet.specs.Packet.{Direction, Reading, refused, got, read, requests, responses}
+use Rattle.handle.specs.declared.Serial as S
+use Rattle.handle.specs.declared.Serial.the-variants as SV
+use Rattle.handle.specs.Handle.{lap, serialOf}
+
+-- the first argument is a handle
+abbrev pub namesJob : Shape → Bool
+namesJob Foreign = false
+namesJob Empty = false
+namesJob Function = false
+namesJob Submission = false
+namesJob WorkStatus = true
+namesJob WorkData = true
+namesJob Handle = true
+namesJob Echo = false
+namesJob OptionName = false
+namesJob Assignment = true
+namesJob UniqueAssignment = true
+namesJob Error = false
+namesJob StatusAnswer = true
+
+-- the serial whose handle stands in a packet of this shape, by its first argument
+unfoldable pub handleIn : Shape → Bytes → S.Serial
+handleIn shape a = cond (namesJob shape) (serialOf lap a) SV.None
+
+-- a packet that is refused names no job
+unfoldable pub namedBy : (ℕ → Shape) → Reading → S.Serial
+namedBy shapes (refused n) = SV.None
+namedBy shapes (got k as′) = handleIn (shapes k) (getD as′ 0 [])
+
+unfoldable pub jobNamed : Direction → Bytes → S.Serial
+jobNamed w s = namedBy (w .shape) (read w s)
+
+-- the first packet sent, without its connection; none has no bytes
+abbrev pub firstSent : List Bytes → Bytes
+firstSent [] = []
+firstSent (p ∷ ps) = drop 1 p
+
+abbrev pub orElse : S.Serial → S.Serial → S.Serial
+orElse (SV.Of n) s = SV.Of n
+orElse SV.None s = s
+
+-- from the packet that came and those that were sent
+unfoldable pub concerned : Bytes → List Bytes → S.Serial
+concerned b ps = orElse (jobNamed requests b) (jobNamed responses (firstSent ps))

@@ -1,0 +1,6 @@
+pub mod Framing
+pub mod Cutting
+pub mod Lines
+pub mod Sent
+pub mod Answered
+pub mod Texts

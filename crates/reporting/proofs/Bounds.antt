@@ -1,0 +1,78 @@
+-- How long the parts of a line are at the most. Assumes nothing.
+use Prim.Native.Nat.{ℕ, _+_, _*_, _≤_}
+use mathlib.Core.Path.{_≡_}
+use mathlib.Core.Bool.{Bool, true, false, cond, _||_}
+use mathlib.Core.Option.{Option, none, some}
+use mathlib.Core.List.{List, [], _++_}
+use native.Mathlib.Omega.{arith}
+use lib.ListN.{length, getD, drop, length-append, length-drop}
+use lib.Dec.{eqb}
+use Rattle.octets.specs.Bytes.{Bytes}
+use Rattle.handle.specs.declared.Serial as S
+use Rattle.handle.specs.declared.Serial.the-variants as SV
+use Rattle.handle.specs.Handle.{decimal}
+use Rattle.handle.proofs.Decimal.{decimal-most}
+use Rattle.server.specs.declared.JobRow.{JobRow}
+use Rattle.server.specs.Lists.{concat}
+use Rattle.server.specs.Table.{Table}
+use Rattle.server.specs.Asked.{Event, opens, closes, sends}
+use Rattle.plans.specs.Values.{rowsOf}
+use Rattle.framing.specs.Packets.{Addressed, packetLines}
+use Rattle.framing.proofs.Lines.{lines-short}
+use Rattle.wording.specs.Lines.{refusalText}
+use Rattle.wording.proofs.Bounds.{refusal-short, request-line-short, response-line-near}
+use Rattle.standing.specs.Standing.{below, jobsText, sleepersText}
+use Rattle.standing.proofs.Bounds.{jobs-short, serial-text-short, sleepers-short}
+use Rattle.concerning.specs.Concerned.{concerned}
+use Rattle.reporting.specs.Parts.{answerText, closesWord, doneWord, eventText, headingText, jobsAfter, namedText, numberText, opensWord, sentText, tableText}
+
+event-short : (f : Option Event) → length (eventText f) ≤ 1270
+unfolding eventText
+event-short none = omega arith
+event-short (some (opens c)) = omega (arith, length-append (decimal c) opensWord, decimal-most c)
+event-short (some (closes c)) = omega (arith, length-append (decimal c) closesWord, decimal-most c)
+event-short (some (sends c b)) = omega (arith, request-line-short c b)
+
+pub heading-short : (k : ℕ) (f : Option Event) → length (headingText k f) ≤ 1285
+unfolding headingText
+heading-short k f = omega (arith, length-append (decimal k) (eventText f), decimal-most k, event-short f)
+
+-- at most fourteen times the packet
+pub sent-short : (p : Bytes) → 13 ≤ length p → length (sentText p) ≤ length p * 14
+unfolding sentText
+sent-short p h = omega (arith, response-line-near (getD p 0 0) (drop 1 p), length-drop 1 p)
+
+number-short : (n : ℕ) → length (numberText n) ≤ 47
+unfolding numberText
+number-short n = either (eqb n 0)
+  where
+    either : (b : Bool) → length (below ++ cond b doneWord (refusalText n)) ≤ 47
+    either true = omega arith
+    either false = omega (arith, refusal-short n)
+
+pub answer-short : (ps : List Bytes) (n : ℕ) → Addressed ps → length (answerText ps n) ≤ length (concat ps) * 14 + 47
+unfolding answerText
+answer-short ps n a = omega (arith, length-append (packetLines sentText ps) (numberText n), lines-short sentText 14 sent-short ps a, number-short n)
+
+named-short : (s : S.Serial) (rs : List JobRow) → length (namedText s rs) ≤ 3232
+named-short SV.None rs = omega arith
+named-short (SV.Of n) rs = omega (arith, serial-text-short n rs)
+
+jobs-after-short : (f : Option Event) (ps : List Bytes) (n : ℕ) (rs : List JobRow) → length (jobsAfter f ps n rs) ≤ 3232
+unfolding jobsAfter
+jobs-after-short none ps n rs = omega arith
+jobs-after-short (some (opens c)) ps n rs = omega arith
+jobs-after-short (some (closes c)) ps n rs = either (eqb n 0)
+  where
+    either : (b : Bool) → length (cond b (jobsText 16 rs) []) ≤ 3232
+    either true = jobs-short rs
+    either false = omega arith
+jobs-after-short (some (sends c b)) ps n rs = named-short (concerned b ps) rs
+
+pub table-short : (f : Option Event) (ps : List Bytes) (n : ℕ) (t : Table) → length (tableText f ps n t) ≤ 3291
+unfolding tableText
+table-short f ps n t = either (eqb n 1 || eqb n 16)
+  where
+    either : (b : Bool) → length (cond b [] (sleepersText 16 (t .connections) ++ jobsAfter f ps n (rowsOf t))) ≤ 3291
+    either true = omega arith
+    either false = omega (arith, length-append (sleepersText 16 (t .connections)) (jobsAfter f ps n (rowsOf t)), sleepers-short (t .connections), jobs-after-short f ps n (rowsOf t))

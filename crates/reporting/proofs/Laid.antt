@@ -1,0 +1,112 @@
+-- What each branch lays is the part of the line that the definition gives: by the kind of frame, by the number, by the serial that was
+-- found. Assumes nothing.
+use Prim.Native.Nat.{ℕ, _-_}
+use mathlib.Core.Path.{_≡_, ap}
+use mathlib.Core.Bool.{cond, _||_}
+use mathlib.Core.Option.{Option}
+use mathlib.Core.List.{List, [], _++_}
+use borrow.Author.Tests.{ne-eqb}
+use lib.ListN.{length, getD, take, drop}
+use lib.Dec.{eqb}
+use Rattle.octets.specs.Bytes.{Bytes}
+use Rattle.octets.proofs.Strings.{rest-part}
+use Rattle.handle.specs.declared.Serial as S
+use Rattle.handle.specs.declared.Serial.the-variants as SV
+use Rattle.handle.specs.Handle.{decimal}
+use Rattle.server.specs.declared.JobRow.{JobRow}
+use Rattle.server.specs.Table.{Table}
+use Rattle.server.specs.Asked.{Event}
+use Rattle.plans.specs.declared.Values as V′
+use Rattle.plans.specs.Values.{valuesOf}
+use Rattle.framing.specs.declared.Frame as F
+use Rattle.framing.specs.declared.Frame.the-variants as FV
+use Rattle.framing.specs.Frames.{eventOf}
+use Rattle.wording.specs.Lines.{refusalText, requestLine, responseLine}
+use Rattle.standing.specs.Standing.{below, jobsText, serialText, sleepersText}
+use Rattle.concerning.specs.Concerned.{concerned}
+use Rattle.reporting.specs.Parts.{closesWord, doneWord, eventText, jobsAfter, namedText, numberText, opensWord, sentText, tableText}
+
+-- ---- by the kind of frame
+
+module _ (f : F.Frame) (b : Bytes) where
+  module _ (e : f ≡ FV.Nothing) where
+    pub nothing-event : [] ≡ eventText (eventOf f b)
+    unfolding eventText
+    nothing-event = rw e
+
+    pub nothing-jobs : (ps : List Bytes) (n : ℕ) (rs : List JobRow) → [] ≡ jobsAfter (eventOf f b) ps n rs
+    unfolding jobsAfter
+    nothing-jobs ps n rs = rw e
+
+  module _ (c : ℕ) where
+    module _ (e : f ≡ FV.Open c) where
+      pub open-event : below ++ (decimal c ++ opensWord) ≡ eventText (eventOf f b)
+      unfolding eventText
+      open-event = rw e
+
+      pub open-jobs : (ps : List Bytes) (n : ℕ) (rs : List JobRow) → [] ≡ jobsAfter (eventOf f b) ps n rs
+      unfolding jobsAfter
+      open-jobs ps n rs = rw e
+
+    module _ (e : f ≡ FV.Close c) where
+      pub close-event : below ++ (decimal c ++ closesWord) ≡ eventText (eventOf f b)
+      unfolding eventText
+      close-event = rw e
+
+      pub close-jobs : (ps : List Bytes) (n : ℕ) (rs : List JobRow) → cond (eqb n 0) (jobsText 16 rs) [] ≡ jobsAfter (eventOf f b) ps n rs
+      unfolding jobsAfter
+      close-jobs ps n rs = rw e
+
+    module _ (end : ℕ) (e : f ≡ FV.Packet c end) where
+      pub packet-event : below ++ requestLine c (take (end - 2) (drop 2 b)) ≡ eventText (eventOf f b)
+      unfolding eventText
+      packet-event = rw e
+
+      pub packet-jobs : (s : S.Serial) (ps : List Bytes) (n : ℕ) (rs : List JobRow) → s ≡ concerned (take (end - 2) (drop 2 b)) ps → namedText s rs ≡ jobsAfter (eventOf f b) ps n rs
+      unfolding jobsAfter
+      packet-jobs s ps n rs q = rw (e, q)
+
+-- ---- by the serial
+
+module _ (s : S.Serial) (rs : List JobRow) where
+  pub no-serial : s ≡ SV.None → [] ≡ namedText s rs
+  no-serial e = rw e
+
+  pub of-serial : (n : ℕ) → s ≡ SV.Of n → serialText 16 n rs ≡ namedText s rs
+  of-serial n e = rw e
+
+-- ---- by the number
+
+pub number-done : (n : ℕ) → n ≡ 0 → below ++ doneWord ≡ numberText n
+unfolding numberText
+number-done n e = rw e
+
+pub number-refused : (n : ℕ) → (n ≡ 0 → ⊥) → below ++ refusalText n ≡ numberText n
+unfolding numberText
+number-refused n e = rw (ne-eqb n 0 e)
+
+pub left-done : (n : ℕ) (rs : List JobRow) → n ≡ 0 → jobsText 16 rs ≡ cond (eqb n 0) (jobsText 16 rs) []
+left-done n rs e = rw e
+
+pub left-refused : (n : ℕ) (rs : List JobRow) → (n ≡ 0 → ⊥) → [] ≡ cond (eqb n 0) (jobsText 16 rs) []
+left-refused n rs e = rw (ne-eqb n 0 e)
+
+module _ (f : Option Event) (ps : List Bytes) (n : ℕ) (t : Table) where
+  pub no-table : n ≡ 1 → [] ≡ tableText f ps n t
+  unfolding tableText
+  no-table e = rw e
+
+  pub unseen : n ≡ 16 → [] ≡ tableText f ps n t
+  unfolding tableText
+  unseen e = rw e
+
+  pub table-stands : (n ≡ 1 → ⊥) → (n ≡ 16 → ⊥) → (v : V′.Values) → v ≡ valuesOf t → sleepersText 16 (v .connections) ++ jobsAfter f ps n (v .rows) ≡ tableText f ps n t
+  unfolding tableText valuesOf
+  table-stands a b v e = rw (ne-eqb n 1 a, ne-eqb n 16 b) (ap (λ (u : V′.Values). sleepersText 16 (u .connections) ++ jobsAfter f ps n (u .rows)) e)
+
+-- ---- an addressed packet
+
+-- without its connection
+pub sent-as : (p : Bytes) → below ++ responseLine (getD p 0 0) (take (length p - 1) (drop 1 p)) ≡ sentText p
+unfolding sentText
+sent-as p = ap (λ (b : Bytes). below ++ responseLine (getD p 0 0) b) (rest-part p 1)

@@ -1,0 +1,89 @@
+// Shows a capture in words: reads standard input line by line, each line one frame in lowercase hexadecimal, calls the job server, and
+// writes under the number of each line what it says, what the server answered, and how the table stands. docs/SHOW.md has the layout.
+// What is shown of a line is made by the crate `showing`, and written before the next line is read. Where reading or writing fails the
+// program says so on standard error and ends.
+use input::Input;
+
+// Writes what is shown of the line that has come; false where it could not be written. Of a line too long for a frame the buffer holds
+// enough to show that.
+fn show_line(
+    table: &mut [u8],
+    workloads: &mut [u8],
+    output: &mut [u8],
+    text: &mut [u8],
+    number: u32,
+    now: Input,
+    buffer: &[u8],
+) -> bool {
+    if !input::has_line(now) {
+        return true;
+    }
+    let line = now.line;
+    let end = showing::step(
+        table,
+        workloads,
+        output,
+        text,
+        number,
+        lines::text(line, buffer),
+    );
+    io::write_all(1, lines::front(text, end))
+}
+
+// Says on standard error why the program ends early.
+fn complain(written: bool, failed: bool) {
+    if !written {
+        io::write_all(2, b"show: standard output could not be written\n");
+    }
+    if failed {
+        io::write_all(2, b"show: standard input could not be read\n");
+    }
+}
+
+// The number of the next line; it stops at the last that a number can hold.
+fn counted(number: u32) -> u32 {
+    if number < u32::MAX {
+        return number + 1;
+    }
+    number
+}
+
+// The lines are counted down from a number that no run uses up: a proved loop has to end, and nothing says that the input does.
+fn show_all(
+    table: &mut [u8],
+    workloads: &mut [u8],
+    output: &mut [u8],
+    text: &mut [u8],
+    chunk: &mut [u8],
+    buffer: &mut [u8],
+) {
+    let mut now = input::start();
+    let mut number = 0u32;
+    let mut written = true;
+    let mut turns = u64::MAX;
+    while turns > 0 && written && !now.over {
+        now = input::next(now, chunk, buffer);
+        number = counted(number);
+        written = show_line(table, workloads, output, text, number, now, buffer);
+        turns -= 1;
+    }
+    complain(written, now.failed);
+}
+
+// A fresh table and fresh workloads are zeros. The buffer holds one byte more than the longest frame has digits.
+fn main() {
+    let mut table = [0u8; 3796];
+    let mut workloads = [0u8; 32768];
+    let mut output = [0u8; 16592];
+    let mut text = [0u8; 236912];
+    let mut chunk = io::buffer();
+    let mut buffer = [0u8; 2081];
+    show_all(
+        &mut table,
+        &mut workloads,
+        &mut output,
+        &mut text,
+        &mut chunk,
+        &mut buffer,
+    );
+}

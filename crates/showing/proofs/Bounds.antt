@@ -1,0 +1,27 @@
+-- What is said of a line fits into the text. Assumes nothing.
+use Prim.Native.Nat.{ℕ, _+_, _*_, _≤_}
+use mathlib.Core.Option.{Option}
+use mathlib.Core.List.{List, _++_}
+use native.Mathlib.Omega.{arith}
+use lib.ListN.{length, length-append}
+use Rattle.octets.specs.Bytes.{Bytes}
+use Rattle.server.specs.Lists.{concat}
+use Rattle.server.specs.Table.{Table}
+use Rattle.server.specs.Asked.{Event}
+use Rattle.framing.proofs.Texts.{Fits}
+use Rattle.reporting.specs.Parts.{answerText, headingText, tableText}
+use Rattle.reporting.proofs.Bounds.{answer-short, heading-short, table-short}
+use Rattle.showing.specs.Shown.{lineEnd, lineText, textSize}
+
+pub line-fits : (k : ℕ) → Fits textSize (lineText k)
+unfolding lineText
+line-fits k f ps n t a h =
+    omega (
+      arith,
+      length-append (headingText k f) (answerText ps n ++ (tableText f ps n t ++ lineEnd)),
+      length-append (answerText ps n) (tableText f ps n t ++ lineEnd),
+      length-append (tableText f ps n t) lineEnd,
+      heading-short k f,
+      answer-short ps n a,
+      table-short f ps n t,
+    )

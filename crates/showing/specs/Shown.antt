@@ -1,0 +1,30 @@
+-- What `show` prints for one line of a capture, and for a whole one. docs/SHOW.md has the layout. Assumes nothing.
+use Prim.Native.Nat.{ℕ}
+use mathlib.Core.List.{List, [], _∷_, _++_}
+use Rattle.octets.specs.Bytes.{Bytes}
+use Rattle.server.specs.Server.{Server}
+use Rattle.framing.specs.Spoken.{Speech, Told, told, said, spoken}
+use Rattle.reporting.specs.Parts.{answerText, headingText, tableText}
+
+abbrev pub lineEnd : Bytes
+lineEnd = 10 ∷ []
+
+-- line k
+unfoldable pub lineText : ℕ → Speech
+lineText k f ps n t = headingText k f ++ (answerText ps n ++ (tableText f ps n t ++ lineEnd))
+
+-- room for what any line says: fourteen bytes for each of the 16,592 of the longest output, 1,285 for the heading, 47 for the number,
+-- 3,291 for the table, and the line end
+abbrev pub textSize : ℕ
+textSize = 236912
+
+-- one line on the lent bytes: table, workloads, output, text
+unfoldable pub shown : ℕ → Bytes → Bytes → Bytes → Bytes → Bytes → Told
+shown k line t w o x = told textSize (lineText k) line t w o x
+
+-- a whole text from line 1, on the lent bytes and by the server
+abbrev pub shownText : List Bytes → Bytes → Bytes → Bytes → Bytes → Bytes
+shownText lines t w o x = said textSize lineText 1 lines t w o x
+
+abbrev pub answeredText : List Bytes → Server → Bytes
+answeredText lines s = spoken lineText 1 lines s

@@ -1,0 +1,68 @@
+// One line of a capture in words, laid over a lent text: its number, what it says, what the server answered, and how the table stands
+// after it. docs/SHOW.md has the layout. A line that is no frame is answered by 16, and a text with too little room by nothing at all.
+// No caller has to check anything first.
+use framing::Frame;
+ghost use mathlib.Core.Path.{_≡_};
+ghost use Prim.Native.Nat.{_+_, _≤_};
+ghost use lib.ListN.{length};
+ghost use Rattle.octets.specs.Put.{put};
+ghost use Rattle.server.specs.Layout.{tableOf};
+ghost use Rattle.framing.specs.Frames.{Bounded, eventOf};
+ghost use Rattle.framing.specs.Packets.{Packed, packetsIn};
+ghost use Rattle.framing.specs.Spoken.{telling};
+ghost use Rattle.showing.specs.Shown.{lineText, shown};
+
+// Room for what any line says.
+const TEXT: usize = 236912;
+
+// Lays all that is said of a line.
+fn put_line(
+    text: &mut [u8],
+    number: u32,
+    frame: Frame,
+    bytes: &[u8; 1040],
+    table: &[u8],
+    sent: &[u8],
+    outcome: u8,
+) -> usize
+    requires { ⌜ Bounded frame × Packed (now sent) × ((outcome ≡ 1 → ⊥) → (outcome ≡ 16 → ⊥) → 3796 ≤ length (now table))
+        × (length (now sent) ≤ 16592) × (236912 ≤ length (now text)) ⌝ }
+    ensures { λ r. ⌜ (r ≡ 0 + length (lineText number (eventOf frame (now (bytes .entry))) (packetsIn (now (sent .entry))) outcome (tableOf 16 (now (table .entry)))))
+        × (now (text .exit) ≡ put 0 (lineText number (eventOf frame (now (bytes .entry))) (packetsIn (now (sent .entry))) outcome (tableOf 16 (now (table .entry)))) (now (text .entry))) ⌝ }
+{
+    let answer = reporting::put_heading(text, number, frame, bytes);
+    let standing = reporting::put_answer(text, answer, sent, outcome);
+    let end = reporting::put_table(text, standing, table, frame, bytes, sent, outcome);
+    octets::put(text, end, b"\n")
+}
+
+// One line of a capture, without its line end: lays what is shown of it over the start of the text, and returns how long that is.
+// Nothing is said, and nothing changed, where the text has less room than 236,912 bytes.
+pub fn step(
+    table: &mut [u8],
+    workloads: &mut [u8],
+    output: &mut [u8],
+    text: &mut [u8],
+    number: u32,
+    line: &[u8],
+) -> usize
+    ensures { λ r. ⌜ telling r (now (text .exit)) (now (output .exit)) (now (table .exit)) (now (workloads .exit))
+        ≡ shown number (now (line .entry)) (now (table .entry)) (now (workloads .entry)) (now (output .entry)) (now (text .entry)) ⌝ }
+{
+    if text.len() < TEXT {
+        return 0;
+    }
+    let mut bytes = [0u8; 1040];
+    let frame = framing::read_frame(line, &mut bytes);
+    let answer = framing::answer_frame(table, workloads, output, frame, &bytes);
+    let length = answer.length;
+    put_line(
+        text,
+        number,
+        frame,
+        &bytes,
+        table,
+        &output[..length],
+        answer.number,
+    )
+}

@@ -1,0 +1,98 @@
+-- How long a line on the table is at the most: 59 bytes for the sleepers, 101 for a job, 3,232 for all jobs together. A text with
+-- that much room after `at` has room for any table's. Assumes nothing.
+use Prim.Native.Nat.{ℕ, zero, suc, _+_, _/_, _%_, _<_, _≤_}
+use mathlib.Core.Bool.{Bool, true, false, cond}
+use mathlib.Core.List.{List, [], _∷_, _++_}
+use mathlib.Core.Option.{Option, none, some}
+use native.Mathlib.Omega.{arith}
+use borrow.Author.Tests.{lt-ltb}
+use lib.Dec.{ltb}
+use lib.ListN.{length, getD, length-append}
+use Rattle.octets.specs.Bytes.{Bytes}
+use Rattle.sets.specs.Sets.{has}
+use Rattle.handle.specs.Handle.{decimal, decimalIn, handle, lap}
+use Rattle.handle.proofs.Decimal.{decimal-most}
+use Rattle.handle.proofs.Handles.{handle-most}
+use Rattle.server.specs.declared.Connection.{Connection}
+use Rattle.server.specs.declared.JobRow.{JobRow}
+use Rattle.server.specs.Table.{live, noRow}
+use Rattle.plans.specs.Values.{serialRow}
+use Rattle.naming.specs.Names.{space}
+use Rattle.naming.proofs.Pieces.{pieces-short}
+use Rattle.standing.specs.Standing.{connectionsText, each, foundText, holderText, holderWord, jobText, jobsText, listenersWord, noJobText, orNone, serialText, sleepersText}
+use Rattle.standing.proofs.Connections.{shown, sleeps}
+use Rattle.standing.proofs.Jobs.{unfinished}
+
+-- ---- connections
+
+two-digits : (c : ℕ) → c < 100 → length (decimal c) ≤ 2
+unfolding decimal decimalIn
+two-digits c h = either (ltb c 10)
+  where
+    either : (b : Bool) → length (cond b ((c + 48) ∷ []) (decimalIn 9 (c / 10) ++ ((c % 10 + 48) ∷ []))) ≤ 2
+    either true = omega arith
+    either false = rw (lt-ltb (c / 10) 10 (omega arith)) (omega arith)
+
+connection-short : (f : ℕ → Bool) (c : ℕ) → c < 16 → length (shown f c) ≤ 3
+connection-short f c h = either (f c)
+  where
+    either : (b : Bool) → length (cond b (space ++ decimal c) []) ≤ 3
+    either true = omega (arith, two-digits c (omega arith))
+    either false = omega arith
+
+or-none-short : (s : Bytes) → length s ≤ 48 → length (orNone s) ≤ 48
+unfolding orNone
+or-none-short [] h = omega arith
+or-none-short (x ∷ s) h = h
+
+connections-short : (f : ℕ → Bool) → length (connectionsText f 16) ≤ 48
+unfolding connectionsText each
+connections-short f = or-none-short (each f 16) (pieces-short (shown f) 3 16 (connection-short f))
+
+pub sleepers-short : (cs : List Connection) → length (sleepersText 16 cs) ≤ 59
+unfolding sleepersText
+sleepers-short cs = omega (arith, connections-short (sleeps cs))
+
+-- ---- jobs
+
+holder-short : (h : ℕ) → length (holderText h) ≤ 11
+unfolding holderText
+holder-short zero = omega arith
+holder-short (suc c) = omega (arith, decimal-most c)
+
+job-short : (r : JobRow) → length (jobText 16 r) ≤ 101
+unfolding jobText
+job-short r =
+    let l : Bytes = connectionsText (has (r .listeners)) 16 in
+    omega (
+      arith,
+      length-append (handle lap (r .serial)) (holderWord ++ (holderText (r .holder) ++ (listenersWord ++ l))),
+      handle-most lap (r .serial),
+      length-append (holderText (r .holder)) (listenersWord ++ l),
+      holder-short (r .holder),
+      connections-short (has (r .listeners)),
+    )
+
+no-job-short : (serial : ℕ) → length (noJobText serial) ≤ 101
+unfolding noJobText
+no-job-short serial = omega (arith, handle-most lap serial)
+
+found-short : (serial : ℕ) (rs : List JobRow) (o : Option ℕ) → length (foundText 16 serial rs o) ≤ 101
+unfolding foundText
+found-short serial rs (some p) = job-short (getD rs p noRow)
+found-short serial rs none = no-job-short serial
+
+pub serial-text-short : (serial : ℕ) (rs : List JobRow) → length (serialText 16 serial rs) ≤ 101
+unfolding serialText
+serial-text-short serial rs = found-short serial rs (serialRow serial rs)
+
+row-short : (r : JobRow) → length (cond (live r) (jobText 16 r) []) ≤ 101
+row-short r = either (live r)
+  where
+    either : (b : Bool) → length (cond b (jobText 16 r) []) ≤ 101
+    either true = job-short r
+    either false = omega arith
+
+pub jobs-short : (rs : List JobRow) → length (jobsText 16 rs) ≤ 3232
+unfolding jobsText
+jobs-short rs = pieces-short (unfinished rs) 101 32 (λ p h. row-short (getD rs p noRow))

@@ -1,0 +1,4 @@
+pub mod Connections
+pub mod Jobs
+pub mod Bounds
+pub mod Examples

@@ -1,0 +1,98 @@
+//! A capture in words, as docs/SHOW.md has it: each line, what the server sends, its number, the sleepers, the job.
+#![forbid(unsafe_code)]
+
+use crate::event::Event;
+use crate::handle;
+use crate::lines::lines;
+use crate::outbox::Outbox;
+use crate::packet::{self, Part, Side};
+use crate::replay::{frame, NOT_A_FRAME};
+use crate::server::{Job, Server, CONNECTIONS, DONE};
+use crate::state::members;
+use crate::words::{packet_line, refusal};
+
+/// The whole output for a whole capture.
+pub fn show(input: &[u8]) -> String {
+    let mut server = Server::new();
+    let mut out = Outbox::default();
+    let mut output = String::new();
+    for (index, line) in lines(input).enumerate() {
+        output.push_str(&format!("line {}\n", index + 1));
+        for words in below(line, &mut server, &mut out) {
+            output.push_str(&format!("    {words}\n"));
+        }
+    }
+    output
+}
+
+/// What stands below a line's number. The server does not see a line that is no frame.
+fn below(line: &[u8], server: &mut Server, out: &mut Outbox) -> Vec<String> {
+    let Some(event) = frame(line) else { return vec![refusal(NOT_A_FRAME)] };
+    let number = event.run(server, out);
+    let mut words = vec![said(&event)];
+    words.extend(out.addressed().map(|packet| packet_line(Side::Response, packet[0].into(), &packet[1..])));
+    words.push(if number == DONE { "done".to_string() } else { refusal(number) });
+    let asleep = (0..CONNECTIONS).filter(|&connection| server.connections[connection].asleep);
+    words.push(format!("asleep {}", list(asleep)));
+    words.extend(concerned(&event, number, server, out));
+    words
+}
+
+/// What the line itself says.
+fn said(event: &Event) -> String {
+    match event {
+        Event::Open(connection) => format!("{connection} opens"),
+        Event::Close(connection) => format!("{connection} closes"),
+        Event::Packet(connection, packet) => packet_line(Side::Request, *connection, packet),
+    }
+}
+
+/// The job concerned, if there is one; after a close that is done, all jobs in the order of their places.
+fn concerned(event: &Event, number: u32, server: &Server, out: &Outbox) -> Vec<String> {
+    if let Event::Close(_) = event {
+        let left = server.jobs.iter().flatten().filter(|_| number == DONE);
+        return left.map(job_words).collect();
+    }
+    let words = |serial| match server.jobs.iter().flatten().find(|job| job.serial == serial) {
+        Some(job) => job_words(job),
+        None => format!("no job {}", handle_words(serial)),
+    };
+    serial(event, out).map(words).into_iter().collect()
+}
+
+/// The serial whose handle stands in the packet that came, or else in the first one that was sent.
+fn serial(event: &Event, out: &Outbox) -> Option<u32> {
+    let asked = match event {
+        Event::Packet(_, packet) => serial_in(Side::Request, packet),
+        _ => None,
+    };
+    asked.or_else(|| serial_in(Side::Response, out.addressed().next()?.get(1..)?))
+}
+
+/// The serial of a packet's handle: where a type has a handle, it is the first argument.
+fn serial_in(side: Side, bytes: &[u8]) -> Option<u32> {
+    let packet = packet::read(side, bytes).ok()?;
+    match packet::shape(side, packet.kind)? {
+        [Part::Handle, ..] => handle::read(packet.arguments[0]),
+        _ => None,
+    }
+}
+
+fn job_words(job: &Job) -> String {
+    let handle = handle_words(job.serial);
+    format!("job {handle} holder {} listeners {}", list(job.holder), list(members(job.listeners)))
+}
+
+fn handle_words(serial: u32) -> String {
+    String::from_utf8_lossy(handle::print(serial).bytes()).into_owned()
+}
+
+/// Connections with one space between each two, or `none`.
+fn list(connections: impl IntoIterator<Item = usize>) -> String {
+    let all: Vec<String> = connections.into_iter().map(|connection| connection.to_string()).collect();
+    if all.is_empty() {
+        "none".to_string()
+    } else {
+        all.join(" ")
+    }
+}

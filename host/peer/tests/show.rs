@@ -1,0 +1,173 @@
+//! What docs/SHOW.md prints, line by line, and that random captures meet all of it.
+mod common;
+
+use common::{request, response};
+use peer::captures::capture;
+use peer::hex;
+use peer::packet::{shape, Side};
+use peer::show::show;
+use peer::words::{labels, name, packet_line, refusal};
+
+/// A frame's line: a packet of this type and these arguments.
+fn sent(connection: u8, kind: u32, arguments: &[&[u8]]) -> String {
+    format!("03{connection:02x}{}\n", hex::write(&request(kind, arguments)))
+}
+
+fn requested(connection: u32, kind: u32, arguments: &[&[u8]]) -> String {
+    packet_line(Side::Request, connection, &request(kind, arguments))
+}
+
+fn responded(connection: u8, kind: u32, arguments: &[&[u8]]) -> String {
+    packet_line(Side::Response, connection.into(), &response(connection, kind, arguments).1)
+}
+
+/// What stands below the last line of a capture.
+fn last(capture: &str) -> Vec<String> {
+    let shown = show(capture.as_bytes());
+    let lines: Vec<&str> = shown.lines().collect();
+    let start = lines.iter().rposition(|line| line.starts_with("line ")).unwrap();
+    lines[start + 1..].iter().map(|line| line.strip_prefix("    ").unwrap().to_string()).collect()
+}
+
+#[test]
+fn packets_that_are_read() {
+    assert_eq!(requested(1, 1, &[b"reverse"]), "1 -> CAN_DO reverse");
+    assert_eq!(requested(1, 9, &[]), "1 -> GRAB_JOB");
+    assert_eq!(
+        requested(0, 7, &[b"reverse", b"", b"test"]),
+        "0 -> SUBMIT_JOB function reverse unique \"\" workload 4 bytes"
+    );
+    assert_eq!(responded(0, 8, &[b"H:lap:1"]), "0 <- JOB_CREATED H:lap:1");
+    assert_eq!(
+        responded(1, 11, &[b"H:lap:1", b"reverse", b"test"]),
+        "1 <- JOB_ASSIGN handle H:lap:1 function reverse workload 4 bytes"
+    );
+    assert_eq!(requested(1, 13, &[b"H:lap:1", b"tset"]), "1 -> WORK_COMPLETE handle H:lap:1 data 4 bytes");
+    assert_eq!(
+        responded(0, 20, &[b"H:lap:1", b"1", b"0", b"0", b"0"]),
+        "0 <- STATUS_RES handle H:lap:1 known 1 running 0 numerator 0 denominator 0"
+    );
+    assert_eq!(responded(2, 19, &[b"09", b"type"]), "2 <- ERROR number 09 text type");
+    assert_eq!(requested(15, 16, &[b"a\0b\0c\0"]), "15 -> ECHO_REQ 6 bytes");
+    assert_eq!(requested(3, 1, &[b"a b\xff"]), "3 -> CAN_DO a?b?");
+    assert_eq!(requested(3, 26, &[b""]), "3 -> OPTION_REQ \"\"");
+    assert_eq!(requested(3, 16, &[b""]), "3 -> ECHO_REQ 0 bytes");
+    assert_eq!(requested(3, 1, &[b"\x20\x21\x7e\x7f"]), "3 -> CAN_DO ?!~?");
+}
+
+#[test]
+fn packets_that_are_refused() {
+    assert_eq!(packet_line(Side::Request, 2, b""), "2 -> refused 5 under 12 bytes");
+    assert_eq!(packet_line(Side::Request, 2, &response(2, 6, &[]).1), "2 -> refused 6 magic");
+    assert_eq!(requested(2, 16, &[&[0; 1_025]]), "2 -> refused 7 size");
+    assert_eq!(
+        packet_line(Side::Request, 2, &[&request(9, &[])[..], b"a"].concat()),
+        "2 -> refused 8 length is not 12 + size"
+    );
+    assert_eq!(requested(2, 22, &[b"id"]), "2 -> SET_CLIENT_ID refused 9 type");
+    assert_eq!(requested(2, 5, &[]), "2 -> (unused) refused 9 type");
+    for kind in [0, 37, 256 + 9, u32::MAX] {
+        assert_eq!(requested(2, kind, &[]), "2 -> ? refused 9 type");
+    }
+    assert_eq!(requested(2, 1, &[b""]), "2 -> CAN_DO refused 10 arguments");
+    assert_eq!(refusal(14), "refused 14 handle");
+    assert_eq!(refusal(17), "refused 17 ?");
+}
+
+#[test]
+fn every_argument_has_a_label() {
+    for kind in 0..40 {
+        let counts = [Side::Request, Side::Response].map(|side| shape(side, kind).map(<[_]>::len));
+        for count in counts.into_iter().flatten() {
+            assert_eq!(labels(kind).len(), count, "{}", name(kind));
+        }
+        if counts == [None, None] {
+            assert!(labels(kind).is_empty(), "{}", name(kind));
+        }
+    }
+}
+
+#[test]
+fn a_line_that_is_no_frame() {
+    assert_eq!(show(b""), "");
+    assert_eq!(
+        show(b"\n0100"),
+        "line 1\n    refused 16 line is not a frame\nline 2\n    0 opens\n    done\n    asleep none\n"
+    );
+}
+
+#[test]
+fn the_job_concerned() {
+    let queued = format!("0100\n0101\n{}{}", sent(1, 1, &[b"f"]), sent(0, 7, &[b"f", b"", b"w"]));
+    assert_eq!(last(&queued).last().unwrap(), "job H:lap:1 holder none listeners 0");
+    let held = queued + &sent(1, 9, &[]);
+    assert_eq!(last(&held).last().unwrap(), "job H:lap:1 holder 1 listeners 0");
+    for (handle, job) in [
+        ("H:lap:1", "job H:lap:1 holder 1 listeners 0"),
+        ("H:lap:2", "no job H:lap:2"),
+        ("H:lap:4294967295", "no job H:lap:4294967295"),
+        // No handles, so that no job is concerned and the sleepers stand last.
+        ("H:lap:01", "asleep none"),
+        ("H:lap:0", "asleep none"),
+        ("H:lap:4294967296", "asleep none"),
+    ] {
+        // Asked for, refused by 14, and from a connection that is not open.
+        for line in
+            [sent(0, 15, &[handle.as_bytes()]), sent(0, 14, &[handle.as_bytes()]), sent(2, 14, &[handle.as_bytes()])]
+        {
+            assert_eq!(last(&(held.clone() + &line)).last().unwrap(), job, "{line}");
+        }
+    }
+    let ended = held + &sent(1, 14, &[b"H:lap:1"]);
+    assert_eq!(
+        last(&ended),
+        ["1 -> WORK_FAIL H:lap:1", "0 <- WORK_FAIL H:lap:1", "done", "asleep none", "no job H:lap:1"]
+    );
+}
+
+#[test]
+fn after_a_close_that_is_done_all_jobs_are_shown() {
+    let mut capture = format!("0100\n0101\n0102\n{}", sent(1, 1, &[b"f"]));
+    for connection in [2, 0, 2] {
+        capture += &sent(connection, 7, &[b"f", b"u", b"w"]);
+        capture += &sent(connection, 18, &[b"g", b"", b"w"]);
+    }
+    capture += &sent(1, 9, &[]);
+    let others = [2, 3, 4].map(|serial| format!("job H:lap:{serial} holder none listeners none"));
+    let refused = last(&(capture.clone() + "020f\n"));
+    assert_eq!(refused, ["15 closes", "refused 3 connection not open", "asleep none"]);
+    let left = last(&(capture + "0202\n"));
+    assert_eq!(left[..3], ["2 closes", "done", "asleep none"]);
+    assert_eq!(left[3], "job H:lap:1 holder 1 listeners 0");
+    assert_eq!(left[4..], others);
+}
+
+#[test]
+fn sleepers_in_rising_order() {
+    let capture = [11u8, 3, 7].map(|connection| format!("01{connection:02x}\n{}", sent(connection, 4, &[])));
+    assert_eq!(last(&capture.concat()), ["7 -> PRE_SLEEP", "done", "asleep 3 7 11"]);
+}
+
+#[test]
+fn random_captures_reach_everything() {
+    let shown: String = (1..=4).map(|seed| show(&capture(5_000, seed))).collect();
+    let count = |part: &str| shown.matches(part).count();
+    for number in (2..=16).filter(|&number| number != 13) {
+        assert!(count(&format!("\n    {}\n", refusal(number))) >= 20, "{}", refusal(number));
+    }
+    for kind in 0..40 {
+        let named =
+            |arrow: &str| count(&format!(" {arrow} {} ", name(kind))) + count(&format!(" {arrow} {}\n", name(kind)));
+        assert!(named("->") > 0, "-> {}", name(kind));
+        assert!(shape(Side::Response, kind).is_none() || named("<-") >= 10, "<- {}", name(kind));
+    }
+    for part in ["\n    no job H:lap:", " holder 1 listeners ", " listeners none\n"] {
+        assert!(count(part) >= 20, "{part}");
+    }
+    let longest = |word: &str| {
+        shown.lines().filter_map(|line| line.split_once(word)).map(|(_, list)| list.split(' ').count()).max()
+    };
+    assert!(longest("listeners ") >= Some(5) && longest("asleep ") >= Some(5));
+    let jobs = |line: &str| line.matches("\n    job ").count();
+    assert!(shown.split("\nline ").map(jobs).max() >= Some(30), "a close while the queue is full");
+}
