@@ -4,14 +4,11 @@ use plans::Values;
 use server::Connection;
 use server::JobRow;
 ghost use mathlib.Core.Path.{_≡_};
-ghost use mathlib.Core.Bool.{cond};
-ghost use mathlib.Core.List.{map};
-ghost use Prim.Native.Nat.{_<_, suc};
+ghost use Prim.Native.Nat.{_<_};
 ghost use lib.ListN.{getD, set};
-ghost use Rattle.sets.specs.Sets as S;
 ghost use Rattle.server.specs.Table.{closed, noRow, withHolder, withListeners};
-ghost use Rattle.server.specs.Events.{deafTo, submittedBy};
-ghost use Rattle.plans.specs.Plans.{closedIn, heard, leftRow, openedIn, putRow, sleepingIn, withAble, withConnection, withRows};
+ghost use Rattle.server.specs.Events.{submittedBy};
+ghost use Rattle.plans.specs.Plans.{putRow, sleepingIn, withAble, withConnection, withRows};
 
 // The row at a place.
 pub fn row_at(rows: [JobRow; 32], p: usize) -> JobRow

@@ -6,7 +6,7 @@ use packet::Shape;
 use packet::Split;
 ghost use mathlib.Core.Path.{_≡_};
 ghost use mathlib.Core.List.{[], _∷_};
-ghost use Prim.Native.Nat.{_+_, _≤_, _<_, _^_};
+ghost use Prim.Native.Nat.{_+_, _<_, _^_};
 ghost use lib.ListN.{drop, length};
 ghost use Rattle.octets.specs.Bytes.{within};
 ghost use Rattle.packet.specs.Layout.{rulesOf};

@@ -29,14 +29,14 @@ use Rattle.server.specs.Call.{serverIn, call}
 use Rattle.serials.proofs.Refusals.{bad-within}
 use Rattle.plans.specs.declared.Plan.{Plan}
 use Rattle.plans.specs.declared.Change.the-variants as CV
-use Rattle.plans.specs.declared.Order as O′
 use Rattle.plans.specs.declared.Order.the-variants as OV
 use Rattle.plans.specs.Values.{valuesOf}
 use Rattle.plans.specs.Settling.{droppedRows, toWakeIn}
 use Rattle.plans.specs.Plans.{closedIn, done, openedIn, ordered, planFor, planServed}
 use Rattle.planned.proofs.Decides.{Words, Suits, for-open, for-close, planned}
 use Rattle.sending.proofs.Rendered.{data-whole, noops-rendered}
-use Rattle.sending.proofs.Forwarding.{read-answer, served-below}
+use Rattle.packet_laws.proofs.Answers.{read-answer}
+use Rattle.sending.proofs.Forwarding.{served-below}
 use Rattle.applying.specs.Fitting.{Fitting}
 use Rattle.applying.proofs.Laid.{whole}
 use Rattle.carrying.proofs.Changes.{Whole}

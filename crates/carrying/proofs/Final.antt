@@ -1,6 +1,6 @@
 -- The end of an event on bytes: the texts of free places and the names of forgotten functions set to zero, and the settled numbers
 -- written: the bytes of the settled table. Assumes nothing.
-use Prim.Native.Nat.{ℕ, suc, _+_}
+use Prim.Native.Nat.{ℕ, suc}
 use mathlib.Core.Path.{_≡_, refl, sym, ap, ap₂, _∙_}
 use mathlib.Core.Bool.{Bool, true, false, cond, not}
 use mathlib.Core.List.{List, [], _∷_, map}

@@ -3,7 +3,7 @@
 use plans::Values;
 use server::JobRow;
 ghost use mathlib.Core.Path.{_≡_};
-ghost use mathlib.Core.Bool.{not, true};
+ghost use mathlib.Core.Bool.{not};
 ghost use mathlib.Core.List.{[], _∷_, map};
 ghost use Prim.Native.Nat.{_+_, _*_, _≤_, _<_};
 ghost use lib.ListN.{length};
@@ -11,7 +11,7 @@ ghost use Rattle.octets.specs.Put.{put};
 ghost use Rattle.server.specs.Lists.{fit};
 ghost use Rattle.server.specs.Table.{heldBy};
 ghost use Rattle.plans.specs.Settling.{settledValues};
-ghost use Rattle.texts.specs.Places.{cleared, reset};
+ghost use Rattle.texts.specs.Places.{reset};
 ghost use Rattle.carrying.specs.Written.{freeMarks, tidied, written};
 
 // Which places are free.

@@ -12,9 +12,9 @@ use Rattle.octets.specs.Bytes.{Bytes}
 use Rattle.packet.specs.declared.Ends.{Ends}
 use Rattle.packet.specs.declared.Shape.{Shape}
 use Rattle.packet.specs.declared.Read.the-variants as RV
-use Rattle.packet.specs.Arguments.{endsOf}
-use Rattle.packet.specs.Packet.{Direction, Reading, refused, got, header, read, requests, responses}
+use Rattle.packet.specs.Packet.{Direction, header, read, requests, responses}
 use Rattle.packet.specs.Answers.{answerOf, argumentAt}
+use Rattle.packet_laws.proofs.Answers.{read-answer, refused-answer}
 use Rattle.packet_laws.proofs.Places.{argument-read}
 use Rattle.handle.specs.declared.Serial as S
 use Rattle.handle.specs.declared.Serial.the-variants as SV
@@ -35,33 +35,18 @@ module _ (shape : Shape) (a : Bytes) (names : Bool) (e : names ≡ namesJob shap
   unfolding handleIn
   handle-first h b q r f = rw (sym e ∙ not-false names h, ← q) f
 
--- ---- the answer and the reading that it stands for
-
-refused-answer : (r : Reading) (n : ℕ) → RV.Refused n ≡ answerOf r → r ≡ refused n
-unfolding answerOf
-refused-answer (refused m) n e = let q : m ≡ n = cc in ap refused q
-refused-answer (got k as′) n e = let z : _≡_ {A = ℕ} 0 1 = cc in absurd (omega arith)
-
-packet-answer : (r : Reading) (k : ℕ) (ends : Ends) → RV.Packet k ends ≡ answerOf r → (as′ : List Bytes) × (r ≡ got k as′) × (ends ≡ endsOf 12 as′)
-unfolding answerOf
-packet-answer (refused n) k ends e = let z : _≡_ {A = ℕ} 0 1 = cc in absurd (omega arith)
-packet-answer (got j as′) k ends e =
-    let p : j ≡ k = cc in
-    let q : ends ≡ endsOf 12 as′ = cc in
-    (as′, ap (λ (x : ℕ). got x as′) p, q)
-
 -- ---- the job that a packet names
 
 module _ (w : Direction) (s : Bytes) where
   pub named-none : (n : ℕ) → RV.Refused n ≡ answerOf (read w s) → SV.None ≡ jobNamed w s
   unfolding jobNamed namedBy
-  named-none n e = rw (refused-answer (read w s) n e)
+  named-none n e = rw (refused-answer (read w s) n (sym e))
 
   pub named-first : (k : ℕ) (ends : Ends) → RV.Packet k ends ≡ answerOf (read w s) → (shape : Shape) → shape ≡ w .shape k
       → handleIn shape (argumentAt s ends 0) ≡ jobNamed w s
   unfolding jobNamed namedBy
   named-first k ends e shape q =
-      let r = packet-answer (read w s) k ends e in
+      let r = read-answer (read w s) k ends (sym e) in
       let a : argumentAt s ends 0 ≡ getD (r .0) 0 [] = ap (λ (x : Ends). argumentAt s x 0) (r .2) ∙ argument-read w s k (r .0) (r .1) 0 (lit≤ tt) in
       rw (q, a) (sym (ap (namedBy (w .shape)) (r .1)))
 

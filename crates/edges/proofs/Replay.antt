@@ -1,10 +1,9 @@
 -- Document 01's replay, which is document 000's example: all eight events, and all that is sent. Assumes nothing.
-use Prim.Native.Nat.{ℕ}
 use mathlib.Core.Path.{_≡_, refl}
 use mathlib.Core.List.{List, [], _∷_}
 use lib.ListN.{replicate}
 use Rattle.octets.specs.Bytes.{Bytes}
-use Rattle.server.specs.Asked.{Event, opens, closes, sends}
+use Rattle.server.specs.Asked.{Event, opens}
 use Rattle.server.proofs.Histories.{request, response, numbersOf, packetsOf}
 
 -- `reverse`, `test`, `tset`, `H:lap:1`

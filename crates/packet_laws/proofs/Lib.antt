@@ -6,3 +6,4 @@ pub mod Blindness
 pub mod Places
 pub mod Once
 pub mod Examples
+pub mod Answers

@@ -2,7 +2,7 @@
 use Prim.Native.Nat.{ℕ, zero, suc, _+_, _-_, _^_, _<_, _≤_, zero-le}
 use mathlib.Core.Path.{_≡_, refl, sym, _∙_}
 use mathlib.Core.Bool.{Bool, true, false, not, cond}
-use mathlib.Core.List.{List, []}
+use mathlib.Core.List.{[]}
 use native.Mathlib.Omega.{arith}
 use borrow.Author.Tests.{lt-ltb, le-ltb, le-leb, lt-leb, eq-eqb, ne-eqb, not-true, not-false, ltb-false, eqb-true}
 use lib.ListN.{length, getD, take, drop, length-drop, List·getD-eq-default}
@@ -13,7 +13,6 @@ use Rattle.packet.specs.declared.Ends.{Ends}
 use Rattle.packet.specs.declared.Shape.{Shape}
 use Rattle.packet.specs.declared.Read as R
 use Rattle.packet.specs.declared.Read.the-variants as RV
-use Rattle.packet.specs.declared.Header as H
 use Rattle.packet.specs.declared.Header.the-variants as HV
 use Rattle.packet.specs.declared.Split as S
 use Rattle.packet.specs.declared.Split.the-variants as SV

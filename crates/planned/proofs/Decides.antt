@@ -7,7 +7,7 @@ use mathlib.Core.Option.{Option, none, some}
 use mathlib.Core.List.{List, [], _∷_, _++_, map}
 use lib.ListN.{length, getD, set, List·getD-map}
 use lib.Seq.{map-set-same}
-use lib.Dec.{T, leb, ltb, eqb, leb→le, eqb·suc-zero}
+use lib.Dec.{T, leb, ltb, leb→le, eqb·suc-zero}
 use Rattle.octets.specs.Bytes.{Bytes, same}
 use Rattle.octets.proofs.Strings.{same-is}
 use Rattle.sets.specs.Sets.{insert, remove, members}

@@ -22,7 +22,6 @@ use Rattle.server.specs.Lists.{any, all, up, find, filter, mapFrom, numbers}
 use Rattle.server.specs.Table.{Function, Job, Table, noFunction, noRow, noJob, closed, functionAt, live, queued, heldBy, hasHandle, names, wanted, grabbable, rank, greatest, best, freePlace}
 use Rattle.server.specs.Rules.{nextSmall, serialsBelow}
 use Rattle.server.specs.Events.{Send, lost, unlessLost, dropped, wakes, awake, woken, toWake, forgot, settle, holdsHandle}
-use Rattle.plans.specs.declared.Values as V′
 use Rattle.plans.specs.Values.{rowsOf, ablesOf, valuesOf, canGrab, rankIn, freeRow, bestRow, serialRow, heldRow}
 use Rattle.plans.specs.Settling.{droppedRows, wakesIn, wokenIn, toWakeIn, wantedIn, wantedMarks, settledValues}
 

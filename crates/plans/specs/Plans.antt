@@ -1,18 +1,17 @@
 -- What an event comes to, as a plan: the numbers after it, the texts that it changes, and the packets that it sends, before the table
 -- is settled. Each case follows the server's definition of the same name. Assumes nothing.
-use Prim.Native.Nat.{ℕ, zero, suc, _+_}
-use mathlib.Core.Bool.{Bool, true, false, not, cond, _&&_, _||_}
+use Prim.Native.Nat.{ℕ, suc}
+use mathlib.Core.Bool.{Bool, true, false, not, cond}
 use mathlib.Core.Option.{Option, none, some}
-use mathlib.Core.List.{List, [], _∷_, _++_, map}
+use mathlib.Core.List.{List, [], _∷_, map}
 use lib.ListN.{length, getD, set}
 use lib.Dec.{ltb, eqb}
 use Rattle.octets.specs.Bytes.{Bytes, same}
-use Rattle.handle.specs.Handle.{handle, lap}
-use Rattle.sets.specs.Sets.{has, insert, remove, members}
+use Rattle.sets.specs.Sets.{insert, remove, members}
 use Rattle.server.specs.declared.Connection.{Connection}
 use Rattle.server.specs.declared.JobRow.{JobRow}
 use Rattle.server.specs.Lists.{find}
-use Rattle.server.specs.Table.{Function, Job, Table, noRow, noJob, noFunction, closed, jobAt, functionAt, setFunction, setJob, withRow, withTexts, withListeners, withHolder, live, heldBy, hasHandle, known, roomFor, joined}
+use Rattle.server.specs.Table.{Function, Job, Table, noRow, noJob, noFunction, closed, jobAt, functionAt, setFunction, setJob, withRow, withTexts, withHolder, live, heldBy, hasHandle, known, roomFor, joined}
 use Rattle.server.specs.Asked.{Work, tells, reports, ends, throws, Asked, toOpen, toClose, reset, preSleep, echo, bad, canDo, cantDo, grab, submit, work, getStatus, option}
 use Rattle.server.specs.Events.{Send, plain, copy, assign, created, flag, exceptionsName, catching, named, submittedBy, deafTo, holdsHandle, isOpening}
 use Rattle.plans.specs.declared.Values as V′

@@ -1,10 +1,10 @@
 -- The end of every event that is done, on the numbers alone: lost jobs are dropped, sleepers with a grabbable job are woken, and
 -- functions that nobody wants are forgotten. Assumes nothing.
-use Prim.Native.Nat.{ℕ, zero, suc}
-use mathlib.Core.Bool.{Bool, true, false, not, cond, _&&_, _||_}
-use mathlib.Core.List.{List, [], _∷_, map}
+use Prim.Native.Nat.{ℕ}
+use mathlib.Core.Bool.{Bool, not, cond, _&&_, _||_}
+use mathlib.Core.List.{List, map}
 use lib.ListN.{length, getD}
-use Rattle.sets.specs.Sets.{has, isEmpty}
+use Rattle.sets.specs.Sets.{isEmpty}
 use Rattle.server.specs.declared.Connection.{Connection}
 use Rattle.server.specs.declared.JobRow.{JobRow}
 use Rattle.server.specs.Lists.{any, filter, mapFrom, numbers}

@@ -1,18 +1,15 @@
 -- The numbers of a table, and searches in them. Each is what the server's definitions say of the table whose numbers these are.
 -- Assumes nothing.
-use Prim.Native.Nat.{ℕ, zero, suc, _*_, _+_, _-_, max}
-use mathlib.Core.Bool.{Bool, true, false, not, cond, _&&_, _||_}
+use Prim.Native.Nat.{ℕ, suc, _*_, _+_, _-_}
+use mathlib.Core.Bool.{Bool, not, cond, _&&_}
 use mathlib.Core.Option.{Option, none, some}
-use mathlib.Core.List.{List, [], _∷_, map}
-use lib.ListN.{length, getD}
+use mathlib.Core.List.{List, map}
+use lib.ListN.{getD}
 use lib.Dec.{eqb}
-use Rattle.octets.specs.Bytes.{Bytes, same}
-use Rattle.sets.specs.Sets.{has, isEmpty}
-use Rattle.server.specs.declared.Connection.{Connection}
+use Rattle.sets.specs.Sets.{has}
 use Rattle.server.specs.declared.JobRow.{JobRow}
-use Rattle.server.specs.Lists.{any, find}
-use Rattle.server.specs.Table.{Function, Job, Table, noRow, live, queued, greatest, hasHandle}
-use Rattle.server.specs.Events.{holdsHandle}
+use Rattle.server.specs.Lists.{find}
+use Rattle.server.specs.Table.{Table, live, queued, greatest}
 use Rattle.plans.specs.declared.Place.{Place}
 use Rattle.plans.specs.declared.Place.the-variants.{At, Nowhere}
 use Rattle.plans.specs.declared.Values as V′

@@ -1,6 +1,6 @@
 -- How a step meets the definition: the lines that were laid are those of what answering the frame left. Assumes nothing.
 use Prim.Native.Nat.{ℕ, _+_, _*_, _<_, _≤_}
-use mathlib.Core.Path.{_≡_, sym, ap, _∙_}
+use mathlib.Core.Path.{_≡_, sym, ap}
 use mathlib.Core.Option.{Option}
 use native.Mathlib.Omega.{arith}
 use borrow.Author.Tests.{lt-ltb, le-ltb}
@@ -14,7 +14,7 @@ use Rattle.performing.specs.Concluded.{left}
 use Rattle.framing.specs.Packets.{Packed, packetsIn}
 use Rattle.framing.specs.Spoken.{answeredTo, packetsTo, saying, telling, toldOf, told}
 use Rattle.framing.proofs.Sent.{output-inside, output-few, output-packed, output-packets}
-use Rattle.replaying.specs.Replayed.{inDigits, textSize, replayed}
+use Rattle.replaying.specs.Replayed.{textSize, replayed}
 
 module _ (t w o : Bytes) where
   pub short-text : (line x : Bytes) → length x < textSize → telling 0 x o t w ≡ replayed line t w o x

@@ -2,7 +2,7 @@
 use Prim.Native.Nat.{ℕ, zero, suc, _+_, _<_, _≤_}
 use mathlib.Core.Path.{_≡_, refl, ap, sym, subst, _∙_}
 use mathlib.Core.Bool.{Bool, true, false}
-use mathlib.Core.Option.{Option, none, some}
+use mathlib.Core.Option.{some}
 use mathlib.Core.List.{[], _∷_, map}
 use mathlib.Core.Logic.{⊎-elim}
 use native.Mathlib.Nat.{eq-or-lt-of-le}
@@ -32,6 +32,7 @@ use Rattle.server.specs.Asked as A
 use Rattle.server.specs.Events.{holdsHandle, exceptionsName}
 use Rattle.server.specs.Layout.{tableOf}
 use Rattle.server.specs.Call.{isSound}
+use Rattle.plans.proofs.Places.{searched}
 use Rattle.plans.specs.declared.Place.{Place}
 use Rattle.plans.specs.declared.Plan.{Plan}
 use Rattle.plans.specs.declared.Values as V′
@@ -66,14 +67,6 @@ module _ (f : Bytes) (e : fits function f ≡ true) where
   name-free = and-right (within 1 32 (length f)) (zeroFree f) e
 
 -- ---- places
-
-placed-back : (o : Option ℕ) → unplaced (placed o) ≡ o
-placed-back none = refl
-placed-back (some i) = refl
-
--- the search whose place this is
-searched : (o : Option ℕ) (p : Place) → p ≡ placed o → unplaced p ≡ o
-searched o p e = ap unplaced e ∙ placed-back o
 
 -- the grab of the job that the search found
 pub best-grabbed : (v : V′.Values) (uniq : Bool) (c : ℕ) (p : Place) (r : Plan) → p ≡ placed (bestRow (v .able) (v .rows) c) → r ≡ planGrab (unplaced p) uniq c v

@@ -15,11 +15,12 @@ use Rattle.packet.specs.declared.Shape.the-variants.{Foreign}
 use Rattle.packet.specs.Layout.{isOwn, requestShape, responseShape, rulesOf, served}
 use Rattle.octets.proofs.Strings.{and-left, and-right}
 use Rattle.packet.specs.declared.Read.the-variants as RV
-use Rattle.packet.specs.Arguments.{endsOf, fitAll, join}
-use Rattle.packet.specs.Packet.{Reading, refused, got, given, read, requests}
+use Rattle.packet.specs.Arguments.{fitAll, join}
+use Rattle.packet.specs.Packet.{given, read, requests}
 use Rattle.packet.specs.Answers.{answerOf, argumentAt}
 use Rattle.packet_laws.proofs.Splitting.{split-join, fit-length}
 use Rattle.packet_laws.proofs.Packets.{Headed, header-good, Got, read-got}
+use Rattle.packet_laws.proofs.Answers.{read-answer}
 use Rattle.packet_laws.proofs.Places.{argument-read}
 use Rattle.kinds.proofs.Tests.{bools, range-arm}
 use Rattle.kinds.proofs.Shapes.{at-most-five, shapes}
@@ -27,15 +28,6 @@ use Rattle.server.specs.Asked.{Work, Asked, toOpen, toClose, reset, preSleep, e
 use Rattle.sending.specs.Messages.{Sendable, Forwards}
 
 -- ---- which packets may be forwarded
-
--- the answer of reading is a type and where its arguments end
-pub read-answer : (r : Reading) (k : ℕ) (ends : Ends) → answerOf r ≡ RV.Packet k ends → (as′ : List Bytes) × (r ≡ got k as′) × (ends ≡ endsOf 12 as′)
-unfolding answerOf
-read-answer (refused n) k ends e = let z : _≡_ {A = ℕ} 0 1 = cc in absurd (omega arith)
-read-answer (got j as′) k ends e =
-    let p : j ≡ k = cc in
-    let q : ends ≡ endsOf 12 as′ = cc in
-    (as′, ap (λ (x : ℕ). got x as′) p, q)
 
 pub read-forwards : (p : Bytes) (ends : Ends) (k kind : ℕ) → answerOf (read requests p) ≡ RV.Packet k ends → responseShape kind ≡ requestShape k → Forwards p ends kind
 read-forwards p ends k kind e a =

@@ -1,6 +1,6 @@
 -- Each public call as one function of the lent bytes: number, length, output, table, workloads. 01, "What should be built" and
 -- "Refusal numbers". Assumes nothing.
-use Prim.Native.Nat.{ℕ, _+_, _*_}
+use Prim.Native.Nat.{ℕ, _*_}
 use mathlib.Core.Bool.{Bool, not, cond, _&&_, _||_}
 use mathlib.Core.List.{List, map}
 use lib.ListN.{length, take, drop, replicate}

@@ -6,7 +6,6 @@ use server::JobRow;
 ghost use mathlib.Core.Path.{_≡_};
 ghost use Prim.Native.Nat.{_<_};
 ghost use mathlib.Core.Bool.{cond, _&&_};
-ghost use lib.ListN.{getD};
 ghost use Rattle.sets.specs.Sets.{has};
 ghost use Rattle.server.specs.Table.{noRow};
 ghost use Rattle.server.specs.Events.{awake, lost};

@@ -1,13 +1,8 @@
 -- What is said of a line fits into the text. Assumes nothing.
-use Prim.Native.Nat.{ℕ, _+_, _*_, _≤_}
-use mathlib.Core.Option.{Option}
-use mathlib.Core.List.{List, _++_}
+use Prim.Native.Nat.{ℕ, _+_}
+use mathlib.Core.List.{_++_}
 use native.Mathlib.Omega.{arith}
-use lib.ListN.{length, length-append}
-use Rattle.octets.specs.Bytes.{Bytes}
-use Rattle.server.specs.Lists.{concat}
-use Rattle.server.specs.Table.{Table}
-use Rattle.server.specs.Asked.{Event}
+use lib.ListN.{length-append}
 use Rattle.framing.proofs.Texts.{Fits}
 use Rattle.reporting.specs.Parts.{answerText, headingText, tableText}
 use Rattle.reporting.proofs.Bounds.{answer-short, heading-short, table-short}

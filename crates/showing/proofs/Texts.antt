@@ -1,5 +1,5 @@
 -- A whole capture shown, from a fresh table: what is printed is what the server says and does, in words. Assumes nothing.
-use Prim.Native.Nat.{ℕ, _≤_}
+use Prim.Native.Nat.{_≤_}
 use mathlib.Core.Path.{_≡_}
 use mathlib.Core.List.{List}
 use lib.ListN.{length, replicate}

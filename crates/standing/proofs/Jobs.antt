@@ -3,16 +3,15 @@ use Prim.Native.Nat.{ℕ, zero, suc, _-_}
 use mathlib.Core.Path.{_≡_, refl, ap, _∙_}
 use mathlib.Core.Bool.{cond}
 use mathlib.Core.List.{List, [], _++_}
-use mathlib.Core.Option.{Option, none, some}
 use native.Mathlib.Omega.{arith}
 use lib.ListN.{getD}
 use Rattle.octets.specs.Bytes.{Bytes}
 use Rattle.handle.specs.Handle.{decimal}
 use Rattle.server.specs.declared.JobRow.{JobRow}
 use Rattle.server.specs.Table.{live, noRow}
-use Rattle.plans.specs.declared.Place.{Place}
+use Rattle.plans.proofs.Places.{searched}
 use Rattle.plans.specs.declared.Place.the-variants.{At, Nowhere}
-use Rattle.plans.specs.Values.{placed, serialRow, unplaced}
+use Rattle.plans.specs.Values.{placed, serialRow}
 use Rattle.naming.specs.Names.{space}
 use Rattle.standing.specs.Standing.{foundText, holderText, holderWord, jobText, noJobText, noneWord, serialText}
 
@@ -32,13 +31,6 @@ holder-some zero n = absurd (n refl)
 holder-some (suc c) n = let e : suc c - 1 ≡ c = omega arith in rw e
 
 -- ---- the job of a serial, from the answer of the search
-
-searched : (o : Option ℕ) (p : Place) → p ≡ placed o → unplaced p ≡ o
-searched o p e = ap unplaced e ∙ back o
-  where
-    back : (o : Option ℕ) → unplaced (placed o) ≡ o
-    back (some i) = refl
-    back none = refl
 
 module _ (n serial : ℕ) (rs : List JobRow) where
   pub serial-found : (p : ℕ) (r : JobRow) → At p ≡ placed (serialRow serial rs) → r ≡ getD rs p noRow → jobText n r ≡ serialText n serial rs

@@ -3,7 +3,7 @@
 use Prim.Native.Nat.{ℕ, _<_, _≤_, _^_}
 use mathlib.Core.Path.{_≡_, refl, ap, _∙_, sym}
 use mathlib.Core.Bool.{Bool, true, false}
-use mathlib.Core.List.{List, [], _++_}
+use mathlib.Core.List.{[], _++_}
 use native.Mathlib.Omega.{arith}
 use borrow.Author.Tests.{ltb-false}
 use lib.Dec.{ltb}
@@ -13,30 +13,15 @@ use Rattle.packet.specs.declared.Ends.{Ends}
 use Rattle.packet.specs.declared.Shape.{Shape}
 use Rattle.packet.specs.declared.Read.the-variants as RV
 use Rattle.packet.specs.Layout.{rulesOf}
-use Rattle.packet.specs.Arguments.{endsOf}
-use Rattle.packet.specs.Packet.{Direction, Reading, refused, got, header, read}
+use Rattle.packet.specs.Packet.{Direction, refused, header, read}
 use Rattle.packet.specs.Answers.{answerOf, argumentAt}
+use Rattle.packet_laws.proofs.Answers.{read-answer, refused-answer}
 use Rattle.packet_laws.proofs.Packets.{Headed, header-good, read-got}
 use Rattle.packet_laws.proofs.Places.{argument-read}
 use Rattle.kinds.proofs.Shapes.{at-most-five}
 use Rattle.naming.specs.Names.{nameOf}
 use Rattle.naming.proofs.Pieces.{same-pieces}
 use Rattle.wording.specs.Lines.{argumentText, argumentTexts, packetText, readText, refusedText, saying}
-
--- ---- the answer and the reading that it stands for
-
-refused-answer : (r : Reading) (n : ℕ) → RV.Refused n ≡ answerOf r → r ≡ refused n
-unfolding answerOf
-refused-answer (refused m) n e = let q : m ≡ n = cc in ap refused q
-refused-answer (got k as′) n e = let z : _≡_ {A = ℕ} 0 1 = cc in absurd (omega arith)
-
-packet-answer : (r : Reading) (k : ℕ) (ends : Ends) → RV.Packet k ends ≡ answerOf r → (as′ : List Bytes) × (r ≡ got k as′) × (ends ≡ endsOf 12 as′)
-unfolding answerOf
-packet-answer (refused n) k ends e = let z : _≡_ {A = ℕ} 0 1 = cc in absurd (omega arith)
-packet-answer (got j as′) k ends e =
-    let p : j ≡ k = cc in
-    let q : ends ≡ endsOf 12 as′ = cc in
-    (as′, ap (λ (x : ℕ). got x as′) p, q)
 
 -- ---- the texts
 
@@ -50,7 +35,7 @@ module _ (w : Direction) (s : Bytes) where
   module _ (n : ℕ) (e : RV.Refused n ≡ answerOf (read w s)) where
     pub said-refused : refusedText (numberAt s 4) n ≡ saying w s
     unfolding saying readText
-    said-refused = rw (refused-answer (read w s) n e)
+    said-refused = rw (refused-answer (read w s) n (sym e))
 
     -- a header under 12 bytes is refused by 5
     pub refused-long : 9 ≤ n → 8 ≤ length s
@@ -59,7 +44,7 @@ module _ (w : Direction) (s : Bytes) where
       where
         by-length : (b : Bool) → ltb (length s) 12 ≡ b → 8 ≤ length s
         by-length true q =
-            let r : refused 5 ≡ refused n = rw q at (refused-answer (read w s) n e) in
+            let r : refused 5 ≡ refused n = rw q at (refused-answer (read w s) n (sym e)) in
             let z : 5 ≡ n = cc in absurd (omega arith)
         by-length false q = omega (arith, ltb-false (length s) 12 q)
 
@@ -67,7 +52,7 @@ module _ (w : Direction) (s : Bytes) where
     pub said-packet : (shape : Shape) → shape ≡ w .shape k → packetText k shape (argumentAt s ends) ≡ saying w s
     unfolding saying readText packetText
     said-packet shape q =
-        let r = packet-answer (read w s) k ends e in
+        let r = read-answer (read w s) k ends (sym e) in
         let g : (i : ℕ) → i < length (rulesOf (w .shape k)) → argumentAt s ends i ≡ getD (r .0) i [] =
         λ i l. ap (λ (x : Ends). argumentAt s x i) (r .2) ∙ argument-read w s k (r .0) (r .1) i (omega (arith, at-most-five (w .shape k))) in
         let t : packetText k (w .shape k) (argumentAt s ends) ≡ packetText k (w .shape k) (λ i. getD (r .0) i []) =
@@ -77,6 +62,6 @@ module _ (w : Direction) (s : Bytes) where
 
     pub packet-short : w .most ≤ 1088 → length s < 2 ^ 32
     packet-short m =
-        let r = packet-answer (read w s) k ends e in
+        let r = read-answer (read w s) k ends (sym e) in
         let h : Headed (w .magic) (w .most) s = header-good _ _ s (read-got w s k (r .0) (r .1) .headed) in
         omega (arith, h .limited, h .whole, m)

@@ -1,0 +1,4 @@
+pub mod Concerned
+pub mod Words
+pub mod Captures
+pub mod Examples
