@@ -1,23 +1,26 @@
 #!/usr/bin/env bash
-# Where its input cannot be read, or its output cannot be written, the replay program says so on standard error and ends. Empty input
-# writes nothing.
+# Where its input cannot be read, or its output cannot be written, replay says so on standard error and ends, and so does show. Empty
+# input writes nothing.
 set -euo pipefail
 cd "$(dirname "$0")/../.."
-replay=target/bin/replay
 out=$(mktemp)
 err=$(mktemp)
 trap 'rm -f "$out" "$err"' EXIT
 
-# A folder can be opened and not read.
-"$replay" < captures > "$out" 2> "$err" || true
-cmp "$out" /dev/null
-grep -q 'standard input could not be read' "$err"
+for name in replay show; do
+  program=target/bin/$name
 
-# A full disk.
-"$replay" < captures/example.capture > /dev/full 2> "$err" || true
-grep -q 'standard output could not be written' "$err"
+  # A folder can be opened and not read.
+  "$program" < captures > "$out" 2> "$err" || true
+  cmp "$out" /dev/null
+  grep -qx "$name: standard input could not be read" "$err"
 
-# Nothing to read.
-"$replay" < /dev/null > "$out" 2> "$err"
-cmp "$out" /dev/null
-cmp "$err" /dev/null
+  # A full disk.
+  "$program" < captures/example.capture > /dev/full 2> "$err" || true
+  grep -qx "$name: standard output could not be written" "$err"
+
+  # Nothing to read.
+  "$program" < /dev/null > "$out" 2> "$err"
+  cmp "$out" /dev/null
+  cmp "$err" /dev/null
+done

@@ -2,11 +2,14 @@
 use Prim.Native.Nat.{ℕ, _+_, _*_, _≤_}
 use mathlib.Core.Bool.{Bool, true, false, cond, _||_}
 use mathlib.Core.Option.{Option, none, some}
-use mathlib.Core.List.{List, [], _++_}
+use mathlib.Core.List.{List, [], _∷_, _++_}
 use native.Mathlib.Omega.{arith}
-use lib.ListN.{length, getD, drop, length-append, length-drop}
-use lib.Dec.{eqb}
+use lib.ListN.{length, getD, take, drop, length-append, length-take, length-drop}
+use lib.Dec.{eqb, ltb}
 use Rattle.octets.specs.Bytes.{Bytes}
+use Rattle.hex.specs.Hex.{hex}
+use Rattle.hex.proofs.Writing.{hex-length}
+use Rattle.packet.specs.Packet.{Reading, refused, got, read, requests}
 use Rattle.handle.specs.declared.Serial as S
 use Rattle.handle.specs.declared.Serial.the-variants as SV
 use Rattle.handle.specs.Handle.{decimal}
@@ -23,7 +26,7 @@ use Rattle.wording.proofs.Bounds.{refusal-short, request-line-short, response-l
 use Rattle.standing.specs.Standing.{below, jobsText, sleepersText}
 use Rattle.standing.proofs.Bounds.{jobs-short, serial-text-short, sleepers-short}
 use Rattle.concerning.specs.Concerned.{concerned}
-use Rattle.reporting.specs.Parts.{answerText, closesWord, doneWord, eventText, headingText, jobsAfter, namedText, numberText, opensWord, sentText, tableText}
+use Rattle.reporting.specs.Parts.{answerText, closesWord, digitsText, doneWord, eventText, frameDigits, headerIn, headerSeen, headingText, jobsAfter, namedText, numberText, opensWord, sentText, tableText}
 
 event-short : (f : Option Event) → length (eventText f) ≤ 1270
 unfolding eventText
@@ -32,9 +35,27 @@ event-short (some (opens c)) = omega (arith, length-append (decimal c) opensWord
 event-short (some (closes c)) = omega (arith, length-append (decimal c) closesWord, decimal-most c)
 event-short (some (sends c b)) = omega (arith, request-line-short c b)
 
-pub heading-short : (k : ℕ) (f : Option Event) → length (headingText k f) ≤ 1285
+header-short : (b : Bytes) (r : Reading) → length (headerIn b r) ≤ 12
+header-short b (refused n) = either (ltb n 9)
+  where
+    either : (l : Bool) → length (cond l [] (take 12 b)) ≤ 12
+    either true = omega arith
+    either false = omega (arith, length-take 12 b)
+header-short b (got k as′) = omega (arith, length-take 12 b)
+
+frame-digits-short : (kind c : ℕ) (header : Bytes) → length header ≤ 12 → length (frameDigits kind c header) ≤ 29
+frame-digits-short kind c header h = omega (arith, length-append (hex (kind ∷ c ∷ [])) (hex header), hex-length (kind ∷ c ∷ []), hex-length header)
+
+digits-short : (f : Option Event) → length (digitsText f) ≤ 29
+unfolding digitsText headerSeen
+digits-short none = omega arith
+digits-short (some (opens c)) = frame-digits-short 1 c [] (omega arith)
+digits-short (some (closes c)) = frame-digits-short 2 c [] (omega arith)
+digits-short (some (sends c b)) = frame-digits-short 3 c (headerIn b (read requests b)) (header-short b (read requests b))
+
+pub heading-short : (k : ℕ) (f : Option Event) → length (headingText k f) ≤ 1314
 unfolding headingText
-heading-short k f = omega (arith, length-append (decimal k) (eventText f), decimal-most k, event-short f)
+heading-short k f = omega (arith, length-append (decimal k) (digitsText f ++ eventText f), length-append (digitsText f) (eventText f), decimal-most k, digits-short f, event-short f)
 
 -- at most fourteen times the packet
 pub sent-short : (p : Bytes) → 13 ≤ length p → length (sentText p) ≤ length p * 14

@@ -1,15 +1,20 @@
 -- What each branch lays is the part of the line that the definition gives: by the kind of frame, by the number, by the serial that was
 -- found. Assumes nothing.
-use Prim.Native.Nat.{ℕ, _-_}
-use mathlib.Core.Path.{_≡_, ap}
+use Prim.Native.Nat.{ℕ, _-_, _<_, _≤_}
+use mathlib.Core.Path.{_≡_, ap, sym}
 use mathlib.Core.Bool.{cond}
 use mathlib.Core.Option.{Option}
 use mathlib.Core.List.{List, [], _++_}
-use borrow.Author.Tests.{ne-eqb}
+use borrow.Author.Tests.{le-ltb, lt-ltb, ne-eqb}
 use lib.ListN.{length, getD, take, drop}
 use lib.Dec.{eqb}
 use Rattle.octets.specs.Bytes.{Bytes}
 use Rattle.octets.proofs.Strings.{rest-part}
+use Rattle.packet.specs.declared.Ends.{Ends}
+use Rattle.packet.specs.declared.Read.the-variants as RV
+use Rattle.packet.specs.Packet.{read, requests}
+use Rattle.packet.specs.Answers.{answerOf}
+use Rattle.packet_laws.proofs.Answers.{read-answer, refused-answer}
 use Rattle.handle.specs.declared.Serial as S
 use Rattle.handle.specs.declared.Serial.the-variants as SV
 use Rattle.handle.specs.Handle.{decimal}
@@ -24,12 +29,16 @@ use Rattle.framing.specs.Frames.{eventOf}
 use Rattle.wording.specs.Lines.{refusalText, requestLine, responseLine}
 use Rattle.standing.specs.Standing.{below, jobsText, serialText, sleepersText}
 use Rattle.concerning.specs.Concerned.{concerned}
-use Rattle.reporting.specs.Parts.{closesWord, doneWord, eventText, jobsAfter, namedText, numberText, opensWord, sentText, tableText}
+use Rattle.reporting.specs.Parts.{closesWord, digitsText, doneWord, eventText, frameDigits, headerSeen, jobsAfter, namedText, numberText, opensWord, sentText, tableText}
 
 -- ---- by the kind of frame
 
 module _ (f : F.Frame) (b : Bytes) where
   module _ (e : f ≡ FV.Nothing) where
+    pub nothing-digits : [] ≡ digitsText (eventOf f b)
+    unfolding digitsText
+    nothing-digits = rw e
+
     pub nothing-event : [] ≡ eventText (eventOf f b)
     unfolding eventText
     nothing-event = rw e
@@ -40,6 +49,10 @@ module _ (f : F.Frame) (b : Bytes) where
 
   module _ (c : ℕ) where
     module _ (e : f ≡ FV.Open c) where
+      pub open-digits : frameDigits 1 c [] ≡ digitsText (eventOf f b)
+      unfolding digitsText
+      open-digits = rw e
+
       pub open-event : below ++ (decimal c ++ opensWord) ≡ eventText (eventOf f b)
       unfolding eventText
       open-event = rw e
@@ -49,6 +62,10 @@ module _ (f : F.Frame) (b : Bytes) where
       open-jobs ps n rs = rw e
 
     module _ (e : f ≡ FV.Close c) where
+      pub close-digits : frameDigits 2 c [] ≡ digitsText (eventOf f b)
+      unfolding digitsText
+      close-digits = rw e
+
       pub close-event : below ++ (decimal c ++ closesWord) ≡ eventText (eventOf f b)
       unfolding eventText
       close-event = rw e
@@ -58,6 +75,10 @@ module _ (f : F.Frame) (b : Bytes) where
       close-jobs ps n rs = rw e
 
     module _ (end : ℕ) (e : f ≡ FV.Packet c end) where
+      pub packet-digits : (header : Bytes) → header ≡ headerSeen (take (end - 2) (drop 2 b)) → frameDigits 3 c header ≡ digitsText (eventOf f b)
+      unfolding digitsText
+      packet-digits header q = rw (e, q)
+
       pub packet-event : below ++ requestLine c (take (end - 2) (drop 2 b)) ≡ eventText (eventOf f b)
       unfolding eventText
       packet-event = rw e
@@ -65,6 +86,22 @@ module _ (f : F.Frame) (b : Bytes) where
       pub packet-jobs : (s : S.Serial) (ps : List Bytes) (n : ℕ) (rs : List JobRow) → s ≡ concerned (take (end - 2) (drop 2 b)) ps → namedText s rs ≡ jobsAfter (eventOf f b) ps n rs
       unfolding jobsAfter
       packet-jobs s ps n rs q = rw (e, q)
+
+-- ---- by the reading of a packet
+
+module _ (b : Bytes) where
+  module _ (n : ℕ) (e : RV.Refused n ≡ answerOf (read requests b)) where
+    pub bad-header : n < 9 → (h : Bytes) → h ≡ take 0 b → h ≡ headerSeen b
+    unfolding headerSeen
+    bad-header l h q = rw (refused-answer (read requests b) n (sym e), lt-ltb n 9 l) q
+
+    pub header-refused : 9 ≤ n → (h : Bytes) → h ≡ take 12 b → h ≡ headerSeen b
+    unfolding headerSeen
+    header-refused l h q = rw (refused-answer (read requests b) n (sym e), le-ltb n 9 l) q
+
+  pub header-read : (k : ℕ) (ends : Ends) → RV.Packet k ends ≡ answerOf (read requests b) → (h : Bytes) → h ≡ take 12 b → h ≡ headerSeen b
+  unfolding headerSeen
+  header-read k ends e h q = rw (read-answer (read requests b) k ends (sym e) .1) q
 
 -- ---- by the serial
 

@@ -4,9 +4,11 @@ use Prim.Native.Nat.{ℕ}
 use mathlib.Core.Bool.{cond, _||_}
 use mathlib.Core.Option.{Option, none, some}
 use mathlib.Core.List.{List, [], _∷_, _++_}
-use lib.ListN.{getD, drop}
-use lib.Dec.{eqb}
+use lib.ListN.{getD, take, drop}
+use lib.Dec.{eqb, ltb}
 use Rattle.octets.specs.Bytes.{Bytes}
+use Rattle.hex.specs.Hex.{hex}
+use Rattle.packet.specs.Packet.{Reading, refused, got, read, requests}
 use Rattle.handle.specs.declared.Serial as S
 use Rattle.handle.specs.declared.Serial.the-variants as SV
 use Rattle.handle.specs.Handle.{decimal}
@@ -15,6 +17,7 @@ use Rattle.server.specs.Table.{Table}
 use Rattle.server.specs.Asked.{Event, opens, closes, sends}
 use Rattle.plans.specs.Values.{rowsOf}
 use Rattle.framing.specs.Packets.{packetLines}
+use Rattle.naming.specs.Names.{space}
 use Rattle.wording.specs.Lines.{refusalText, requestLine, responseLine}
 use Rattle.standing.specs.Standing.{below, jobsText, serialText, sleepersText}
 use Rattle.concerning.specs.Concerned.{concerned}
@@ -32,6 +35,26 @@ closesWord = 32 ∷ 99 ∷ 108 ∷ 111 ∷ 115 ∷ 101 ∷ 115 ∷ []  -- closes
 
 abbrev pub doneWord : Bytes
 doneWord = 100 ∷ 111 ∷ 110 ∷ 101 ∷ []  -- done
+
+-- ---- the digits of a line, as far as they may be seen
+
+-- the header of a packet, where it is good: what follows it is data, which is shown in words alone
+abbrev pub headerIn : Bytes → Reading → Bytes
+headerIn b (refused n) = cond (ltb n 9) [] (take 12 b)
+headerIn b (got k as′) = take 12 b
+
+unfoldable pub headerSeen : Bytes → Bytes
+headerSeen b = headerIn b (read requests b)
+
+-- kind, connection and header, after a space
+abbrev pub frameDigits : ℕ → ℕ → Bytes → Bytes
+frameDigits kind c header = space ++ (hex (kind ∷ c ∷ []) ++ hex header)
+
+unfoldable pub digitsText : Option Event → Bytes
+digitsText none = []
+digitsText (some (opens c)) = frameDigits 1 c []
+digitsText (some (closes c)) = frameDigits 2 c []
+digitsText (some (sends c b)) = frameDigits 3 c (headerSeen b)
 
 -- ---- what the line says, and what the server answered
 
@@ -69,9 +92,9 @@ tableText f ps n t = cond (eqb n 1 || eqb n 16) [] (sleepersText 16 (t .connecti
 
 -- ---- the parts of a line
 
--- the number of the line, and what the line says
+-- the number of the line, its digits, and what it says
 unfoldable pub headingText : ℕ → Option Event → Bytes
-headingText k f = lineWord ++ (decimal k ++ eventText f)
+headingText k f = lineWord ++ (decimal k ++ (digitsText f ++ eventText f))
 
 unfoldable pub answerText : List Bytes → ℕ → Bytes
 answerText ps n = packetLines sentText ps ++ numberText n

@@ -1,8 +1,9 @@
-// The parts of what `show` prints for a line of a capture, laid over a lent text: the line's number and what it says, what the server
+// The parts of what `show` prints for a line of a capture, laid over a lent text: the line's number, digits and words, what the server
 // answered, and how the table stands. docs/SHOW.md has the layout. Each function returns the place after what it laid. An inner crate:
 // its callers see to the room.
 use framing::Frame;
 use handle::Serial;
+use packet::Read;
 use server::JobRow;
 ghost use mathlib.Core.Path.{_≡_};
 ghost use mathlib.Core.Bool.{cond};
@@ -17,7 +18,49 @@ ghost use Rattle.framing.specs.Frames.{Bounded, eventOf};
 ghost use Rattle.framing.specs.Packets.{Packed, packetLines, packetsIn};
 ghost use Rattle.wording.specs.Lines.{requestLine};
 ghost use Rattle.standing.specs.Standing.{below, jobsText};
-ghost use Rattle.reporting.specs.Parts.{answerText, eventText, headingText, namedText, jobsAfter, numberText, sentText, tableText};
+ghost use Rattle.reporting.specs.Parts.{answerText, digitsText, eventText, frameDigits, headerSeen, headingText, namedText, jobsAfter, numberText, sentText, tableText};
+
+// The header of a packet, where it is good, and nothing of it otherwise.
+fn header_seen(packet: &[u8]) -> &[u8]
+    ensures { λ r. ⌜ now r ≡ headerSeen (now (packet .entry)) ⌝ }
+{
+    let read = packet_read::read_request(packet);
+    match read {
+        Read::Refused(number) => {
+            if number < 9 {
+                return lines::front(packet, 0);
+            }
+            lines::front(packet, 12)
+        }
+        Read::Packet { kind, ends } => lines::front(packet, 12),
+    }
+}
+
+// Lays a space and the digits of a frame: its kind, its connection, and its packet's header.
+fn put_digits(text: &mut [u8], at: usize, kind: u8, connection: u8, header: &[u8]) -> usize
+    requires { ⌜ at + length (frameDigits kind connection (now header)) ≤ length (now text) ⌝ }
+    ensures { λ r. ⌜ (r ≡ at + length (frameDigits kind connection (now (header .entry)))) × (now (text .exit) ≡ put at (frameDigits kind connection (now (header .entry))) (now (text .entry))) ⌝ }
+{
+    let digits = octets::put(text, at, b" ");
+    let place = hex::put_hex(text, digits, &[kind, connection]);
+    hex::put_hex(text, place, header)
+}
+
+// Lays the digits of a frame, as far as they may be seen.
+fn put_seen(text: &mut [u8], at: usize, frame: Frame, bytes: &[u8; 1040]) -> usize
+    requires { ⌜ Bounded frame × (at + length (digitsText (eventOf frame (now bytes))) ≤ length (now text)) ⌝ }
+    ensures { λ r. ⌜ (r ≡ at + length (digitsText (eventOf frame (now (bytes .entry))))) × (now (text .exit) ≡ put at (digitsText (eventOf frame (now (bytes .entry)))) (now (text .entry))) ⌝ }
+{
+    match frame {
+        Frame::Nothing => at,
+        Frame::Open { connection } => put_digits(text, at, 1, connection, b""),
+        Frame::Close { connection } => put_digits(text, at, 2, connection, b""),
+        Frame::Packet { connection, end } => {
+            let all = &bytes[..];
+            put_digits(text, at, 3, connection, header_seen(&all[2..end]))
+        }
+    }
+}
 
 // Lays a connection and what it does.
 fn put_deed(text: &mut [u8], at: usize, connection: u8, word: &[u8]) -> usize
@@ -54,13 +97,14 @@ fn put_event(text: &mut [u8], at: usize, frame: Frame, bytes: &[u8; 1040]) -> us
     }
 }
 
-// Lays the number of a line, and what its frame says.
+// Lays the number of a line, its digits, and what its frame says.
 pub fn put_heading(text: &mut [u8], number: u32, frame: Frame, bytes: &[u8; 1040]) -> usize
     requires { ⌜ Bounded frame × (0 + length (headingText number (eventOf frame (now bytes))) ≤ length (now text)) ⌝ }
     ensures { λ r. ⌜ (r ≡ 0 + length (headingText number (eventOf frame (now (bytes .entry))))) × (now (text .exit) ≡ put 0 (headingText number (eventOf frame (now (bytes .entry)))) (now (text .entry))) ⌝ }
 {
     let digits = octets::put(text, 0, b"line ");
-    let event = naming::put_number(text, digits, number);
+    let seen = naming::put_number(text, digits, number);
+    let event = put_seen(text, seen, frame, bytes);
     put_event(text, event, frame, bytes)
 }
 

@@ -75,7 +75,7 @@ fn main() {
     let mut table = [0u8; 3796];
     let mut workloads = [0u8; 32768];
     let mut output = [0u8; 16592];
-    let mut text = [0u8; 236912];
+    let mut text = [0u8; 236941];
     let mut chunk = io::buffer();
     let mut buffer = [0u8; 2081];
     show_all(

@@ -13,10 +13,10 @@ lineEnd = 10 ∷ []
 unfoldable pub lineText : ℕ → Speech
 lineText k f ps n t = headingText k f ++ (answerText ps n ++ (tableText f ps n t ++ lineEnd))
 
--- room for what any line says: fourteen bytes for each of the 16,592 of the longest output, 1,285 for the heading, 47 for the number,
+-- room for what any line says: fourteen bytes for each of the 16,592 of the longest output, 1,314 for the heading, 47 for the number,
 -- 3,291 for the table, and the line end
 abbrev pub textSize : ℕ
-textSize = 236912
+textSize = 236941
 
 -- one line on the lent bytes: table, workloads, output, text
 unfoldable pub shown : ℕ → Bytes → Bytes → Bytes → Bytes → Bytes → Told

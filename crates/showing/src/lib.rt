@@ -13,7 +13,7 @@ ghost use Rattle.framing.specs.Spoken.{telling};
 ghost use Rattle.showing.specs.Shown.{lineText, shown};
 
 // Room for what any line says.
-const TEXT: usize = 236912;
+const TEXT: usize = 236941;
 
 // Lays all that is said of a line.
 fn put_line(
@@ -26,7 +26,7 @@ fn put_line(
     outcome: u8,
 ) -> usize
     requires { ⌜ Bounded frame × Packed (now sent) × ((outcome ≡ 1 → ⊥) → (outcome ≡ 16 → ⊥) → 3796 ≤ length (now table))
-        × (length (now sent) ≤ 16592) × (236912 ≤ length (now text)) ⌝ }
+        × (length (now sent) ≤ 16592) × (236941 ≤ length (now text)) ⌝ }
     ensures { λ r. ⌜ (r ≡ 0 + length (lineText number (eventOf frame (now (bytes .entry))) (packetsIn (now (sent .entry))) outcome (tableOf 16 (now (table .entry)))))
         × (now (text .exit) ≡ put 0 (lineText number (eventOf frame (now (bytes .entry))) (packetsIn (now (sent .entry))) outcome (tableOf 16 (now (table .entry)))) (now (text .entry))) ⌝ }
 {
@@ -37,7 +37,7 @@ fn put_line(
 }
 
 // One line of a capture, without its line end: lays what is shown of it over the start of the text, and returns how long that is.
-// Nothing is said, and nothing changed, where the text has less room than 236,912 bytes.
+// Nothing is said, and nothing changed, where the text has less room than 236,941 bytes.
 pub fn step(
     table: &mut [u8],
     workloads: &mut [u8],

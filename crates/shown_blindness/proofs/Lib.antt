@@ -1,4 +1,5 @@
 pub mod Concerned
+pub mod Headers
 pub mod Words
 pub mod Captures
 pub mod Examples

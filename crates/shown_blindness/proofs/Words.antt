@@ -24,6 +24,7 @@ use Rattle.framing.specs.Spoken.{spokenTo}
 use Rattle.reporting.specs.Parts.{answerText, eventText, headingText, jobsAfter, namedText, sentText, tableText}
 use Rattle.showing.specs.Shown.{lineText}
 use Rattle.shown_blindness.proofs.Concerned.{concerned-alike}
+use Rattle.shown_blindness.proofs.Headers.{digits-alike}
 
 -- ---- what the line says
 
@@ -57,7 +58,7 @@ module _ {ps qs : List Sent} (r : All2 AlikeSent ps qs) where
 
   line-alike : {e f : Event} → Alike e f → (k n : ℕ) (t : Table) → lineText k (some e) (map addressed ps) n t ≡ lineText k (some f) (map addressed qs) n t
   unfolding lineText headingText answerText tableText
-  line-alike a k n t = rw (event-alike a, packets-alike r, jobs-alike a n _)
+  line-alike a k n t = rw (digits-alike a, event-alike a, packets-alike r, jobs-alike a n _)
 
 -- ---- two servers
 

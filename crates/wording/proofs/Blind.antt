@@ -4,7 +4,8 @@ use mathlib.Core.Path.{_≡_, refl, ap, _∙_, sym}
 use mathlib.Core.Bool.{Bool, true, false, cond}
 use mathlib.Core.List.{List, [], _∷_, _++_, append-assoc}
 use native.Mathlib.Omega.{arith}
-use lib.ListN.{length, getD, drop}
+use lib.ListN.{length, getD, take, drop}
+use lib.Seq.{take-at}
 use Rattle.octets.specs.Bytes.{Bytes, numberAt}
 use Rattle.packet.specs.declared.Rule.{Rule}
 use Rattle.packet.specs.declared.Rule.the-variants.{Absent}
@@ -65,22 +66,33 @@ module _ (x y : Bytes) (l : length x ≡ length y) where
 -- ---- packets that look alike
 
 module _ (w : Direction) (well : Well w) (s t : Bytes) (v : visible w s ≡ visible w t) (l : length (opaque w s) ≡ length (opaque w t)) where
-  -- with an opaque part, the type stands among the visible bytes
-  same-kind : hides w s ≡ true → numberAt s 4 ≡ numberAt t 4
-  same-kind e =
-      let h : Hidden w s = hides-parts w s e in
-      let q : visible w t ≡ h .f ++ h .v = sym v ∙ ap (visible w) (h .is) ∙ parted-visible w (h .f) (h .v) (h .x) (h .parted) (h .good) in
-      let u : t ≡ h .f ++ (h .v ++ opaque w t) = sym (visible-opaque w t) ∙ ap (λ (b : Bytes). b ++ opaque w t) q ∙ append-assoc (h .f) (h .v) (opaque w t) in
-      ap (λ (b : Bytes). numberAt b 4) (h .is)
-      ∙ number-front (h .f) (h .v ++ h .x) 4 (omega (arith, h .parted .head))
-      ∙ sym (ap (λ (b : Bytes). numberAt b 4) u ∙ number-front (h .f) (h .v ++ opaque w t) 4 (omega (arith, h .parted .head)))
+  -- with an opaque part, the header and what else is visible stand before it in both
+  module _ (e : hides w s ≡ true) where
+    hidden : Hidden w s
+    hidden = hides-parts w s e
+
+    beside : t ≡ hidden .f ++ (hidden .v ++ opaque w t)
+    beside =
+        let q : visible w t ≡ hidden .f ++ hidden .v = sym v ∙ ap (visible w) (hidden .is) ∙ parted-visible w (hidden .f) (hidden .v) (hidden .x) (hidden .parted) (hidden .good) in
+        sym (visible-opaque w t) ∙ ap (λ (b : Bytes). b ++ opaque w t) q ∙ append-assoc (hidden .f) (hidden .v) (opaque w t)
+
+    pub same-header : take 12 s ≡ take 12 t
+    same-header =
+        ap (take 12) (hidden .is) ∙ take-at (hidden .f) (hidden .v ++ hidden .x) 12 (hidden .parted .head)
+        ∙ sym (ap (take 12) beside ∙ take-at (hidden .f) (hidden .v ++ opaque w t) 12 (hidden .parted .head))
+
+    same-kind : numberAt s 4 ≡ numberAt t 4
+    same-kind =
+        ap (λ (b : Bytes). numberAt b 4) (hidden .is)
+        ∙ number-front (hidden .f) (hidden .v ++ hidden .x) 4 (omega (arith, hidden .parted .head))
+        ∙ sym (ap (λ (b : Bytes). numberAt b 4) beside ∙ number-front (hidden .f) (hidden .v ++ opaque w t) 4 (omega (arith, hidden .parted .head)))
 
   none-left : (b : Bytes) → length b ≡ 0 → b ≡ []
   none-left [] e = refl
   none-left (x ∷ b) e = absurd (omega arith)
 
   -- without one, they are the same packet
-  same-packet : hides w s ≡ false → s ≡ t
+  pub same-packet : hides w s ≡ false → s ≡ t
   same-packet e =
       let o : opaque w s ≡ [] = unhidden-opaque w s e in
       let p : opaque w t ≡ [] = none-left (opaque w t) (sym l ∙ ap length o) in

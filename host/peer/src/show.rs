@@ -17,12 +17,22 @@ pub fn show(input: &[u8]) -> String {
     let mut out = Outbox::default();
     let mut output = String::new();
     for (index, line) in lines(input).enumerate() {
-        output.push_str(&format!("line {}\n", index + 1));
+        output.push_str(&format!("line {}{}\n", index + 1, digits(line)));
         for words in below(line, &mut server, &mut out) {
             output.push_str(&format!("    {words}\n"));
         }
     }
     output
+}
+
+/// The digits of a frame after a space, up to the end of its packet's header; where the header is bad, kind and connection alone.
+fn digits(line: &[u8]) -> String {
+    let seen = match frame(line) {
+        None => return String::new(),
+        Some(Event::Packet(_, packet)) if !matches!(packet::read(Side::Request, &packet), Err(5..=8)) => 28,
+        Some(_) => 4,
+    };
+    format!(" {}", String::from_utf8_lossy(&line[..seen]))
 }
 
 /// What stands below a line's number. The server does not see a line that is no frame.

@@ -92,8 +92,19 @@ fn a_line_that_is_no_frame() {
     assert_eq!(show(b""), "");
     assert_eq!(
         show(b"\n0100"),
-        "line 1\n    refused 16 line is not a frame\nline 2\n    0 opens\n    done\n    asleep none\n"
+        "line 1\n    refused 16 line is not a frame\nline 2 0100\n    0 opens\n    done\n    asleep none\n"
     );
+}
+
+#[test]
+fn digits_end_with_the_header() {
+    let first = |capture: &str| show(capture.as_bytes()).lines().next().unwrap().to_string();
+    assert_eq!(first(&sent(2, 16, &[b"a name"])), "line 1 0302005245510000001000000006");
+    assert_eq!(first(&sent(2, 22, &[b"a name"])), "line 1 0302005245510000001600000006");
+    assert_eq!(first("0302005245510000001000000006\n"), "line 1 0302");
+    assert_eq!(first("0302616263\n"), "line 1 0302");
+    assert_eq!(first("02ff"), "line 1 02ff");
+    assert_eq!(first("02fF"), "line 1");
 }
 
 #[test]
