@@ -29,7 +29,7 @@ module _ {e f : Event} (a : Alike e f) (s : Server) where
       (rework-blind (opaqueOf e) (opaqueOf f) (m .jobs) (s .workloads) ∙ ap (λ (d : Decision). rework (s .table .jobs) (d .table .jobs) (opaqueOf f) (s .workloads)) decided-both)
 
   -- a job was made: they differ at most in its workload
-  makes-apart : Makes (connectionOf e) (s .table) (decided e (s .table)) → Apart (suc (s .table .last)) (next e s) (next f s)
+  pub makes-apart : Makes (connectionOf e) (s .table) (decided e (s .table)) → Apart (suc (s .table .last)) (next e s) (next f s)
   unfolding next
   makes-apart m = record {
     table = ap (λ (d : Decision). d .table) decided-both;

@@ -1,22 +1,22 @@
 -- The workloads after one changed submission: whatever calls follow, the lent bytes hold servers with equal tables, whose workloads
 -- agree at every place but that of the submission's own job. Assumes nothing.
-use Prim.Native.Nat.{ℕ, suc, _≤_}
-use mathlib.Core.Path.{_≡_, refl, ap, ap₂, _∙_}
+use Prim.Native.Nat.{ℕ, _≤_}
+use mathlib.Core.Path.{_≡_, ap₂, _∙_}
 use mathlib.Core.List.{List, [], _∷_}
 use lib.ListN.{length}
 use Rattle.octets.specs.Bytes.{Bytes}
-use Rattle.server.specs.Asked.{Event, connectionOf}
-use Rattle.server.specs.Events.{Decision}
-use Rattle.server.specs.Server.{Server, opaqueOf, decided, next, after}
+use Rattle.server.specs.Asked.{Event}
+use Rattle.server.specs.Server.{Server, next, after}
 use Rattle.server.specs.Layout.{tableSize}
 use Rattle.server.specs.Call.{workloadsSize, serverIn}
-use Rattle.serials.proofs.Serials.{Makes, Creates, Creation, nothing, one, creation}
+use Rattle.serials.proofs.Serials.{Creates, Creation, nothing, one, creation}
 use Rattle.rules_kept.proofs.Kept.{throughout}
 use Rattle.calls.specs.History.{Request, Memory, events, leaves}
 use Rattle.calls.proofs.Follows.{tableWith, workloadsWith, Running, running-next, server-back}
 use Rattle.calls.proofs.Histories.{LongOutputs, calls-follow}
-use Rattle.blindness.proofs.Alike.{Alike, decided-alike}
-use Rattle.blindness.proofs.Workloads.{its, near-same, rework-near, Apart, next-apart}
+use Rattle.blindness.proofs.Alike.{Alike}
+use Rattle.blindness.proofs.Lone.{makes-apart}
+use Rattle.blindness.proofs.Workloads.{Apart, next-apart}
 
 -- the server that two kept buffers hold
 abbrev pub serverOf : ℕ → Memory → Server
@@ -25,21 +25,12 @@ serverOf n m = serverIn n (m .table) (m .workloads)
 -- ---- the servers
 
 module _ {e f : Event} (a : Alike e f) (s : Server) where
-  makes-apart : Makes (connectionOf e) (s .table) (decided e (s .table)) → Apart (suc (s .table .last)) (next e s) (next f s)
-  unfolding next
-  makes-apart m =
-      let q = decided-alike a (s .table) in
-      record {
-        table = ap (λ (d : Decision). d .table) q;
-        workloads = rw (← q) (rework-near (opaqueOf e) (opaqueOf f) (its refl) (m .jobs) (near-same _ (s .table .jobs) (s .workloads)));
-      }
-
   pub created-apart : (k : ℕ) → Creates s e k → Apart k (next e s) (next f s)
   created-apart k c = by (creation s e)
     where
       by : Creation s e → Apart k (next e s) (next f s)
       by (nothing m z) = absurd (z k c)
-      by (one m d g) = rw (g k c .is) (makes-apart m)
+      by (one m d g) = rw (g k c .is) (makes-apart a s m)
 
 after-apart : (k : ℕ) (es : List Event) (s r : Server) → Apart k s r → Apart k (after s es) (after r es)
 unfolding after

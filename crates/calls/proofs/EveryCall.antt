@@ -1,39 +1,34 @@
 -- Every call, on any lent bytes: no buffer changes its length; the output is unchanged beyond the reported length, the table beyond
 -- the layout and the workloads beyond their 32 places; and a table that is sound stays sound. Assumes nothing.
-use Prim.Native.Nat.{ℕ, zero, suc, _+_, _*_, _≤_}
+use Prim.Native.Nat.{ℕ, zero, suc, _≤_}
 use mathlib.Core.Path.{_≡_, refl}
 use mathlib.Core.Bool.{true, not, _||_}
-use mathlib.Core.List.{[], _∷_, map}
+use mathlib.Core.List.{[], _∷_}
 use native.Mathlib.Nat.{not-suc-le-zero, le-of-suc-le-suc}
 use native.Mathlib.Omega.{arith}
 use lib.ListN.{length, drop}
 use Rattle.octets.specs.Bytes.{Bytes}
 use Rattle.octets.specs.Put.{over, put}
 use Rattle.octets.proofs.Laying.{length-put}
-use Rattle.server.specs.Lists.{concat, numbers}
+use Rattle.server.specs.Lists.{concat}
 use Rattle.server.specs.Asked.{Event}
 use Rattle.server.specs.Server.{Server, next, answer}
 use Rattle.server.specs.Layout.{tableSize, tableOf, bytesOf}
-use Rattle.server.specs.Call.{Result, workloadsSize, outputSize, placeOf, serverIn, tooShort, isSound, sentBytes, refusedBy, performed, call}
-use Rattle.outcomes.proofs.Cases.{All, cond-cases}
-use Rattle.rules_kept.proofs.Lengths.{Whole}
+use Rattle.server.specs.Call.{Result, workloadsSize, outputSize, serverIn, tooShort, isSound, sentBytes, refusedBy, performed, call}
+use Rattle.outcomes.proofs.Cases.{cond-cases}
 use Rattle.table_bytes.proofs.Columns.{length-places}
-use Rattle.table_bytes.proofs.Same.{length-part}
+use Rattle.calls.proofs.Workloads.{wide-places}
 use Rattle.calls.proofs.Refusals.{Taken, taken}
 use Rattle.calls.proofs.Follows.{Running, running-next, length-table, length-workloads, sound-with}
 use Rattle.calls.proofs.Output.{output-fits}
 
 -- ---- the server in bytes that a call takes
 
-places-whole : (w : Bytes) (i m : ℕ) → 1024 * (i + m) ≤ length w → All Whole (map (placeOf w) (numbers i m))
-places-whole w i zero h = All.none
-places-whole w i (suc m) h = All.more (length-part 1024 w (1024 * i) (omega arith)) (places-whole w (suc i) m (omega arith))
-
 pub taken-running : (n : ℕ) (t w o : Bytes) → Taken n t w o → Running n (serverIn n t w)
 unfolding serverIn tableOf
 taken-running n t w o k =
     record {
-      shaped = record { connections = length-places _ 0 n; functions = refl; jobs = refl; workloads = refl; whole = places-whole w 0 32 (k .longWorkloads) };
+      shaped = record { connections = length-places _ 0 n; functions = refl; jobs = refl; workloads = refl; whole = wide-places 1024 32 w (k .longWorkloads) 0 32 (omega arith) };
       rules = k .rules;
     }
 

@@ -26,7 +26,8 @@ use Rattle.server.specs.Call.{outputSize, sentBytes}
 use Rattle.server.proofs.Lists.{length-numbers, length-fit}
 use Rattle.outcomes.proofs.Cases.{cond-both}
 use Rattle.outcomes.proofs.Outcome.{Change, Outcome, outcome}
-use Rattle.rules_kept.proofs.Rows.{all-at, found}
+use Rattle.outcomes.proofs.Searches.{found}
+use Rattle.rules_kept.proofs.Rows.{all-at}
 use Rattle.rules_kept.proofs.Lengths.{long-settle, long-decided}
 use Rattle.rules_kept.proofs.Going.{best-found}
 use Rattle.rules_kept.proofs.Obeyed.{obeyed}

@@ -16,7 +16,7 @@ use Rattle.outcomes.proofs.Cases.{All}
 use Rattle.table_bytes.specs.Tests.{part}
 use Rattle.table_bytes.proofs.Fields.{Lies, lies-part}
 use Rattle.table_bytes.proofs.Columns.{places-are, column-lies}
-use Rattle.table_bytes.proofs.Same.{part-add}
+use Rattle.table_bytes.proofs.Same.{field-inside, length-part, part-add}
 use Rattle.table_bytes.proofs.Image.{put-own}
 
 -- ---- a run laid over a buffer twice
@@ -45,6 +45,13 @@ module _ (k : ℕ) where
   concat-column : (ws : List Bytes) → All (λ (w : Bytes). length w ≡ k) ws → concat ws ≡ column (fit k) ws
   concat-column [] All.none = refl
   concat-column (w ∷ ws) (All.more e es) = ap₂ _++_ (sym (fit-whole k w e)) (concat-column ws es)
+
+  -- the places of a buffer that is long enough for n of them
+  pub wide-places : (n : ℕ) (b : Bytes) → k * n ≤ length b → (i m : ℕ) → i + m ≤ n → All (λ (w : Bytes). length w ≡ k) (map (λ p. part k b (k * p)) (numbers i m))
+  wide-places n b h i zero l = All.none
+  wide-places n b h i (suc m) l =
+      let inside : 0 + k * i + k ≤ length b = field-inside k n 0 i (length b) (omega arith) (omega arith) in
+      All.more (length-part k b (k * i) (omega arith)) (wide-places n b h (suc i) m (omega arith))
 
   pub length-concat : (ws : List Bytes) → All (λ (w : Bytes). length w ≡ k) ws → length (concat ws) ≡ k * length ws
   length-concat [] All.none = sym (mul-zero k)

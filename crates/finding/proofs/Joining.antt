@@ -21,7 +21,8 @@ use Rattle.plans.specs.declared.Place.{Place}
 use Rattle.plans.specs.declared.Place.the-variants.{At, Nowhere}
 use Rattle.plans.specs.Values.{placed, rowsOf}
 use Rattle.table_bytes.proofs.Columns.{places-at}
-use Rattle.rules_kept.proofs.Rows.{clash, iff, all-at, pairwise-at, found}
+use Rattle.outcomes.proofs.Searches.{found}
+use Rattle.rules_kept.proofs.Rows.{clash, iff, all-at, pairwise-at}
 use Rattle.rules_kept.proofs.Sound.{Sound, rowMeans}
 use Rattle.finding.specs.Uniques.{hasUnique, isFor}
 use Rattle.finding.proofs.Searches.{placed-at, placed-nowhere, find-same, find-nothing}

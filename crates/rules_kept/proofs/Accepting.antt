@@ -16,7 +16,8 @@ use Rattle.server.specs.declared.JobRow.{JobRow}
 use Rattle.server.specs.Table.{Function, Job, Table, noFunction, noJob, functionAt, jobAt, setFunction, live, roomFor, joins, joined}
 use Rattle.server.specs.Events.{submittedBy, newJob, named, accepted}
 use Rattle.server.specs.Rules.{textWithin, together, isOpen, onlyOpen}
-use Rattle.rules_kept.proofs.Rows.{clash, all-at, all-row, found}
+use Rattle.outcomes.proofs.Searches.{found}
+use Rattle.rules_kept.proofs.Rows.{clash, all-at, all-row}
 use Rattle.rules_kept.proofs.Requests.{Submitted}
 use Rattle.rules_kept.proofs.Openness.{none-open, open-insert}
 use Rattle.rules_kept.proofs.Sound.{Sound, rowMeans}

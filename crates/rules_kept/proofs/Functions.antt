@@ -21,7 +21,8 @@ use Rattle.server.specs.Table.{Function, Table, noFunction, noJob, functionAt, 
 use Rattle.server.specs.Events.{unable}
 use Rattle.server.specs.Rules.{textWithin, isKnown, namesApart, onlyOpen}
 use Rattle.outcomes.proofs.Cases.{All2, all2-set, all2-at}
-use Rattle.rules_kept.proofs.Rows.{clash, never, implies-by, implies-use, or-right, all-at, all-imp, all-kept, all-set, pairwise-kept, pairwise-set, found}
+use Rattle.outcomes.proofs.Searches.{found}
+use Rattle.rules_kept.proofs.Rows.{clash, never, implies-by, implies-use, or-right, all-at, all-imp, all-kept, all-set, pairwise-kept, pairwise-set}
 use Rattle.rules_kept.proofs.Openness.{open-remove}
 use Rattle.rules_kept.proofs.Sound.{Sound, jobNamed, withFunctions, sound-functions}
 

@@ -21,7 +21,8 @@ use Rattle.server.specs.Asked.{Work, tells, reports, ends, throws}
 use Rattle.server.specs.Events.{sleeping, submittedBy, holdsHandle, worked}
 use Rattle.server.specs.Rules.{storedNumber, rowHasMeaning, isOpen}
 use Rattle.outcomes.proofs.Cases.{all2-set}
-use Rattle.rules_kept.proofs.Rows.{implies-by, all-imp, all-set, found}
+use Rattle.outcomes.proofs.Searches.{found}
+use Rattle.rules_kept.proofs.Rows.{implies-by, all-imp, all-set}
 use Rattle.rules_kept.proofs.Requests.{Told}
 use Rattle.rules_kept.proofs.Openness.{open-insert, open-more, holder-more, still-open}
 use Rattle.rules_kept.proofs.Sound.{Sound, rowMeans, sound-connections}

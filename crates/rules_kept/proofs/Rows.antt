@@ -2,16 +2,16 @@
 -- anew, each against the rows by place. Assumes nothing.
 use Prim.Native.Nat.{ℕ, zero, suc, _+_, _<_, zero-le, suc-le-suc}
 use mathlib.Core.Path.{_≡_, refl, ap, sym, _∙_, subst}
-use mathlib.Core.Bool.{Bool, true, false, not, _&&_, _||_, true≢false}
-use mathlib.Core.Option.{Option, none, some}
+use mathlib.Core.Bool.{Bool, true, false, _&&_, _||_, true≢false}
+use mathlib.Core.Option.{none}
 use mathlib.Core.List.{List, [], _∷_, map}
 use native.Mathlib.Nat.{zero-add, le-of-suc-le-suc, not-suc-le-zero}
 use native.Mathlib.Omega.{arith}
 use lib.ListN.{length, getD, set, replicate}
 use Rattle.octets.proofs.Strings.{and-left, and-right, and-both}
-use Rattle.server.specs.Lists.{any, all, pairwise, up, find, mapFrom, numbers}
+use Rattle.server.specs.Lists.{any, all, pairwise, mapFrom, numbers}
 use Rattle.server.specs.Rules.{implies}
-use Rattle.outcomes.proofs.Cases.{cond-cases, All2}
+use Rattle.outcomes.proofs.Cases.{All2}
 
 -- ---- tests
 
@@ -152,29 +152,6 @@ module _ {A : Type 0} (p : A → Bool) where
           → (i : ℕ) × (i < suc (length l)) × (p (getD (x ∷ l) i d) ≡ true)
       go true q f r = (0, suc-le-suc zero-le, q)
       go false q f r = let (i, h, g) = r f in (suc i, suc-le-suc h, g)
-
--- ---- searches
-
-pub record Hit {A : Type 0} (p : A → Bool) (l : List A) (d : A) (i : ℕ) : Type 0 where
-  pub passes : p (getD l i d) ≡ true
-  pub inside : i < length l
-
-module _ {A : Type 0} (p : A → Bool) (d : A) where
-  -- what a search's answer says
-  abbrev pub Found : List A → Option ℕ → Type 0
-  Found l none = all (λ x. not (p x)) l ≡ true
-  Found l (some i) = Hit p l d i
-
-  further : (x : A) (l : List A) (o : Option ℕ) → p x ≡ false → Found l o → Found (x ∷ l) (up o)
-  further x l none e f = rw e f
-  further x l (some i) e f = record { passes = f .passes; inside = suc-le-suc (f .inside) }
-
-  search-says : (l : List A) → Found l (find p l)
-  search-says [] = refl
-  search-says (x ∷ l) = cond-cases (Found (x ∷ l)) (p x) (λ e. record { passes = e; inside = suc-le-suc zero-le }) (λ e. further x l (find p l) e (search-says l))
-
-  pub found : (l : List A) (o : Option ℕ) → find p l ≡ o → Found l o
-  found l o e = subst (Found l) e (search-says l)
 
 -- ---- rows made anew by place
 

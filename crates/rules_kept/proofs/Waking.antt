@@ -21,7 +21,8 @@ use Rattle.server.specs.Asked.{submit}
 use Rattle.server.specs.Events.{settle, lost, unlessLost, dropped, wakes, toWake, noop, submittedBy, created, newJob, named, accepted, submitNew, submitTo, served}
 use Rattle.server.specs.Rules.{obeys}
 use Rattle.outcomes.proofs.Cases.{cond-cases}
-use Rattle.rules_kept.proofs.Rows.{clash, never, iff, any-at, any-where, found}
+use Rattle.outcomes.proofs.Searches.{found}
+use Rattle.rules_kept.proofs.Rows.{clash, never, iff, any-at, any-where}
 use Rattle.rules_kept.proofs.Functions.{room}
 use Rattle.rules_kept.proofs.Accepting.{Kept, submitted-keeps}
 use Rattle.rules_kept.proofs.Obeyed.{obeyed}

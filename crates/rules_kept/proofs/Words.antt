@@ -38,7 +38,7 @@ choose-past c i zero l = refl
 choose-past c i (suc n) l = rw (ne-eqb i c (λ (e : i ≡ c). omega arith)) (choose-past c (suc i) n (omega arith))
 
 -- one number among those from i on
-choose-one : (c i n : ℕ) → i ≤ c → c < i + n → filter (λ k. eqb k c) (numbers i n) ≡ c ∷ []
+pub choose-one : (c i n : ℕ) → i ≤ c → c < i + n → filter (λ k. eqb k c) (numbers i n) ≡ c ∷ []
 choose-one c i zero l m = absurd (omega arith)
 choose-one c i (suc n) l m = go (ℕ-discrete i c) (choose-one c (suc i) n)
   where

@@ -4,9 +4,9 @@ use Prim.Native.Nat.{ℕ, suc, _+_, _/_, _%_, _^_, _≤_, _<_}
 use native.Mathlib.Nat.{le-refl, le-trans, zero-div, one-le-pow}
 use native.Mathlib.Decide.{ℕ-discrete}
 use native.Mathlib.Omega.{arith}
-use mathlib.Core.Path.{_≡_, refl, ap, sym, _∙_, subst}
+use mathlib.Core.Path.{_≡_, refl, ap, sym, _∙_}
 use mathlib.Core.Bool.{Bool, true, false, not, cond, and-false}
-use mathlib.Core.Option.{Option, none, some}
+use mathlib.Core.Option.{some}
 use mathlib.Core.List.{List, [], _∷_, map}
 use lib.ListN.{length, getD, set, List·getD-map}
 use lib.Seq.{getD-set-same, getD-set-other}
@@ -16,12 +16,12 @@ use Rattle.octets.specs.Bytes.{Bytes}
 use Rattle.sets.specs.Sets.{has, insert}
 use Rattle.server.specs.declared.Connection.{Connection}
 use Rattle.server.specs.declared.JobRow.{JobRow}
-use Rattle.server.specs.Lists.{find, up}
 use Rattle.server.specs.Table.{Function, Job, Table, fresh, noJob, jobAt, live, heldBy, freePlace}
 use Rattle.server.specs.Asked.{Work, tells, reports, ends, throws, Event, connectionOf, asked, Asked, submit}
 use Rattle.server.specs.Events.{Send, Decision, lost, unlessLost, refuse, dropped, toWake, woken, forgot, settle, opening, closing, leftBy, unableToAll, sleeping, submittedBy, newJob, created, accepted, worked, noop}
 use Rattle.server.specs.Server.{Server, next, decided, start, after}
-use Rattle.outcomes.proofs.Cases.{All2, cond-both, cond-cases, all2-same, all2-set, all2-map, all2-trans, all2-at}
+use Rattle.outcomes.proofs.Searches.{found}
+use Rattle.outcomes.proofs.Cases.{All2, cond-both, all2-same, all2-set, all2-map, all2-trans, all2-at}
 use Rattle.outcomes.proofs.Outcome.{Change, closed, able, unknown, disabled, cleared, slept, noJobFor, grabbed, joins, accepts, worker, status, optioned, echoed, Outcome, refused, opened, done, outcome}
 
 -- ---- places before and after
@@ -102,24 +102,11 @@ worked-follows throws n d j = ended refl
 
 -- ---- a new job
 
--- what a search that finds a place has found there
-abbrev Found : {A : Type 0} → (A → Bool) → A → List A → Option ℕ → Type 0
-Found f d xs none = Unit
-Found f d xs (some i) = (f (getD xs i d) ≡ true) × (i < length xs)
-
-found-up : {A : Type 0} (f : A → Bool) (d x : A) (xs : List A) (o : Option ℕ) → Found f d xs o → Found f d (x ∷ xs) (up o)
-found-up f d x xs none e = tt
-found-up f d x xs (some i) e = let h : i < length xs = e .1 in (e .0, omega arith)
-
-found : {A : Type 0} (f : A → Bool) (d : A) (xs : List A) → Found f d xs (find f xs)
-found f d [] = tt
-found f d (x ∷ xs) = cond-cases (Found f d (x ∷ xs)) (f x) (λ e. (e, omega arith)) (λ e. found-up f d x xs (find f xs) (found f d xs))
-
 free-place : (t : Table) (p : ℕ) → freePlace t ≡ some p → (jobAt t p .row .serial ≡ 0) × (p < length (t .jobs))
 unfolding freePlace
 free-place t p e =
-    let h = subst (Found (λ j. not (live (j .row))) noJob (t .jobs)) e (found (λ j. not (live (j .row))) noJob (t .jobs)) in
-    (eqb-true _ 0 (not-false _ (not-true _ (h .0))), h .1)
+    let h = found (λ j. not (live (j .row))) noJob (t .jobs) (some p) e in
+    (eqb-true _ 0 (not-false _ (not-true _ (h .passes))), h .inside)
 
 -- a set with a connection put in is not empty
 insert-some : (c : ℕ) → insert 0 c ≡ 0 → ⊥

@@ -1,5 +1,4 @@
 -- The digits that are shown of a frame do not depend on opaque bytes: a header stands before them. Assumes nothing.
-use Prim.Native.Nat.{ℕ}
 use mathlib.Core.Path.{_≡_, refl, ap, sym, _∙_}
 use mathlib.Core.Bool.{Bool, true, false, cond}
 use mathlib.Core.Option.{some}

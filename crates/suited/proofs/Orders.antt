@@ -25,7 +25,7 @@ use Rattle.server.specs.Table.{Table, noJob, jobAt, live, hasHandle, best}
 use Rattle.server.specs.Asked.{Work, tells, reports, ends, throws, Asked, toOpen, toClose, reset, preSleep, echo, bad, canDo, cantDo, grab, submit, work, getStatus, option, requested}
 use Rattle.server.specs.Events.{exceptionsName}
 use Rattle.outcomes.proofs.Cases.{cond-both}
-use Rattle.rules_kept.proofs.Rows.{found}
+use Rattle.outcomes.proofs.Searches.{found}
 use Rattle.rules_kept.proofs.Going.{best-found, grabbed-live}
 use Rattle.plans.specs.declared.Plan.{Plan}
 use Rattle.plans.specs.declared.Order as O′

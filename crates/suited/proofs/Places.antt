@@ -17,7 +17,7 @@ use Rattle.server.specs.Table.{Job, Table, noRow, noJob, live, hasHandle, roomF
 use Rattle.server.specs.Asked.{Work, Asked, toOpen, toClose}
 use Rattle.server.specs.Events.{exceptionsName, holdsHandle}
 use Rattle.outcomes.proofs.Cases.{cond-both}
-use Rattle.rules_kept.proofs.Rows.{found}
+use Rattle.outcomes.proofs.Searches.{found}
 use Rattle.rules_kept.proofs.Functions.{room}
 use Rattle.rules_kept.proofs.Requests.{Good, Told}
 use Rattle.plans.specs.declared.Plan.{Plan}

@@ -1,6 +1,6 @@
 -- 01: "CAN_DO by a sleeper with such a job answers NOOP and wakes it. [..] Giving up an ability leaves held jobs. Requests with no
 -- packet named here or in document 000 send none." For a table that obeys the rules. Assumes nothing.
-use Prim.Native.Nat.{ℕ, zero, suc, _+_, _<_, _≤_}
+use Prim.Native.Nat.{ℕ, _<_}
 use mathlib.Core.Path.{_≡_, refl, ap, sym, _∙_}
 use mathlib.Core.Logic.{_≢_}
 use mathlib.Core.Bool.{true, false, not, _&&_}
@@ -16,7 +16,7 @@ use Rattle.octets.specs.Bytes.{Bytes}
 use Rattle.octets.proofs.Strings.{and-left, and-right, and-both}
 use Rattle.sets.specs.Sets.{has}
 use Rattle.sets.proofs.Laws.{has-insert-same, has-insert-other, has-remove-same, has-remove-other}
-use Rattle.server.specs.Lists.{any, filter, numbers}
+use Rattle.server.specs.Lists.{any}
 use Rattle.server.specs.Table.{Function, Table, noFunction, noJob, connectionAt, functionAt, jobAt, setFunction, queued, able, grabbable, known, roomFor}
 use Rattle.server.specs.Asked.{canDo, cantDo, reset}
 use Rattle.server.specs.Events.{settle, wakes, toWake, forgot, noop, ableTo, unable, canDoAt, cantDoAt, unableToAll, served}
@@ -28,22 +28,8 @@ use Rattle.rules_kept.proofs.Functions.{room}
 use Rattle.rules_kept.proofs.Settled.{woken-at, idle-by}
 use Rattle.rules_kept.proofs.Obeyed.{obeyed}
 use Rattle.rules_kept.proofs.AtRest.{drops-none, sleeps-on, choose-same}
-use Rattle.rules_kept.proofs.Words.{hasWork}
+use Rattle.rules_kept.proofs.Words.{choose-one, hasWork}
 use Rattle.words.proofs.Quiet.{Quiet, quiet, NoMore, idle-kept, work-from}
-
--- ---- one number alone passes
-
-past-it : (c i n : ℕ) → c < i → filter (λ k. eqb k c) (numbers i n) ≡ []
-past-it c i zero l = refl
-past-it c i (suc n) l = rw (ne-eqb i c (λ (e : i ≡ c). omega arith)) (past-it c (suc i) n (omega arith))
-
-it-alone : (c i n : ℕ) → i ≤ c → c < i + n → filter (λ k. eqb k c) (numbers i n) ≡ c ∷ []
-it-alone c i zero l m = absurd (omega arith)
-it-alone c i (suc n) l m = go (ℕ-discrete i c) (it-alone c (suc i) n)
-  where
-    go : Dec (i ≡ c) → (suc i ≤ c → c < suc i + n → filter (λ k. eqb k c) (numbers (suc i) n) ≡ c ∷ []) → filter (λ k. eqb k c) (numbers i (suc n)) ≡ c ∷ []
-    go (yes e) r = rw (eq-eqb i c e, past-it c (suc i) n (omega arith), e)
-    go (no d) r = rw (ne-eqb i c d) (r (omega arith) (omega arith))
 
 -- ---- CAN_DO
 
@@ -99,7 +85,7 @@ module _ (t : Table) (c : ℕ) (inside : c < length (t .connections)) (f : Bytes
   module _ (asleep : connectionAt t c .asleep ≡ true) (w : hasWork enabled c ≡ true) where
     wakes-it : toWake enabled ≡ c ∷ []
     unfolding toWake
-    wakes-it = choose-same _ (λ k. eqb k c) (length (t .connections)) (λ k l. only k l (ℕ-discrete k c)) ∙ it-alone c 0 (length (t .connections)) (omega arith) (omega arith)
+    wakes-it = choose-same _ (λ k. eqb k c) (length (t .connections)) (λ k l. only k l (ℕ-discrete k c)) ∙ choose-one c 0 (length (t .connections)) (omega arith) (omega arith)
       where
         only : (k : ℕ) → k < length (t .connections) → Dec (k ≡ c) → wakes (enabled .functions) (t .jobs) k (connectionAt t k) ≡ eqb k c
         only k l (yes i) = rw (i, asleep) (w ∙ sym (eq-eqb c c refl))

@@ -19,7 +19,8 @@ use Rattle.server.specs.Table.{Function, Job, Table, closed, noJob, connectionA
 use Rattle.server.specs.Asked.{grab}
 use Rattle.server.specs.Events.{plain, assign, Decision, settle, sleeping, grabAt, served}
 use Rattle.server.specs.Rules.{queuedAwaited, sleepersIdle, obeys}
-use Rattle.rules_kept.proofs.Rows.{clash, implies-by, never, or-false, all-at, any-at, any-where, found, row-set}
+use Rattle.outcomes.proofs.Searches.{found}
+use Rattle.rules_kept.proofs.Rows.{clash, implies-by, never, or-false, all-at, any-at, any-where, row-set}
 use Rattle.rules_kept.proofs.Going.{best-found}
 use Rattle.rules_kept.proofs.Obeyed.{obeyed}
 use Rattle.rules_kept.proofs.Words.{hasWork}

@@ -19,7 +19,8 @@ use Rattle.server.specs.Events.{Decision, created, submittedBy, submitTo, serve
 use Rattle.server.specs.Server.{Server, opaqueOf, rework, decided, next}
 use Rattle.server.specs.Rules.{obeys}
 use Rattle.outcomes.proofs.Cases.{All2, all2-set}
-use Rattle.rules_kept.proofs.Rows.{implies-by, or-right, found}
+use Rattle.outcomes.proofs.Searches.{found}
+use Rattle.rules_kept.proofs.Rows.{implies-by, or-right}
 use Rattle.rules_kept.proofs.Accepting.{Kept, submitted-keeps}
 use Rattle.rules_kept.proofs.Obeyed.{obeyed}
 use Rattle.words.proofs.Quiet.{Quiet, awaited, one-job-quiet}

@@ -21,7 +21,8 @@ use Rattle.server.specs.Asked.{Work, tells, reports, ends, throws, work}
 use Rattle.server.specs.Events.{Decision, copy, holdsHandle, hears, listenersOf, worked, workAt, served}
 use Rattle.server.specs.Rules.{obeys}
 use Rattle.outcomes.proofs.Cases.{cond-both}
-use Rattle.rules_kept.proofs.Rows.{clash, iff, all-at, found}
+use Rattle.outcomes.proofs.Searches.{found}
+use Rattle.rules_kept.proofs.Rows.{clash, iff, all-at}
 use Rattle.rules_kept.proofs.Obeyed.{obeyed}
 use Rattle.words.proofs.Quiet.{and-off, Quiet, awaited, one-job-quiet}
 

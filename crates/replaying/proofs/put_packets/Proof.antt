@@ -1,11 +1,9 @@
 -- `replaying::put_packets` meets its contract. The invariant: the lines of the packets before i lie over the text, and packets follow.
 -- Assumes nothing.
-use Prim.Native.Nat.{_+_, _-_, _*_, _≤_}
-use mathlib.Core.Path.{_≡_, ap, _∙_}
+use Prim.Native.Nat.{_-_}
 use native.Mathlib.Omega.{arith}
 use lib.ListN.{length}
-use Rattle.octets.proofs.Laying.{length-put}
-use Rattle.framing.proofs.Lines.{Under, under-start, whole-header, coming, room-more, under-more, under-end}
+use Rattle.framing.proofs.Lines.{Turning, counted, header-whole, positive, reach, turning-end, turning-more, turning-room, turning-start}
 use Rattle.replaying.specs.Replayed.{lineOf}
 use Rattle.replaying.proofs.Digits.{line-short}
 use borrow.Author.Needs.{needs}
@@ -13,13 +11,13 @@ use Rattle.replaying.proofs.put_packets.Statement.{statement}
 use Rattle.replaying.proofs.put_packets.Tie as tie
 
 abbrev Inv-loop : tie.InvT-loop
-Inv-loop text₀ output at₀ i₀ text at i = (i ≤ length output) × (at ≤ 0 + i * 3) × (length output * 3 ≤ length text₀) × (length text ≡ length text₀) × Under lineOf 0 output text₀ text at i
+Inv-loop text₀ output at₀ i₀ text at i = Turning lineOf 3 line-short 0 output text₀ text at i
 
 abbrev μ-loop : tie.MeasureT-loop
 μ-loop text₀ output at₀ i₀ text at i = length output - i
 
 loop-holds : tie.Need-loop-holds Inv-loop μ-loop
-loop-holds c = search (needs, under-start lineOf 0)
+loop-holds c = turning-start lineOf 3 line-short _ _ _ (c .before .before .pre .0) (omega (arith, c .before .before .pre .1))
 
 sub-rest : tie.Need-sub-rest Inv-loop μ-loop
 sub-rest c = search needs
@@ -31,33 +29,22 @@ part-rest-end : tie.Need-part-rest-end Inv-loop μ-loop
 part-rest-end c = search needs
 
 packet-length-requires : tie.Need-packet-length-requires Inv-loop μ-loop
-packet-length-requires c κs = search (needs, whole-header lineOf)
+packet-length-requires c κs = header-whole lineOf 3 line-short _ _ _ _ _ _ (c .before .before .loop .inv) (c .before .loop-test .taken)
 
 slice-aggregate-put-line : tie.Need-slice-aggregate-put-line Inv-loop μ-loop
-slice-aggregate-put-line c = coming lineOf _ _ _ _ _ _ (c .before .before .before .before .before .loop .inv .4) (c .before .before .before .before .loop-test .taken) _ (c .before .before .packet-length .ensures) .counted
+slice-aggregate-put-line c = counted lineOf 3 line-short _ _ _ _ _ _ (c .before .before .before .before .before .loop .inv) (c .before .before .before .before .loop-test .taken) _ (c .before .before .packet-length .ensures)
 
 put-line-requires : tie.Need-put-line-requires Inv-loop μ-loop
-put-line-requires c κs =
-    let l = c .before .before .before .before .before .loop .inv in
-    let k = coming lineOf _ _ _ _ _ _ (c .before .before .before .before .before .loop .inv .4) (c .before .before .before .before .loop-test .taken) _ (c .before .before .packet-length .ensures) in
-    omega (arith, k .inside, room-more lineOf _ _ _ _ _ _ (l .4) (c .before .before .before .before .loop-test .taken) _ (c .before .before .packet-length .ensures) 3 line-short (l .1))
+put-line-requires c κs = turning-room lineOf 3 line-short _ _ _ _ _ _ (c .before .before .before .before .before .loop .inv) (c .before .before .before .before .loop-test .taken) _ (c .before .before .packet-length .ensures)
 
 add-i : tie.Need-add-i Inv-loop μ-loop
-add-i c = search (needs, coming lineOf _ _ _ _ _ _ (c .before .before .before .before .before .before .before .before .loop .inv .4) (c .before .before .before .before .before .before .before .loop-test .taken) _ (c .before .before .before .before .before .packet-length .ensures) .inside)
+add-i c = search (needs, reach lineOf 3 line-short _ _ _ _ _ _ (c .before .before .before .before .before .before .before .before .loop .inv) (c .before .before .before .before .before .before .before .loop-test .taken) _ (c .before .before .before .before .before .packet-length .ensures))
 
 loop-less : tie.Need-loop-less Inv-loop μ-loop
-loop-less c = let k = coming lineOf _ _ _ _ _ _ (c .before .before .before .before .before .before .before .before .loop .inv .4) (c .before .before .before .before .before .before .before .loop-test .taken) _ (c .before .before .before .before .before .packet-length .ensures) in omega (arith, k .inside, k .positive)
+loop-less c = omega (arith, reach lineOf 3 line-short _ _ _ _ _ _ (c .before .before .before .before .before .before .before .before .loop .inv) (c .before .before .before .before .before .before .before .loop-test .taken) _ (c .before .before .before .before .before .packet-length .ensures), positive lineOf 3 line-short _ _ _ _ _ _ (c .before .before .before .before .before .before .before .before .loop .inv) (c .before .before .before .before .before .before .before .loop-test .taken) _ (c .before .before .before .before .before .packet-length .ensures))
 
 loop-again : tie.Need-loop-again Inv-loop μ-loop
-loop-again c =
-    let l = c .before .before .before .before .before .before .before .before .loop .inv in
-    let k = coming lineOf _ _ _ _ _ _ (c .before .before .before .before .before .before .before .before .loop .inv .4) (c .before .before .before .before .before .before .before .loop-test .taken) _ (c .before .before .before .before .before .packet-length .ensures) in (
-      k .inside,
-      omega (arith, room-more lineOf _ _ _ _ _ _ (l .4) (c .before .before .before .before .before .before .before .loop-test .taken) _ (c .before .before .before .before .before .packet-length .ensures) 3 line-short (l .1), c .before .before .put-line .ensures .0),
-      l .2,
-      ap length (c .before .before .put-line .ensures .1) ∙ length-put _ _ _ ∙ l .3,
-      under-more lineOf _ _ _ _ _ _ (l .4) (c .before .before .before .before .before .before .before .loop-test .taken) _ (c .before .before .before .before .before .packet-length .ensures) _ _ (c .before .before .put-line .ensures),
-    )
+loop-again c = turning-more lineOf 3 line-short _ _ _ _ _ _ (c .before .before .before .before .before .before .before .before .loop .inv) (c .before .before .before .before .before .before .before .loop-test .taken) _ (c .before .before .before .before .before .packet-length .ensures) _ _ (c .before .before .put-line .ensures)
 
 same-length : tie.Need-same-length Inv-loop μ-loop
 same-length c = search needs
@@ -65,8 +52,8 @@ same-length c = search needs
 returns : tie.Need-returns Inv-loop μ-loop
 returns c =
     let l = c .before .loop .inv in
-    let e = under-end lineOf _ _ _ _ _ _ (l .4) (c .loop-test .left) in
-    (omega (arith, l .0, l .1), e .0, e .1)
+    let e = turning-end lineOf 3 line-short _ _ _ _ _ _ l (c .loop-test .left) in
+    (omega (arith, l .near, l .inside), e .0, e .1)
 
 pub put-packets-spec : {M : Type 1} → statement M
 put-packets-spec =
