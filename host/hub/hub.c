@@ -1,3 +1,4 @@
+/* The README's host: one connection opens and asks for a job. A real host has sockets where this one prints. */
 #include <stdio.h>
 
 #include "lap.h"
