@@ -15,12 +15,12 @@ fn names_job(shape: Shape) -> bool
     ensures { λ r. ⌜ r ≡ namesJob shape ⌝ }
 {
     match shape {
-        Shape::WorkStatus => true,
-        Shape::WorkData => true,
-        Shape::Handle => true,
-        Shape::Assignment => true,
-        Shape::UniqueAssignment => true,
-        Shape::StatusAnswer => true,
+        Shape::WorkStatus
+        | Shape::WorkData
+        | Shape::Handle
+        | Shape::Assignment
+        | Shape::UniqueAssignment
+        | Shape::StatusAnswer => true,
         _ => false,
     }
 }

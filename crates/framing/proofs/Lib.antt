@@ -3,4 +3,5 @@ pub mod Cutting
 pub mod Lines
 pub mod Sent
 pub mod Answered
+pub mod Telling
 pub mod Texts

@@ -1,6 +1,7 @@
 -- How laying lines of digits meets the definition: one line, and the lines of an answer. Assumes nothing.
 use Prim.Native.Nat.{ℕ, _+_, _*_, _≤_}
 use mathlib.Core.Path.{_≡_, refl, ap}
+use mathlib.Core.Option.{none}
 use mathlib.Core.List.{List, [], _∷_, _++_}
 use native.Mathlib.Omega.{arith}
 use lib.ListN.{length, length-append}
@@ -9,9 +10,10 @@ use Rattle.octets.specs.Put.{put}
 use Rattle.octets.proofs.Laying.{put-put, length-put}
 use Rattle.hex.specs.Hex.{hex}
 use Rattle.hex.proofs.Writing.{hex-length}
-use Rattle.server.specs.Replay.{answerLines}
+use Rattle.server.specs.Table.{Table}
+use Rattle.server.specs.Replay.{answerLines, noFrame}
 use Rattle.framing.specs.Packets.{packetLines}
-use Rattle.replaying.specs.Replayed.{lineOf}
+use Rattle.replaying.specs.Replayed.{inDigits, lineOf}
 
 -- ---- one line
 
@@ -42,8 +44,13 @@ pub lines-answer : (ps : List Bytes) (n : ℕ) → answerLines ps n ≡ packetLi
 unfolding answerLines packetLines hex
 lines-answer ps n = refl
 
+-- what isn't a frame is answered by 16 alone
+pub no-frame-digits : (t : Table) → inDigits none [] 16 t ≡ noFrame
+unfolding answerLines
+no-frame-digits t = refl
+
 module _ (ps : List Bytes) (n end : ℕ) (e : end ≡ 0 + length (packetLines lineOf ps)) where
-  pub answer-place : (r : ℕ) → r ≡ end + length (lineOf (n ∷ [])) → r ≡ length (answerLines ps n)
+  pub answer-place : (r : ℕ) → r ≡ end + length (lineOf (n ∷ [])) → r ≡ 0 + length (answerLines ps n)
   answer-place r q = omega (arith, length-append (packetLines lineOf ps) (lineOf (n ∷ [])), ap length (lines-answer ps n))
 
   pub answer-laid : (x₀ x y : Bytes) → x ≡ put 0 (packetLines lineOf ps) x₀ → y ≡ put end (lineOf (n ∷ [])) x → y ≡ put 0 (answerLines ps n) x₀

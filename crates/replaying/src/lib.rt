@@ -44,7 +44,7 @@ fn put_packets(text: &mut [u8], output: &[u8]) -> usize
 // Lays the lines of an answer: its packets, which are the first of the output, and then its number.
 fn put_answer(text: &mut [u8], output: &[u8], answer: Answer) -> usize
     requires { ⌜ (answer .length ≤ length (now output)) × Packed (take (answer .length) (now output)) × (answer .length * 3 + 3 ≤ length (now text)) ⌝ }
-    ensures { λ r. ⌜ (r ≡ length (answerLines (packetsIn (take (answer .length) (now (output .entry)))) (answer .number)))
+    ensures { λ r. ⌜ (r ≡ 0 + length (answerLines (packetsIn (take (answer .length) (now (output .entry)))) (answer .number)))
         × (now (text .exit) ≡ put 0 (answerLines (packetsIn (take (answer .length) (now (output .entry)))) (answer .number)) (now (text .entry))) ⌝ }
 {
     let length = answer.length;

@@ -1,14 +1,10 @@
--- How a step meets the definition: what answering a frame left has room and a table, and what is laid is what is shown.
--- Assumes nothing.
+-- How a step meets the definition of what is shown: where it is told, answering the frame left a table. Assumes nothing.
 use Prim.Native.Nat.{ℕ, _+_, _<_, _≤_}
-use mathlib.Core.Path.{_≡_, refl, sym, ap, subst}
+use mathlib.Core.Path.{_≡_, refl, sym, subst}
 use mathlib.Core.Bool.{Bool, true, false, not, cond, _||_}
 use mathlib.Core.Option.{Option, none, some}
-use native.Mathlib.Nat.{zero-add}
 use native.Mathlib.Omega.{arith}
-use borrow.Author.Tests.{lt-ltb, le-ltb}
 use lib.ListN.{length, take}
-use lib.Seq.{length-take-le}
 use Rattle.octets.specs.Bytes.{Bytes}
 use Rattle.octets.specs.Put.{put}
 use Rattle.octets.proofs.Laying.{length-put}
@@ -18,9 +14,9 @@ use Rattle.server.specs.Call.{Result, serverIn, tooShort, isSound, refusedBy, p
 use Rattle.server.specs.Replay.{frame}
 use Rattle.calls.proofs.Refusals.{taken}
 use Rattle.performing.specs.Concluded.{left}
-use Rattle.framing.specs.Packets.{Packed, packetsIn}
-use Rattle.framing.specs.Spoken.{answeredTo, packetsTo, saying, telling, toldOf, told}
-use Rattle.framing.proofs.Sent.{output-few, output-inside, output-packed, output-packets}
+use Rattle.framing.specs.Packets.{packetsIn}
+use Rattle.framing.specs.Spoken.{answeredTo, telling}
+use Rattle.framing.proofs.Telling.{frame-told, short-told}
 use Rattle.showing.specs.Shown.{lineText, shown, textSize}
 
 -- ---- the table that answering leaves
@@ -44,26 +40,15 @@ module _ (t w o : Bytes) where
   -- ---- a line
 
   pub short-text : (k : ℕ) (line x : Bytes) → length x < textSize → telling 0 x o t w ≡ shown k line t w o x
-  unfolding shown told
-  short-text k line x h = sym (rw (lt-ltb (length x) textSize h))
+  unfolding shown
+  short-text k line x h = short-told t w o textSize (lineText k) line x h
 
   module _ (v : Option Event) (n l : ℕ) (p u s : Bytes) (q : left n l p u s ≡ answeredTo v t w o) where
     pub table-long : (n ≡ 1 → ⊥) → (n ≡ 16 → ⊥) → 3796 ≤ length u
     table-long = subst (λ (r : Result). (r .number ≡ 1 → ⊥) → (r .number ≡ 16 → ⊥) → 3796 ≤ length (r .table)) (sym q) (long-answered v)
 
-    pub sent-inside : l ≤ length p
-    sent-inside = output-inside t w o v (left n l p u s) q
-
-    pub sent-packed : Packed (take l p)
-    sent-packed = output-packed t w o v (left n l p u s) q
-
-    pub sent-few : length (take l p) ≤ 16592
-    sent-few = omega (arith, length-take-le l p sent-inside, output-few t w o v (left n l p u s) q)
-
     pub line-shown : (k : ℕ) (line x : Bytes) → textSize ≤ length x → v ≡ frame line → (r : ℕ) (y : Bytes)
         → (r ≡ 0 + length (lineText k v (packetsIn (take l p)) n (tableOf 16 u))) × (y ≡ put 0 (lineText k v (packetsIn (take l p)) n (tableOf 16 u)) x)
         → telling r y p u s ≡ shown k line t w o x
-    unfolding shown told toldOf
-    line-shown k line x h e r y g =
-        rw (le-ltb (length x) textSize h, ← e, g .0, zero-add, g .1, output-packets t w o v (left n l p u s) q)
-        (ap (λ (z : Result). saying (lineText k v (packetsTo v t w o) (z .number) (tableOf 16 (z .table))) x (z .output) (z .table) (z .workloads)) q)
+    unfolding shown
+    line-shown k line x h e r y g = frame-told t w o v n l p u s q textSize (lineText k) line x h e r y g

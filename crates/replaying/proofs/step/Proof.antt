@@ -29,9 +29,7 @@ same-length-4 : tie.Need-same-length-4
 same-length-4 c = search needs
 
 returns-2 : tie.Need-returns-2
-returns-2 c =
-    let laid = c .before .before .put-answer .ensures in
-    replied _ _ _ _ _ _ _ _ _ (c .before .before .before .before .before .before .before .before .before .before .before .answer-frame .ensures) _ _ (c .before .before .before .before .before .before .before .before .before .before .before .before .before .before .before .before .before .before .if1 .left) (c .before .before .before .before .before .before .before .before .before .before .before .before .before .before .before .before .read-frame .ensures .0) _ _ (laid .0) (laid .1)
+returns-2 c = replied _ _ _ _ _ _ _ _ _ (c .before .before .before .before .before .before .before .before .before .before .before .answer-frame .ensures) _ _ (c .before .before .before .before .before .before .before .before .before .before .before .before .before .before .before .before .before .before .if1 .left) (c .before .before .before .before .before .before .before .before .before .before .before .before .before .before .before .before .read-frame .ensures .0) _ _ (c .before .before .put-answer .ensures)
 
 pub step-spec : {M : Type 1} → statement M
 step-spec =

@@ -1,7 +1,8 @@
 -- `showing::step` meets its contract: a text that is too short, or what is said of what answering the frame left. Assumes nothing.
 use mathlib.Core.Path.{sym}
 use lib.Seq.{length-take-le}
-use Rattle.showing.proofs.Lines.{short-text, sent-inside, sent-packed, sent-few, table-long, line-shown}
+use Rattle.framing.proofs.Telling.{sent-few, sent-inside, sent-packed}
+use Rattle.showing.proofs.Lines.{short-text, table-long, line-shown}
 use borrow.Author.Needs.{needs}
 use Rattle.showing.proofs.step.Statement.{statement}
 use Rattle.showing.proofs.step.Tie as tie
