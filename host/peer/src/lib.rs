@@ -17,6 +17,7 @@ pub mod layout;
 #[cfg(feature = "archive")]
 pub mod lent;
 pub mod lines;
+pub mod load;
 pub mod options;
 pub mod outbox;
 pub mod packet;
@@ -26,6 +27,8 @@ pub mod rules;
 pub mod scripts;
 pub mod server;
 pub mod show;
+#[cfg(feature = "archive")]
+pub mod sides;
 pub mod state;
 pub mod text;
 pub mod words;
