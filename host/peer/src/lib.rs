@@ -7,7 +7,9 @@
 #[allow(unsafe_code)]
 pub mod archive;
 pub mod captures;
+pub mod counts;
 pub mod damage;
+pub mod edge_tables;
 pub mod event;
 pub mod handle;
 pub mod hex;
@@ -31,4 +33,6 @@ pub mod show;
 pub mod sides;
 pub mod state;
 pub mod text;
+#[cfg(feature = "archive")]
+pub mod trials;
 pub mod words;
