@@ -6,7 +6,6 @@ use Rattle.settling.specs.Busy.{unions, wakesNow, toWakeSet}
 use Rattle.plans.specs.Values.{valuesOf}
 use Rattle.server.specs.Layout.{tableOf}
 use Rattle.server.specs.Table.{closed}
-use Rattle.server.specs.declared.Connection.{Connection}
 use borrow.Author.Needs.{needs}
 use lib.ListN.{drop}
 use native.Mathlib.Omega.{arith}
