@@ -8,7 +8,7 @@ ghost use Prim.Native.Nat.{_<_};
 ghost use lib.ListN.{getD, set};
 ghost use Rattle.server.specs.Table.{closed, noRow, withHolder, withListeners};
 ghost use Rattle.server.specs.Events.{submittedBy};
-ghost use Rattle.plans.specs.Plans.{putRow, sleepingIn, withAble, withConnection, withRows};
+ghost use Rattle.plans.specs.Plans.{withAble};
 
 // The row at a place.
 pub fn row_at(rows: [JobRow; 32], p: usize) -> JobRow
@@ -35,18 +35,6 @@ pub fn no_row() -> JobRow
     }
 }
 
-// The rows with another one at a place.
-pub fn set_row(rows: [JobRow; 32], p: usize, row: JobRow) -> [JobRow; 32]
-    ensures { λ r. ⌜ r ≡ set rows p row ⌝ }
-{
-    if 32 <= p {
-        return rows;
-    }
-    let mut next = rows;
-    next[p] = row;
-    next
-}
-
 // The connections able to do the function at a place.
 pub fn able_at(able: [u32; 16], q: usize) -> u32
     ensures { λ r. ⌜ r ≡ getD able q 0 ⌝ }
@@ -55,18 +43,6 @@ pub fn able_at(able: [u32; 16], q: usize) -> u32
         return 0;
     }
     able[q]
-}
-
-// The able sets with another one at a place.
-pub fn set_able(able: [u32; 16], q: usize, s: u32) -> [u32; 16]
-    ensures { λ r. ⌜ r ≡ set able q s ⌝ }
-{
-    if 16 <= q {
-        return able;
-    }
-    let mut next = able;
-    next[q] = s;
-    next
 }
 
 // The connection's row.
@@ -95,22 +71,6 @@ pub fn set_connection(connections: [Connection; 16], c: usize, x: Connection) ->
     next
 }
 
-// The values with another row of a connection.
-pub fn with_connection(v: Values, c: usize, x: Connection) -> Values
-    ensures { λ r. ⌜ r ≡ withConnection c x v ⌝ }
-{
-    let old = v.connections;
-    let able = v.able;
-    let rows = v.rows;
-    let connections = set_connection(old, c, x);
-    Values {
-        last: v.last,
-        connections,
-        able,
-        rows,
-    }
-}
-
 // The values with other able sets.
 pub fn with_able(v: Values, able: [u32; 16]) -> Values
     ensures { λ r. ⌜ r ≡ withAble able v ⌝ }
@@ -123,45 +83,6 @@ pub fn with_able(v: Values, able: [u32; 16]) -> Values
         able,
         rows,
     }
-}
-
-// The values with other rows.
-pub fn with_rows(v: Values, rows: [JobRow; 32]) -> Values
-    ensures { λ r. ⌜ r ≡ withRows rows v ⌝ }
-{
-    let connections = v.connections;
-    let able = v.able;
-    Values {
-        last: v.last,
-        connections,
-        able,
-        rows,
-    }
-}
-
-// The values with another row at a place.
-pub fn put_row(v: Values, p: usize, row: JobRow) -> Values
-    ensures { λ r. ⌜ r ≡ putRow p row v ⌝ }
-{
-    let rows = v.rows;
-    with_rows(v, set_row(rows, p, row))
-}
-
-// The values with the connection asleep, or awake.
-pub fn sleeping(v: Values, c: usize, asleep: bool) -> Values
-    ensures { λ r. ⌜ r ≡ sleepingIn asleep c v ⌝ }
-{
-    let connections = v.connections;
-    let x = connection_at(connections, c);
-    with_connection(
-        v,
-        c,
-        Connection {
-            opened: x.opened,
-            asleep,
-            exceptions: x.exceptions,
-        },
-    )
 }
 
 // The row with a submitter more: in the background, or among the listeners.

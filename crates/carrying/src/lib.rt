@@ -10,6 +10,8 @@ ghost use lib.ListN.{length};
 ghost use Rattle.octets.specs.Put.{put};
 ghost use Rattle.server.specs.Lists.{fit};
 ghost use Rattle.server.specs.Table.{heldBy};
+ghost use Rattle.server.specs.Layout.{tableOf};
+ghost use Rattle.plans.specs.Values.{rowsOf};
 ghost use Rattle.plans.specs.Settling.{settledValues};
 ghost use Rattle.texts.specs.Places.{reset};
 ghost use Rattle.carrying.specs.Written.{freeMarks, tidied, written};
@@ -87,10 +89,12 @@ pub fn put_new(table: &mut [u8], p: usize, q: usize, name: &[u8], unique: &[u8])
 }
 
 // Lays `0` and `0` over the texts of the jobs that the connection holds.
-pub fn reset_held(table: &mut [u8], rows: [JobRow; 32], c: usize)
+pub fn reset_held(table: &mut [u8], c: usize)
     requires { ⌜ (3796 ≤ length (now table)) × (c < 16) ⌝ }
-    ensures { λ _. ⌜ now (table .exit) ≡ reset 3428 (map (heldBy c) rows) (reset 3108 (map (heldBy c) rows) (now (table .entry))) ⌝ }
+    ensures { λ _. ⌜ now (table .exit) ≡ reset 3428 (map (heldBy c) (rowsOf (tableOf 16 (now (table .entry)))))
+        (reset 3108 (map (heldBy c) (rowsOf (tableOf 16 (now (table .entry))))) (now (table .entry))) ⌝ }
 {
+    let rows = rows::read_rows(table);
     let marks = held_marks(rows, c);
     texts::reset_where(table, 3108, &marks);
     texts::reset_where(table, 3428, &marks);

@@ -90,7 +90,7 @@ dropped-rows (j ∷ js) = ap₂ _∷_ (go (lost (j .row))) (dropped-rows js)
     go true = refl
     go false = refl
 
-wakes-values : (fs : List Function) (js : List Job) (c : ℕ) (x : Connection)
+pub wakes-values : (fs : List Function) (js : List Job) (c : ℕ) (x : Connection)
     → wakes fs js c x ≡ wakesIn (map (λ x. x .able) fs) (map (λ j. j .row) js) c x
 wakes-values fs js c x =
     ap (λ (b : Bool). x .asleep && b) ((λ i. any (λ j. grab-values fs c (j .row) i) js) ∙ any-row (canGrab (map (λ x. x .able) fs) c) js)

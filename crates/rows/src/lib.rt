@@ -7,10 +7,11 @@ use server::JobRow;
 ghost use mathlib.Core.Path.{_≡_};
 ghost use mathlib.Core.List.{_++_};
 ghost use Prim.Native.Nat.{_+_, _*_, _≤_, _<_};
-ghost use lib.ListN.{length};
+ghost use lib.ListN.{length, getD};
 ghost use Rattle.octets.specs.Put.{put};
 ghost use Rattle.server.specs.Layout.{column, little, rowIn, tableOf};
 ghost use Rattle.plans.specs.Values.{ablesOf, rowsOf, valuesOf};
+ghost use Rattle.plans.specs.Plans as P;
 ghost use Rattle.rows.specs.Columns.{columnsOf, connectionBytes, flagBytes, flagsOf, numberBytes, rowBytes};
 
 // The numbers of the rows, field by field, as the layout has them; a flag is 0 or 1.
@@ -49,8 +50,57 @@ fn read_row(table: &[u8], p: usize) -> JobRow
     }
 }
 
+// The row of the job at a place; a free one beyond the last.
+pub fn row_at(table: &[u8], p: usize) -> JobRow
+    requires { ⌜ 3796 ≤ length (now table) ⌝ }
+    ensures { λ r. ⌜ r ≡ P.rowIn (valuesOf (tableOf 16 (now (table .entry)))) p ⌝ }
+{
+    if 32 <= p {
+        return JobRow {
+            serial: 0,
+            function: 0,
+            priority: 0,
+            background: false,
+            listeners: 0,
+            holder: 0,
+            size: 0,
+        };
+    }
+    read_row(table, p)
+}
+
+// The connections able to do the function at a place; nobody beyond the last.
+pub fn able_at(table: &[u8], q: usize) -> u32
+    requires { ⌜ 3796 ≤ length (now table) ⌝ }
+    ensures { λ r. ⌜ r ≡ getD (valuesOf (tableOf 16 (now (table .entry))) .able) q 0 ⌝ }
+{
+    if 16 <= q {
+        return 0;
+    }
+    little::number4(table, 4 + 4 * q)
+}
+
+// The row of a connection; a closed one beyond the last.
+pub fn connection_at(table: &[u8], c: usize) -> Connection
+    requires { ⌜ 3796 ≤ length (now table) ⌝ }
+    ensures { λ r. ⌜ r ≡ P.connectionIn (valuesOf (tableOf 16 (now (table .entry)))) c ⌝ }
+{
+    if 16 <= c {
+        return Connection {
+            opened: false,
+            asleep: false,
+            exceptions: false,
+        };
+    }
+    Connection {
+        opened: table[3748 + c] == 1,
+        asleep: table[3764 + c] == 1,
+        exceptions: table[3780 + c] == 1,
+    }
+}
+
 // The rows of all jobs.
-fn read_rows(table: &[u8]) -> [JobRow; 32]
+pub fn read_rows(table: &[u8]) -> [JobRow; 32]
     requires { ⌜ 3796 ≤ length (now table) ⌝ }
     ensures { λ r. ⌜ r ≡ rowsOf (tableOf 16 (now (table .entry))) ⌝ }
 {

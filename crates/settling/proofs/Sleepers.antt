@@ -32,7 +32,7 @@ or-none true = refl
 or-none false = refl
 
 -- a set that is empty unless a test holds
-has-if : (b : Bool) (s c : ℕ) → has (cond b s 0) c ≡ b && has s c
+pub has-if : (b : Bool) (s c : ℕ) → has (cond b s 0) c ≡ b && has s c
 has-if true s c = refl
 has-if false s c = zero-has c
 

@@ -101,7 +101,7 @@ pub fn woken(connections: [Connection; 16], busy: u32) -> [Connection; 16]
 }
 
 // Connection c as a set, if it wakes.
-fn waking(x: Connection, busy: u32, c: usize) -> u32
+pub fn waking(x: Connection, busy: u32, c: usize) -> u32
     requires { ⌜ c < 16 ⌝ }
     ensures { λ s. ⌜ s ≡ wakesNow busy c x ⌝ }
 {

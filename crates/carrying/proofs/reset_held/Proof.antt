@@ -4,6 +4,9 @@ use borrow.Author.Needs.{needs}
 use Rattle.carrying.proofs.reset_held.Statement.{statement}
 use Rattle.carrying.proofs.reset_held.Tie as tie
 
+read-rows-requires : tie.Need-read-rows-requires
+read-rows-requires c κs = search needs
+
 held-marks-requires : tie.Need-held-marks-requires
 held-marks-requires c κs = search needs
 
@@ -23,12 +26,19 @@ same-length : tie.Need-same-length
 same-length c = search needs
 
 returns : tie.Need-returns
-returns c = c .before .before .reset-where2 .ensures ∙ rw (c .before .before .before .before .before .before .before .reset-where .ensures, c .before .before .before .before .before .before .before .before .before .before .held-marks .ensures)
+returns c =
+    c .before .before .reset-where2 .ensures
+    ∙ rw (
+      c .before .before .before .before .before .before .before .reset-where .ensures,
+      c .before .before .before .before .before .before .before .before .before .before .held-marks .ensures,
+      c .before .before .before .before .before .before .before .before .before .before .before .read-rows .ensures,
+    )
 
 pub reset-held-spec : {M : Type 1} → statement M
 reset-held-spec =
     tie.close
     (tie.spec
+    read-rows-requires
     held-marks-requires
     slice-aggregate-reset-where
     reset-where-requires
