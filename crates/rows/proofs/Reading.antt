@@ -1,4 +1,4 @@
--- Laws of the table's numbers read: an array filled place after place, and the arrays that this gives.
+-- Laws of the table's numbers read: an array filled place after place, the arrays that this gives, and what stands at one place.
 -- Assumes nothing.
 use Prim.Native.Nat.{ℕ, zero, suc, _+_, _*_, _≤_, _<_}
 use mathlib.Core.Path.{_≡_, refl, sym, ap, _∙_}
@@ -6,14 +6,17 @@ use mathlib.Core.List.{List, [], _∷_, _++_, map}
 use native.Mathlib.Nat.{zero-add, add-zero, suc-add, add-suc}
 use native.Mathlib.Numerals.{add-one}
 use native.Mathlib.Omega.{arith}
-use lib.ListN.{length, take, set}
+use lib.ListN.{length, getD, take, set, List·getD-eq-default}
 use lib.Seq.{take-suc-set, take-all}
 use Rattle.octets.specs.Bytes.{Bytes}
 use Rattle.server.specs.declared.Connection.{Connection}
 use Rattle.server.specs.declared.JobRow.{JobRow}
 use Rattle.server.specs.Lists.{numbers}
+use Rattle.server.specs.Table.{noRow, closed}
 use Rattle.server.specs.Layout.{littleAt, connectionIn, functionIn, rowIn, jobIn, tableOf}
 use Rattle.plans.specs.Values.{ablesOf, rowsOf, valuesOf}
+use Rattle.plans.specs.Plans as P
+use Rattle.table_bytes.proofs.Columns.{length-places, places-at}
 
 -- ---- an array filled
 
@@ -39,21 +42,68 @@ map-map : {A B C : Type 0} (g : B → C) (f : A → B) (xs : List A) → map g (
 map-map g f [] = refl
 map-map g f (x ∷ xs) = ap (λ l. g (f x) ∷ l) (map-map g f xs)
 
-module _ (b : Bytes) (i : ℕ) where
-  pub rows-read : (l : List JobRow) → i ≤ 32 → 32 ≤ i → length l ≡ 32 → take i l ≡ map (rowIn b) (numbers 0 i) → l ≡ rowsOf (tableOf 16 b)
+module _ (b : Bytes) where
+  -- the rows and the sets that the bytes hold, place after place
+  pub rows-are : rowsOf (tableOf 16 b) ≡ map (rowIn b) (numbers 0 32)
   unfolding tableOf
-  rows-read l h g k t = filled (rowIn b) l i 32 h g k t ∙ sym (map-map (λ j. j .row) (jobIn b) (numbers 0 32))
+  rows-are = map-map (λ j. j .row) (jobIn b) (numbers 0 32)
 
-  pub able-read : (l : List ℕ) → i ≤ 16 → 16 ≤ i → length l ≡ 16 → take i l ≡ map (λ q. littleAt 4 b (4 + 4 * q)) (numbers 0 i) → l ≡ ablesOf (tableOf 16 b)
+  pub ables-are : ablesOf (tableOf 16 b) ≡ map (λ q. littleAt 4 b (4 + 4 * q)) (numbers 0 16)
   unfolding tableOf
-  able-read l h g k t = filled (λ q. littleAt 4 b (4 + 4 * q)) l i 16 h g k t ∙ sym (map-map (λ x. x .able) (functionIn b) (numbers 0 16))
+  ables-are = map-map (λ x. x .able) (functionIn b) (numbers 0 16)
 
-  pub connections-read : (l : List Connection) → i ≤ 16 → 16 ≤ i → length l ≡ 16 → take i l ≡ map (connectionIn 16 b) (numbers 0 i) → l ≡ tableOf 16 b .connections
-  unfolding tableOf
-  connections-read l h g k t = filled (connectionIn 16 b) l i 16 h g k t
+  module _ (i : ℕ) where
+    pub rows-read : (l : List JobRow) → i ≤ 32 → 32 ≤ i → length l ≡ 32 → take i l ≡ map (rowIn b) (numbers 0 i) → l ≡ rowsOf (tableOf 16 b)
+    rows-read l h g k t = filled (rowIn b) l i 32 h g k t ∙ sym rows-are
+
+    pub able-read : (l : List ℕ) → i ≤ 16 → 16 ≤ i → length l ≡ 16 → take i l ≡ map (λ q. littleAt 4 b (4 + 4 * q)) (numbers 0 i) → l ≡ ablesOf (tableOf 16 b)
+    able-read l h g k t = filled (λ q. littleAt 4 b (4 + 4 * q)) l i 16 h g k t ∙ sym ables-are
+
+    pub connections-read : (l : List Connection) → i ≤ 16 → 16 ≤ i → length l ≡ 16 → take i l ≡ map (connectionIn 16 b) (numbers 0 i) → l ≡ tableOf 16 b .connections
+    unfolding tableOf
+    connections-read l h g k t = filled (connectionIn 16 b) l i 16 h g k t
+
+pub last-read : (b : Bytes) (last : ℕ) → last ≡ littleAt 4 b 0 → last ≡ valuesOf (tableOf 16 b) .last
+unfolding valuesOf tableOf
+last-read b last e = e
 
 pub values-read : (b : Bytes) (last : ℕ) (connections : List Connection) (able : List ℕ) (rows : List JobRow)
-    → last ≡ littleAt 4 b 0 → connections ≡ tableOf 16 b .connections → able ≡ ablesOf (tableOf 16 b) → rows ≡ rowsOf (tableOf 16 b)
+    → last ≡ valuesOf (tableOf 16 b) .last → connections ≡ tableOf 16 b .connections → able ≡ ablesOf (tableOf 16 b) → rows ≡ rowsOf (tableOf 16 b)
     → record { last = last; connections = connections; able = able; rows = rows } ≡ valuesOf (tableOf 16 b)
 unfolding valuesOf tableOf
 values-read b last connections able rows el ec ea er = rw (el, ec, ea, er)
+
+-- ---- one place
+
+-- what is read at a place is what stands there, and beyond the last place the empty one
+module _ {A : Type 0} (f : ℕ → A) (d : A) (n : ℕ) (l : List A) (e : l ≡ map f (numbers 0 n)) (i : ℕ) (x : A) where
+  read-inside : i < n → x ≡ f i → x ≡ getD l i d
+  read-inside h g = rw e (g ∙ sym (places-at f d n i h))
+
+  read-beyond : n ≤ i → x ≡ d → x ≡ getD l i d
+  read-beyond h g = rw e (g ∙ sym (List·getD-eq-default (map f (numbers 0 n)) d (rw (length-places f 0 n) h)))
+
+module _ (b : Bytes) (i : ℕ) where
+  pub row-inside : (x : JobRow) → i < 32 → x ≡ rowIn b i → x ≡ P.rowIn (valuesOf (tableOf 16 b)) i
+  unfolding valuesOf
+  row-inside x h = read-inside (rowIn b) noRow 32 (rowsOf (tableOf 16 b)) (rows-are b) i x h
+
+  pub row-beyond : (x : JobRow) → 32 ≤ i → x ≡ noRow → x ≡ P.rowIn (valuesOf (tableOf 16 b)) i
+  unfolding valuesOf
+  row-beyond x h = read-beyond (rowIn b) noRow 32 (rowsOf (tableOf 16 b)) (rows-are b) i x h
+
+  pub able-inside : (x : ℕ) → i < 16 → x ≡ littleAt 4 b (4 + 4 * i) → x ≡ getD (valuesOf (tableOf 16 b) .able) i 0
+  unfolding valuesOf
+  able-inside x h = read-inside (λ q. littleAt 4 b (4 + 4 * q)) 0 16 (ablesOf (tableOf 16 b)) (ables-are b) i x h
+
+  pub able-beyond : (x : ℕ) → 16 ≤ i → x ≡ 0 → x ≡ getD (valuesOf (tableOf 16 b) .able) i 0
+  unfolding valuesOf
+  able-beyond x h = read-beyond (λ q. littleAt 4 b (4 + 4 * q)) 0 16 (ablesOf (tableOf 16 b)) (ables-are b) i x h
+
+  pub connection-inside : (x : Connection) → i < 16 → x ≡ connectionIn 16 b i → x ≡ P.connectionIn (valuesOf (tableOf 16 b)) i
+  unfolding valuesOf tableOf
+  connection-inside x h = read-inside (connectionIn 16 b) closed 16 (tableOf 16 b .connections) refl i x h
+
+  pub connection-beyond : (x : Connection) → 16 ≤ i → x ≡ closed → x ≡ P.connectionIn (valuesOf (tableOf 16 b)) i
+  unfolding valuesOf tableOf
+  connection-beyond x h = read-beyond (connectionIn 16 b) closed 16 (tableOf 16 b .connections) refl i x h

@@ -1,4 +1,4 @@
--- `rows::put_column4` meets its contract. The invariant: the first i numbers lie over the table, whose length stays.
+-- `rows::writing::put_column4` meets its contract. The invariant: the first i numbers lie over the table, whose length stays.
 -- Assumes nothing.
 use Prim.Native.Nat.{_≤_, _-_}
 use mathlib.Core.Path.{_≡_}
@@ -6,9 +6,9 @@ use borrow.Author.Needs.{needs}
 use lib.ListN.{length, take}
 use Rattle.octets.specs.Put.{put}
 use Rattle.server.specs.Layout.{column, little}
-use Rattle.rows.proofs.Writing.{column-none, column-more, column-all}
-use Rattle.rows.proofs.put_column4.Statement.{statement}
-use Rattle.rows.proofs.put_column4.Tie as tie
+use Rattle.rows.proofs.Written.{column-none, column-more, column-all}
+use Rattle.rows.proofs.writing.put_column4.Statement.{statement}
+use Rattle.rows.proofs.writing.put_column4.Tie as tie
 
 abbrev Inv-loop : tie.InvT-loop
 Inv-loop table₀ at values i₀ table i = (i ≤ length values) × (length table ≡ length table₀) × (table ≡ put at (column (little 4) (take i values)) table₀)

@@ -1,9 +1,9 @@
--- `rows::put_column1` meets its contract: bytes are numbers of one byte. Assumes nothing.
+-- `rows::writing::put_column1` meets its contract: bytes are numbers of one byte. Assumes nothing.
 use native.Mathlib.Omega.{arith}
 use borrow.Author.Needs.{needs}
-use Rattle.rows.proofs.Writing.{bytes-put}
-use Rattle.rows.proofs.put_column1.Statement.{statement}
-use Rattle.rows.proofs.put_column1.Tie as tie
+use Rattle.rows.proofs.Written.{bytes-put}
+use Rattle.rows.proofs.writing.put_column1.Statement.{statement}
+use Rattle.rows.proofs.writing.put_column1.Tie as tie
 
 put-requires : tie.Need-put-requires
 put-requires c κs = search needs

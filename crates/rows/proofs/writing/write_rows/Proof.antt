@@ -1,8 +1,8 @@
--- `rows::write_rows` meets its contract: the columns of four bytes, of two and of one stand one after the other. Assumes nothing.
+-- `rows::writing::write_rows` meets its contract: the columns of four bytes, of two and of one stand one after the other. Assumes nothing.
 use borrow.Author.Needs.{needs}
-use Rattle.rows.proofs.Writing.{rows-written}
-use Rattle.rows.proofs.write_rows.Statement.{statement}
-use Rattle.rows.proofs.write_rows.Tie as tie
+use Rattle.rows.proofs.Written.{rows-written}
+use Rattle.rows.proofs.writing.write_rows.Statement.{statement}
+use Rattle.rows.proofs.writing.write_rows.Tie as tie
 
 columns-of-requires : tie.Need-columns-of-requires
 columns-of-requires c κs = search needs

@@ -1,8 +1,8 @@
--- `rows::write_ones` meets its contract: each column stands right after the one before it. Assumes nothing.
+-- `rows::writing::write_ones` meets its contract: each column stands right after the one before it. Assumes nothing.
 use borrow.Author.Needs.{needs}
-use Rattle.rows.proofs.Writing.{three-columns}
-use Rattle.rows.proofs.write_ones.Statement.{statement}
-use Rattle.rows.proofs.write_ones.Tie as tie
+use Rattle.rows.proofs.Written.{three-columns}
+use Rattle.rows.proofs.writing.write_ones.Statement.{statement}
+use Rattle.rows.proofs.writing.write_ones.Tie as tie
 
 slice-aggregate-put-column1 : tie.Need-slice-aggregate-put-column1
 slice-aggregate-put-column1 c = search needs

@@ -19,8 +19,8 @@ use Rattle.server.specs.Layout.{little, flagByte, column}
 use Rattle.plans.specs.declared.Values.{Values}
 use Rattle.table_bytes.proofs.Fields.{length-little}
 use Rattle.table_bytes.proofs.Columns.{numbers-long}
-use Rattle.rows.specs.declared.Columns.{Columns}
-use Rattle.rows.specs.declared.Flags.{Flags}
+use Rattle.rows.specs.declared.writing.Columns.{Columns}
+use Rattle.rows.specs.declared.writing.Flags.{Flags}
 use Rattle.rows.specs.Columns.{begun, flag, columnsBegun, flagsBegun, columnsOf, flagsOf, rowBytes, flagBytes, numberBytes, connectionBytes}
 
 -- ---- a column

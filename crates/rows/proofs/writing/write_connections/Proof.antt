@@ -1,8 +1,8 @@
--- `rows::write_connections` meets its contract: each column of flags stands right after the one before it. Assumes nothing.
+-- `rows::writing::write_connections` meets its contract: each column of flags stands right after the one before it. Assumes nothing.
 use borrow.Author.Needs.{needs}
-use Rattle.rows.proofs.Writing.{flags-written}
-use Rattle.rows.proofs.write_connections.Statement.{statement}
-use Rattle.rows.proofs.write_connections.Tie as tie
+use Rattle.rows.proofs.Written.{flags-written}
+use Rattle.rows.proofs.writing.write_connections.Statement.{statement}
+use Rattle.rows.proofs.writing.write_connections.Tie as tie
 
 flags-of-requires : tie.Need-flags-of-requires
 flags-of-requires c κs = search needs

@@ -1,12 +1,12 @@
--- `rows::flags_of` meets its contract. The invariant: the first i connections' flags stand in their columns, and zeros follow.
+-- `rows::writing::flags_of` meets its contract. The invariant: the first i connections' flags stand in their columns, and zeros follow.
 -- Assumes nothing.
 use Prim.Native.Nat.{_≤_, _-_}
 use mathlib.Core.Path.{_≡_}
 use borrow.Author.Needs.{needs}
 use Rattle.rows.specs.Columns.{flagsBegun}
-use Rattle.rows.proofs.Writing.{flags-none, flags-more, flags-all}
-use Rattle.rows.proofs.flags_of.Statement.{statement}
-use Rattle.rows.proofs.flags_of.Tie as tie
+use Rattle.rows.proofs.Written.{flags-none, flags-more, flags-all}
+use Rattle.rows.proofs.writing.flags_of.Statement.{statement}
+use Rattle.rows.proofs.writing.flags_of.Tie as tie
 
 abbrev Inv-loop : tie.InvT-loop
 Inv-loop connections f₀ i₀ f i = (i ≤ 16) × (f ≡ flagsBegun i connections)

@@ -1,8 +1,8 @@
--- `rows::write_head` meets its contract: the sets stand right after the last serial. Assumes nothing.
+-- `rows::writing::write_head` meets its contract: the sets stand right after the last serial. Assumes nothing.
 use borrow.Author.Needs.{needs}
-use Rattle.rows.proofs.Writing.{head-written}
-use Rattle.rows.proofs.write_head.Statement.{statement}
-use Rattle.rows.proofs.write_head.Tie as tie
+use Rattle.rows.proofs.Written.{head-written}
+use Rattle.rows.proofs.writing.write_head.Statement.{statement}
+use Rattle.rows.proofs.writing.write_head.Tie as tie
 
 put4-requires : tie.Need-put4-requires
 put4-requires c κs = search needs

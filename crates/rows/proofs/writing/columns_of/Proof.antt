@@ -1,12 +1,12 @@
--- `rows::columns_of` meets its contract. The invariant: the first i rows' fields stand in their columns, and zeros follow.
+-- `rows::writing::columns_of` meets its contract. The invariant: the first i rows' fields stand in their columns, and zeros follow.
 -- Assumes nothing.
 use Prim.Native.Nat.{_≤_, _-_}
 use mathlib.Core.Path.{_≡_}
 use borrow.Author.Needs.{needs}
 use Rattle.rows.specs.Columns.{columnsBegun}
-use Rattle.rows.proofs.Writing.{columns-none, columns-more, columns-all}
-use Rattle.rows.proofs.columns_of.Statement.{statement}
-use Rattle.rows.proofs.columns_of.Tie as tie
+use Rattle.rows.proofs.Written.{columns-none, columns-more, columns-all}
+use Rattle.rows.proofs.writing.columns_of.Statement.{statement}
+use Rattle.rows.proofs.writing.columns_of.Tie as tie
 
 abbrev Inv-loop : tie.InvT-loop
 Inv-loop rows c₀ i₀ c i = (i ≤ 32) × (c ≡ columnsBegun i rows)

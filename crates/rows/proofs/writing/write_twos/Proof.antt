@@ -1,8 +1,8 @@
--- `rows::write_twos` meets its contract: the second column stands right after the first. Assumes nothing.
+-- `rows::writing::write_twos` meets its contract: the second column stands right after the first. Assumes nothing.
 use borrow.Author.Needs.{needs}
-use Rattle.rows.proofs.Writing.{two-columns}
-use Rattle.rows.proofs.write_twos.Statement.{statement}
-use Rattle.rows.proofs.write_twos.Tie as tie
+use Rattle.rows.proofs.Written.{two-columns}
+use Rattle.rows.proofs.writing.write_twos.Statement.{statement}
+use Rattle.rows.proofs.writing.write_twos.Tie as tie
 
 slice-aggregate-put-column2 : tie.Need-slice-aggregate-put-column2
 slice-aggregate-put-column2 c = search needs

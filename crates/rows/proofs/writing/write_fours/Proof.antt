@@ -1,8 +1,8 @@
--- `rows::write_fours` meets its contract: the second column stands right after the first. Assumes nothing.
+-- `rows::writing::write_fours` meets its contract: the second column stands right after the first. Assumes nothing.
 use borrow.Author.Needs.{needs}
-use Rattle.rows.proofs.Writing.{two-columns}
-use Rattle.rows.proofs.write_fours.Statement.{statement}
-use Rattle.rows.proofs.write_fours.Tie as tie
+use Rattle.rows.proofs.Written.{two-columns}
+use Rattle.rows.proofs.writing.write_fours.Statement.{statement}
+use Rattle.rows.proofs.writing.write_fours.Tie as tie
 
 slice-aggregate-put-column4 : tie.Need-slice-aggregate-put-column4
 slice-aggregate-put-column4 c = search needs
