@@ -25,7 +25,7 @@ use Rattle.outcomes.proofs.Searches.{found}
 use Rattle.rules_kept.proofs.Rows.{clash, iff, all-at, pairwise-at}
 use Rattle.rules_kept.proofs.Sound.{Sound, rowMeans}
 use Rattle.finding.specs.Uniques.{hasUnique, isFor}
-use Rattle.finding.proofs.Searches.{placed-at, placed-nowhere, find-same, find-nothing}
+use Rattle.searching.proofs.Alike.{placed-at, placed-nowhere, find-same, find-nothing}
 use Rattle.finding.proofs.Names.{sound-table}
 
 -- ---- rows by value, uniques in the bytes

@@ -27,7 +27,7 @@ use Rattle.plans.specs.declared.Place.{Place}
 use Rattle.plans.specs.declared.Place.the-variants.{At, Nowhere}
 use Rattle.plans.specs.Values.{placed}
 use Rattle.texts.specs.Places.{nameIn, namesIn}
-use Rattle.finding.proofs.Searches.{placed-at, placed-nowhere, find-places}
+use Rattle.searching.proofs.Alike.{placed-at, placed-nowhere, find-places}
 
 -- ---- places and texts
 

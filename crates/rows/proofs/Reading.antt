@@ -84,9 +84,12 @@ module _ {A : Type 0} (f : ℕ → A) (d : A) (n : ℕ) (l : List A) (e : l ≡ 
   read-beyond h g = rw e (g ∙ sym (List·getD-eq-default (map f (numbers 0 n)) d (rw (length-places f 0 n) h)))
 
 module _ (b : Bytes) (i : ℕ) where
+  pub row-place : i < 32 → getD (rowsOf (tableOf 16 b)) i noRow ≡ rowIn b i
+  row-place h = sym (read-inside (rowIn b) noRow 32 (rowsOf (tableOf 16 b)) (rows-are b) i (rowIn b i) h refl)
+
   pub row-inside : (x : JobRow) → i < 32 → x ≡ rowIn b i → x ≡ P.rowIn (valuesOf (tableOf 16 b)) i
   unfolding valuesOf
-  row-inside x h = read-inside (rowIn b) noRow 32 (rowsOf (tableOf 16 b)) (rows-are b) i x h
+  row-inside x h g = g ∙ sym (row-place h)
 
   pub row-beyond : (x : JobRow) → 32 ≤ i → x ≡ noRow → x ≡ P.rowIn (valuesOf (tableOf 16 b)) i
   unfolding valuesOf

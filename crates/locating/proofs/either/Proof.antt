@@ -1,6 +1,6 @@
--- `searching::either` meets its contract. Assumes nothing.
-use Rattle.searching.proofs.either.Statement.{statement}
-use Rattle.searching.proofs.either.Tie as tie
+-- `locating::either` meets its contract. Assumes nothing.
+use Rattle.locating.proofs.either.Statement.{statement}
+use Rattle.locating.proofs.either.Tie as tie
 
 returns : tie.Need-returns
 returns c = rw (c .if1 .taken)

@@ -1,6 +1,6 @@
 -- How a loop that keeps the best place so far meets its definition, which takes the greatest rank first and then the lowest place
--- that has it; and what single rows are ranked by. Assumes nothing.
-use Prim.Native.Nat.{ℕ, _+_, _-_, _*_, _<_, _≤_, max}
+-- that has it. Assumes nothing.
+use Prim.Native.Nat.{ℕ, _+_, _<_, _≤_, max}
 use mathlib.Core.Path.{_≡_, refl, ap, sym, _∙_}
 use mathlib.Core.Bool.{Bool, true, false, not, cond, _&&_, _||_}
 use mathlib.Core.Option.{Option, some}
@@ -8,15 +8,14 @@ use mathlib.Core.List.{List, [], _∷_, _++_, map}
 use native.Mathlib.Numerals.{add-one}
 use native.Mathlib.Omega.{arith}
 use borrow.Author.Tests.{ltb-true, ltb-false, eq-eqb, ne-eqb, eqb-false}
-use lib.ListN.{length, getD, take, List·getD-eq-default}
+use lib.ListN.{length, getD, take}
 use lib.Seq.{take-suc, take-all, length-take-le}
 use lib.Dec.{ltb, eqb}
-use Rattle.server.specs.declared.JobRow.{JobRow}
 use Rattle.server.specs.Lists.{any, up, find}
 use Rattle.server.specs.Table.{greatest}
 use Rattle.plans.specs.declared.Place.{Place}
 use Rattle.plans.specs.declared.Place.the-variants.{At}
-use Rattle.plans.specs.Values.{placed, canGrab, rankIn}
+use Rattle.plans.specs.Values.{placed}
 
 neither : (a b : Bool) → a || b ≡ false → (a ≡ false) × (b ≡ false)
 neither true b e = let z : _≡_ {A = ℕ} 0 1 = cc in absurd (omega arith)
@@ -106,18 +105,3 @@ module _ {A : Type 0} (f : A → ℕ) where
 
   pub best-end : (l : List A) (i : ℕ) (o : Place) → length l ≤ i → o ≡ placed (best (take i l)) → o ≡ placed (best l)
   best-end l i o h e = e ∙ ap (λ (x : List A). placed (best x)) (take-all i l h)
-
--- ---- one row
-
-module _ (ables : List ℕ) (c : ℕ) (r : JobRow) (b : Bool) (e : b ≡ canGrab ables c r) where
-  pub rank-some : b ≡ true → r .priority * 4294967296 + (4294967296 - r .serial) ≡ rankIn ables c r
-  unfolding rankIn
-  rank-some h = rw (← e, h)
-
-  pub rank-none : b ≡ false → 0 ≡ rankIn ables c r
-  unfolding rankIn
-  rank-none h = rw (← e, h)
-
--- beyond the last function nobody is able
-pub able-beyond : (ables : List ℕ) (q : ℕ) → length ables ≤ q → 0 ≡ getD ables q 0
-able-beyond ables q h = sym (List·getD-eq-default ables 0 h)
