@@ -3,7 +3,7 @@
 use Prim.Native.Nat.{ℕ, suc, _+_, _-_, _*_, _<_}
 use mathlib.Core.Path.{_≡_, refl, sym, ap, _∙_}
 use mathlib.Core.Bool.{Bool, true, false, not, cond, _&&_, _||_}
-use mathlib.Core.Option.{Option, none, some}
+use mathlib.Core.Option.{none, some}
 use mathlib.Core.List.{List, map}
 use native.Mathlib.Numerals.{add-one}
 use native.Mathlib.Omega.{arith}
@@ -19,7 +19,7 @@ use Rattle.server.specs.Table.{Job, noRow, noJob, jobAt, live}
 use Rattle.server.specs.Rules.{serialsApart, serialsDistinct}
 use Rattle.server.specs.Layout.{littleAt, rowIn, jobIn, tableOf, isImage}
 use Rattle.server.specs.Call.{isSound}
-use Rattle.table_bytes.proofs.Columns.{length-places, places-at}
+use Rattle.table_bytes.proofs.Columns.{length-places}
 use Rattle.outcomes.proofs.Searches.{found}
 use Rattle.rules_kept.proofs.Rows.{clash, all-at, pairwise-at}
 use Rattle.rules_kept.proofs.Obeyed.{obeyed}
@@ -27,12 +27,8 @@ use Rattle.plans.specs.declared.Place.{Place}
 use Rattle.plans.specs.declared.Place.the-variants.{At, Nowhere}
 use Rattle.plans.specs.Values.{rowsOf, placed, freeRow, serialRow, heldRow, rankIn, valuesOf}
 use Rattle.plans.specs.Plans as P
-use Rattle.rows.proofs.Reading.{rows-are}
-use Rattle.searching.proofs.Alike.{placed-at, placed-nowhere, find-numbers, find-by, find-nothing, find-narrow}
-
--- a column at a place
-pub column-at : (f : ℕ → ℕ) (n : ℕ) (l : List ℕ) (i : ℕ) → l ≡ map f (numbers 0 n) → i < n → getD l i 0 ≡ f i
-column-at f n l i e h = rw e (places-at f 0 n i h)
+use Rattle.rows.proofs.Reading.{rows-are, column-at}
+use Rattle.searching.proofs.Alike.{placed-at, placed-nowhere, find-numbers, find-by, find-nothing, find-narrow, skipped, not-skipped}
 
 -- ---- by serial
 
@@ -68,7 +64,7 @@ module _ (b : Bytes) (s : ℕ) (l : List ℕ) (p : Place) (e : l ≡ map (λ k. 
   in-column =
       let q : find (λ k. eqb (getD l k 0) s) (numbers 0 32) ≡ find (λ r. eqb (r .serial) s) (rowsOf (tableOf 16 b))
       = rw (rows-are b) (find-numbers (λ k. eqb (getD l k 0) s) (λ (r : JobRow). eqb (r .serial) s) (rowIn b) 32
-      (λ k h. ap (λ (x : ℕ). eqb x s) (column-at (λ k. littleAt 4 b (68 + 4 * k)) 32 l k e h))) in
+      (λ k h. ap (λ (x : ℕ). eqb x s) (column-at (λ k. littleAt 4 b (68 + 4 * k)) 0 32 l k e h))) in
       g ∙ ap placed q
 
   pub free-found : s ≡ 0 → p ≡ placed (freeRow (rowsOf (tableOf 16 b)))
@@ -159,20 +155,10 @@ module _ (b : Bytes) (sound : isSound 16 b ≡ true) where
 
 -- ---- by rank
 
-not-queued : (x y : Bool) → x || not y ≡ true → not x && y ≡ false
-not-queued true y e = refl
-not-queued false true e = sym e
-not-queued false false e = refl
-
-is-queued : (x y : Bool) → x || not y ≡ false → not x && y ≡ true
-is-queued true y e = sym e
-is-queued false true e = refl
-is-queued false false e = sym e
-
 module _ (ables : List ℕ) (c : ℕ) (r : JobRow) (serial holder : ℕ) (es : serial ≡ r .serial) (eh : holder ≡ r .holder) where
   pub rank-idle : eqb serial 0 || not (eqb holder 0) ≡ true → 0 ≡ rankIn ables c r
   unfolding rankIn
-  rank-idle h = let q = not-queued (eqb serial 0) (eqb holder 0) h in rw (← es, ← eh, q)
+  rank-idle h = let q = skipped (eqb serial 0) (eqb holder 0) h in rw (← es, ← eh, q)
 
   module _ (h : eqb serial 0 || not (eqb holder 0) ≡ false) (q s : ℕ) (able : Bool) (eq : q ≡ r .function) (ew : s ≡ getD ables q 0) (ea : able ≡ has s c) where
     able-is : has (getD ables (r .function) 0) c ≡ able
@@ -184,4 +170,4 @@ module _ (ables : List ℕ) (c : ℕ) (r : JobRow) (serial holder : ℕ) (es : s
 
     pub rank-able : (priority : ℕ) → priority ≡ r .priority → not able ≡ false → priority * 4294967296 + (4294967296 - serial) ≡ rankIn ables c r
     unfolding rankIn
-    rank-able priority ep n = let k = is-queued (eqb serial 0) (eqb holder 0) h in rw (able-is, not-false able n, ep, ← es, ← eh, k)
+    rank-able priority ep n = let k = not-skipped (eqb serial 0) (eqb holder 0) h in rw (able-is, not-false able n, ep, ← es, ← eh, k)

@@ -75,17 +75,17 @@ values-read b last connections able rows el ec ea er = rw (el, ec, ea, er)
 
 -- ---- one place
 
--- what is read at a place is what stands there, and beyond the last place the empty one
-module _ {A : Type 0} (f : ℕ → A) (d : A) (n : ℕ) (l : List A) (e : l ≡ map f (numbers 0 n)) (i : ℕ) (x : A) where
-  read-inside : i < n → x ≡ f i → x ≡ getD l i d
-  read-inside h g = rw e (g ∙ sym (places-at f d n i h))
+-- what stands at a place is what is read there, and beyond the last place the empty one
+module _ {A : Type 0} (f : ℕ → A) (d : A) (n : ℕ) (l : List A) (i : ℕ) (e : l ≡ map f (numbers 0 n)) where
+  pub column-at : i < n → getD l i d ≡ f i
+  column-at h = rw e (places-at f d n i h)
 
-  read-beyond : n ≤ i → x ≡ d → x ≡ getD l i d
-  read-beyond h g = rw e (g ∙ sym (List·getD-eq-default (map f (numbers 0 n)) d (rw (length-places f 0 n) h)))
+  column-beyond : n ≤ i → getD l i d ≡ d
+  column-beyond h = rw e (List·getD-eq-default (map f (numbers 0 n)) d (rw (length-places f 0 n) h))
 
 module _ (b : Bytes) (i : ℕ) where
   pub row-place : i < 32 → getD (rowsOf (tableOf 16 b)) i noRow ≡ rowIn b i
-  row-place h = sym (read-inside (rowIn b) noRow 32 (rowsOf (tableOf 16 b)) (rows-are b) i (rowIn b i) h refl)
+  row-place = column-at (rowIn b) noRow 32 (rowsOf (tableOf 16 b)) i (rows-are b)
 
   pub row-inside : (x : JobRow) → i < 32 → x ≡ rowIn b i → x ≡ P.rowIn (valuesOf (tableOf 16 b)) i
   unfolding valuesOf
@@ -93,20 +93,20 @@ module _ (b : Bytes) (i : ℕ) where
 
   pub row-beyond : (x : JobRow) → 32 ≤ i → x ≡ noRow → x ≡ P.rowIn (valuesOf (tableOf 16 b)) i
   unfolding valuesOf
-  row-beyond x h = read-beyond (rowIn b) noRow 32 (rowsOf (tableOf 16 b)) (rows-are b) i x h
+  row-beyond x h g = g ∙ sym (column-beyond (rowIn b) noRow 32 (rowsOf (tableOf 16 b)) i (rows-are b) h)
 
   pub able-inside : (x : ℕ) → i < 16 → x ≡ littleAt 4 b (4 + 4 * i) → x ≡ getD (valuesOf (tableOf 16 b) .able) i 0
   unfolding valuesOf
-  able-inside x h = read-inside (λ q. littleAt 4 b (4 + 4 * q)) 0 16 (ablesOf (tableOf 16 b)) (ables-are b) i x h
+  able-inside x h g = g ∙ sym (column-at (λ q. littleAt 4 b (4 + 4 * q)) 0 16 (ablesOf (tableOf 16 b)) i (ables-are b) h)
 
   pub able-beyond : (x : ℕ) → 16 ≤ i → x ≡ 0 → x ≡ getD (valuesOf (tableOf 16 b) .able) i 0
   unfolding valuesOf
-  able-beyond x h = read-beyond (λ q. littleAt 4 b (4 + 4 * q)) 0 16 (ablesOf (tableOf 16 b)) (ables-are b) i x h
+  able-beyond x h g = g ∙ sym (column-beyond (λ q. littleAt 4 b (4 + 4 * q)) 0 16 (ablesOf (tableOf 16 b)) i (ables-are b) h)
 
   pub connection-inside : (x : Connection) → i < 16 → x ≡ connectionIn 16 b i → x ≡ P.connectionIn (valuesOf (tableOf 16 b)) i
   unfolding valuesOf tableOf
-  connection-inside x h = read-inside (connectionIn 16 b) closed 16 (tableOf 16 b .connections) refl i x h
+  connection-inside x h g = g ∙ sym (column-at (connectionIn 16 b) closed 16 (tableOf 16 b .connections) i refl h)
 
   pub connection-beyond : (x : Connection) → 16 ≤ i → x ≡ closed → x ≡ P.connectionIn (valuesOf (tableOf 16 b)) i
   unfolding valuesOf tableOf
-  connection-beyond x h = read-beyond (connectionIn 16 b) closed 16 (tableOf 16 b .connections) refl i x h
+  connection-beyond x h g = g ∙ sym (column-beyond (connectionIn 16 b) closed 16 (tableOf 16 b .connections) i refl h)

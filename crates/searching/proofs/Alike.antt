@@ -2,7 +2,7 @@
 -- where one entry alone passes the wider one. Assumes nothing.
 use Prim.Native.Nat.{ℕ, zero, suc, _+_, _<_, _≤_, zero-le, suc-le-suc}
 use mathlib.Core.Path.{_≡_, refl, sym, ap, ap₂, _∙_}
-use mathlib.Core.Bool.{Bool, true, false, cond, _&&_}
+use mathlib.Core.Bool.{Bool, true, false, not, cond, _&&_, _||_}
 use mathlib.Core.Option.{Option, none, some}
 use mathlib.Core.List.{List, [], _∷_, map}
 use native.Mathlib.Omega.{arith}
@@ -72,3 +72,15 @@ find-narrow f g d l i e alone = go (g (getD l i d)) refl
     go : (b : Bool) → g (getD l i d) ≡ b → find (λ x. f x && g x) l ≡ cond b (some i) none
     go true h = find-same (λ x. f x && g x) d f l (λ k m. and-if (f (getD l k d)) (g (getD l k d)) (asked true h k m)) ∙ e
     go false h = find-nothing (λ x. f x && g x) d l (λ k m. and-never (f (getD l k d)) (g (getD l k d)) (asked false h k m))
+
+-- ---- a row skipped: the test `not x && y`, where the code asks for what fails it
+
+pub skipped : (x y : Bool) → x || not y ≡ true → not x && y ≡ false
+skipped true y e = refl
+skipped false true e = sym e
+skipped false false e = refl
+
+pub not-skipped : (x y : Bool) → x || not y ≡ false → not x && y ≡ true
+not-skipped true y e = sym e
+not-skipped false true e = refl
+not-skipped false false e = sym e

@@ -8,8 +8,8 @@ use lib.ListN.{length, getD, take}
 use Rattle.server.specs.Table.{noRow}
 use Rattle.server.specs.Layout.{littleAt, tableOf}
 use Rattle.plans.specs.Values.{placed, rankIn, bestRow, ablesOf, rowsOf}
-use Rattle.locating.proofs.Rows.{column-at, rows-long}
-use Rattle.rows.proofs.Reading.{row-place}
+use Rattle.rows.proofs.Reading.{column-at, row-place}
+use Rattle.locating.proofs.Rows.{rows-long}
 use Rattle.locating.proofs.Greatest.{top, best, top-turn, best-turn, best-end}
 use borrow.Author.Needs.{needs}
 use Rattle.locating.proofs.best_row.Statement.{statement}
@@ -52,8 +52,8 @@ rank-requires c κs =
       s .pre .0,
       omega arith,
       s .pre .1,
-      column-at (λ k. littleAt 4 (now (s .args .table)) (68 + 4 * k)) 32 _ (l .i) (c .before .before .before .fours .ensures) (omega arith),
-      column-at (λ k. littleAt 2 (now (s .args .table)) (388 + 2 * k)) 32 _ (l .i) (c .before .before .twos .ensures) (omega arith),
+      column-at (λ k. littleAt 4 (now (s .args .table)) (68 + 4 * k)) 0 32 _ (l .i) (c .before .before .before .fours .ensures) (omega arith),
+      column-at (λ k. littleAt 2 (now (s .args .table)) (388 + 2 * k)) 0 32 _ (l .i) (c .before .before .twos .ensures) (omega arith),
     )
 
 either-requires : tie.Need-either-requires Inv-loop μ-loop

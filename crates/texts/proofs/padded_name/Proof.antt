@@ -1,9 +1,9 @@
--- `texts::padded` meets its contract: the name laid over zeros. Assumes nothing.
+-- `texts::padded_name` meets its contract: the name laid over zeros. Assumes nothing.
 use mathlib.Core.Path.{_∙_}
 use borrow.Author.Needs.{needs}
 use Rattle.texts.proofs.Padding.{laid-over-zeros}
-use Rattle.texts.proofs.padded.Statement.{statement}
-use Rattle.texts.proofs.padded.Tie as tie
+use Rattle.texts.proofs.padded_name.Statement.{statement}
+use Rattle.texts.proofs.padded_name.Tie as tie
 
 slice-aggregate-put : tie.Need-slice-aggregate-put
 slice-aggregate-put c = search needs
@@ -14,5 +14,5 @@ put-requires c κs = search needs
 returns : tie.Need-returns
 returns c = c .before .put .ensures .1 ∙ laid-over-zeros 32 _ (c .before .before .before .before .pre)
 
-pub padded-spec : {M : Type 1} → statement M
-padded-spec = tie.close (tie.spec slice-aggregate-put put-requires returns)
+pub padded-name-spec : {M : Type 1} → statement M
+padded-name-spec = tie.close (tie.spec slice-aggregate-put put-requires returns)
