@@ -6,9 +6,9 @@ use server::JobRow;
 ghost use mathlib.Core.Path.{_≡_};
 ghost use Prim.Native.Nat.{_<_};
 ghost use lib.ListN.{getD, set};
-ghost use Rattle.server.specs.Table.{closed, noRow, withHolder, withListeners};
+ghost use Rattle.server.specs.Table.{noRow, withHolder, withListeners};
 ghost use Rattle.server.specs.Events.{submittedBy};
-ghost use Rattle.plans.specs.Plans.{putRow, sleepingIn, withAble, withConnection, withRows};
+ghost use Rattle.plans.specs.Plans.{putRow, withAble, withConnection, withRows};
 
 // The row at a place.
 pub fn row_at(rows: [JobRow; 32], p: usize) -> JobRow
@@ -67,20 +67,6 @@ pub fn set_able(able: [u32; 16], q: usize, s: u32) -> [u32; 16]
     let mut next = able;
     next[q] = s;
     next
-}
-
-// The connection's row.
-pub fn connection_at(connections: [Connection; 16], c: usize) -> Connection
-    ensures { λ r. ⌜ r ≡ getD connections c closed ⌝ }
-{
-    if 16 <= c {
-        return Connection {
-            opened: false,
-            asleep: false,
-            exceptions: false,
-        };
-    }
-    connections[c]
 }
 
 // The connections with another row at a place.
@@ -145,23 +131,6 @@ pub fn put_row(v: Values, p: usize, row: JobRow) -> Values
 {
     let rows = v.rows;
     with_rows(v, set_row(rows, p, row))
-}
-
-// The values with the connection asleep, or awake.
-pub fn sleeping(v: Values, c: usize, asleep: bool) -> Values
-    ensures { λ r. ⌜ r ≡ sleepingIn asleep c v ⌝ }
-{
-    let connections = v.connections;
-    let x = connection_at(connections, c);
-    with_connection(
-        v,
-        c,
-        Connection {
-            opened: x.opened,
-            asleep,
-            exceptions: x.exceptions,
-        },
-    )
 }
 
 // The row with a submitter more: in the background, or among the listeners.

@@ -6,9 +6,13 @@ use mathlib.Core.List.{List}
 use native.Mathlib.Numerals.{add-one}
 use lib.ListN.{length, getD, drop, drop-of-length-le}
 use lib.Seq.{drop-cons}
+use Rattle.octets.specs.Bytes.{Bytes}
 use Rattle.sets.specs.Sets.{remove}
 use Rattle.server.specs.declared.Connection.{Connection}
 use Rattle.server.specs.Table.{closed}
+use Rattle.server.specs.Layout.{connectionIn, tableOf}
+use Rattle.table_bytes.proofs.Columns.{length-places}
+use Rattle.plans.specs.Values.{valuesOf}
 use Rattle.plans.specs.Plans.{heardFrom, heard}
 
 -- i connections passed: the answer is that of the rest, from the set that is left
@@ -18,3 +22,7 @@ module _ (cs : List Connection) (listeners s i : ℕ) (e : heard cs listeners �
 
   pub heard-end : length cs ≤ i → s ≡ heard cs listeners
   heard-end h = let q : heardFrom i (drop i cs) s ≡ s = rw (drop-of-length-le cs h) in sym (e ∙ q)
+
+pub connections-long : (b : Bytes) → length (valuesOf (tableOf 16 b) .connections) ≡ 16
+unfolding valuesOf tableOf
+connections-long b = length-places (connectionIn 16 b) 0 16

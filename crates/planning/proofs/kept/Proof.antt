@@ -1,8 +1,8 @@
--- `leaving::kept` meets its contract, by the two cases. Assumes nothing.
+-- `planning::kept` meets its contract, by the two cases. Assumes nothing.
 use mathlib.Core.Path.{_∙_}
 use borrow.Author.Needs.{needs}
-use Rattle.leaving.proofs.kept.Statement.{statement}
-use Rattle.leaving.proofs.kept.Tie as tie
+use Rattle.planning.proofs.kept.Statement.{statement}
+use Rattle.planning.proofs.kept.Tie as tie
 
 returns : tie.Need-returns
 returns c = search needs
