@@ -1,13 +1,13 @@
--- Runs of bytes that functions lay one after the other over a text: what each asks for in room, and what they make together.
+-- Runs of bytes that functions lay one after the other over a buffer: what each asks for in room, and what they make together.
 -- Assumes nothing.
 use Prim.Native.Nat.{ℕ, _+_, _≤_}
 use mathlib.Core.Path.{_≡_, ap, _∙_, sym}
 use mathlib.Core.List.{[], _++_}
 use native.Mathlib.Omega.{arith}
 use lib.ListN.{length, length-append}
 use Rattle.octets.specs.Bytes.{Bytes}
 use Rattle.octets.specs.Put.{put}
 use Rattle.octets.proofs.Laying.{put-none, put-put, length-put}
 
 -- nothing is laid
 pub laid-none : (at : ℕ) (b : Bytes) → (at ≡ at + length {A = ℕ} []) × (b ≡ put at [] b)
