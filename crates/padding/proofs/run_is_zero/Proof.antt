@@ -1,7 +1,7 @@
 -- `padding::run_is_zero` meets its contract. The invariant: where the bytes joined so far are zero, each of them is. A sum by `|` is zero
 -- only if both sides are. Assumes nothing.
-use Prim.Native.Nat.{_≤_, _-_, _+_}
-use mathlib.Core.Path.{_≡_, refl}
+use Prim.Native.Nat.{_≤_, _-_}
+use mathlib.Core.Path.{_≡_}
 use native.Mathlib.Omega.{arith}
 use borrow.Author.Needs.{needs}
 use borrow.Author.Tests.{eqb-true}
