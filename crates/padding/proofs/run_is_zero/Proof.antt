@@ -1,7 +1,7 @@
 -- `padding::run_is_zero` meets its contract. The invariant: where the bytes joined so far are zero, each of them is. A sum by `|` is zero
 -- only if both sides are. Assumes nothing.
-use Prim.Native.Nat.{_≤_, _-_, _+_}
-use mathlib.Core.Path.{_≡_, refl}
+use Prim.Native.Nat.{_≤_, _-_}
+use mathlib.Core.Path.{_≡_}
 use native.Mathlib.Omega.{arith}
 use borrow.Author.Needs.{needs}
 use borrow.Author.Tests.{eqb-true}
@@ -19,24 +19,6 @@ abbrev μ-loop : tie.MeasureT-loop
 
 shared-slice-read-if1 : tie.Need-shared-slice-read-if1 Inv-loop μ-loop
 shared-slice-read-if1 c = search needs
-
-add-if1 : tie.Need-add-if1 Inv-loop μ-loop
-add-if1 c = search needs
-
-shared-slice-read-if1-2 : tie.Need-shared-slice-read-if1-2 Inv-loop μ-loop
-shared-slice-read-if1-2 c = search needs
-
-add-if1-2 : tie.Need-add-if1-2 Inv-loop μ-loop
-add-if1-2 c = search needs
-
-shared-slice-read-if1-3 : tie.Need-shared-slice-read-if1-3 Inv-loop μ-loop
-shared-slice-read-if1-3 c = search needs
-
-add-if1-3 : tie.Need-add-if1-3 Inv-loop μ-loop
-add-if1-3 c = search needs
-
-shared-slice-read-if1-4 : tie.Need-shared-slice-read-if1-4 Inv-loop μ-loop
-shared-slice-read-if1-4 c = search needs
 
 returns : tie.Need-returns Inv-loop μ-loop
 returns c = λ e k h. cc
@@ -57,7 +39,7 @@ loop-less : tie.Need-loop-less Inv-loop μ-loop
 loop-less c = search needs
 
 loop-again : tie.Need-loop-again Inv-loop μ-loop
-loop-again c = let l = c .before .before .loop in let a = c .before .before .before .before .before .before .before .before .args in (omega arith, zeros-on (now (a .table)) (a .at) (l .k) (l .joined) (l .inv .1))
+loop-again c = let l = c .before .before .loop in let a = c .before .before .before .before .before .args in (omega arith, zeros-on (now (a .table)) (a .at) (l .k) (l .joined) (l .inv .1))
 
 returns-2 : tie.Need-returns-2 Inv-loop μ-loop
 returns-2 c = let l = c .before .loop in λ e k h. l .inv .1 (eqb-true (l .joined) 0 e) k (omega arith)
@@ -69,12 +51,6 @@ run-is-zero-spec =
     Inv-loop
     μ-loop
     shared-slice-read-if1
-    add-if1
-    shared-slice-read-if1-2
-    add-if1-2
-    shared-slice-read-if1-3
-    add-if1-3
-    shared-slice-read-if1-4
     returns
     loop-holds
     add-joined
