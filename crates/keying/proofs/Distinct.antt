@@ -91,11 +91,16 @@ module _ (b : Bytes) (long : 3796 ≤ length b) where
           (sym (function-at i (omega arith)) ∙ eqb-true (rowAt (rowsOf (tableOf 16 b)) i .function) (rowAt (rowsOf (tableOf 16 b)) k .function) q ∙ function-at k m)
           p r)
 
-  pub no-uniques-hold : all (isEmptyPlace 1060 64 b) (numbers 0 32) ≡ true → uniqueRule b ≡ true
-  no-uniques-hold e =
+  -- a job with a unique does not share it with one that has none
+  pub one-unique-holds : all (isEmptyPlace 1124 64 b) (numbers 0 31) ≡ true → uniqueRule b ≡ true
+  one-unique-holds e =
       uniques-pairs
       (λ i k g m function full equal.
-      true≢false (sym (first-byte 63 b (1060 + 64 * i) (omega arith) ∙ below-at (isEmptyPlace 1060 64 b) 32 i e (omega arith)) ∙ full))
+      let at : 1124 + 64 * (k - 1) ≡ 1060 + 64 * k = omega arith in
+      let empty : same (textAt 64 b (1060 + 64 * k)) [] ≡ true =
+      first-byte 63 b (1060 + 64 * k) (omega arith) ∙ ap (λ (x : ℕ). eqb (getD b x 0) 0) (sym at) ∙ below-at (isEmptyPlace 1124 64 b) 31 (k - 1) e (omega arith) in
+      let text : textAt 64 b (1060 + 64 * i) ≡ textAt 64 b (1060 + 64 * k) = same-is (textAt 64 b (1060 + 64 * i)) (textAt 64 b (1060 + 64 * k)) equal in
+      true≢false (sym empty ∙ ap (λ (x : Bytes). same x []) (sym text) ∙ full))
 
   pub unique-keys-hold : arePadded 64 32 b 1060 ≡ true → (s : List ℕ) → s ≡ twice 32 (uniqueKey b) → apartWithin 32 16 s ≡ true → uniqueRule b ≡ true
   unfolding uniqueKey foldedUnique
