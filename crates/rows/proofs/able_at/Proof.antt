@@ -1,7 +1,7 @@
 -- `rows::able_at` meets its contract: the set that stands there, or the empty one beyond the last. Assumes nothing.
-use Rattle.rows.proofs.Reading.{able-at, able-beyond}
 use mathlib.Core.Path.{_∙_}
 use borrow.Author.Needs.{needs}
+use Rattle.rows.proofs.Reading.{able-at, able-beyond}
 use Rattle.rows.proofs.able_at.Statement.{statement}
 use Rattle.rows.proofs.able_at.Tie as tie
 

@@ -1,6 +1,6 @@
 -- `rows::connection_at` meets its contract: the flags that stand there, or none beyond the last. Assumes nothing.
-use Rattle.rows.proofs.Reading.{connection-at, connection-beyond}
 use borrow.Author.Needs.{needs}
+use Rattle.rows.proofs.Reading.{connection-at, connection-beyond}
 use Rattle.rows.proofs.connection_at.Statement.{statement}
 use Rattle.rows.proofs.connection_at.Tie as tie
 

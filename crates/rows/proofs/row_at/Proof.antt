@@ -1,7 +1,7 @@
 -- `rows::row_at` meets its contract: the row that stands there, or a free one beyond the last. Assumes nothing.
-use Rattle.rows.proofs.Reading.{row-at, row-beyond}
 use mathlib.Core.Path.{_∙_}
 use borrow.Author.Needs.{needs}
+use Rattle.rows.proofs.Reading.{row-at, row-beyond}
 use Rattle.rows.proofs.row_at.Statement.{statement}
 use Rattle.rows.proofs.row_at.Tie as tie
 
