@@ -5,6 +5,7 @@ set -euo pipefail
 cd "$(dirname "$0")/.."
 program=$1
 ending=$2
+. host/x86_64.sh
 if [ ! -x "$program" ]; then
   echo "captures: there is no program at $program" >&2
   exit 1
@@ -20,7 +21,7 @@ for stored in captures/*."$ending"; do
 done
 for capture in captures/*.capture; do
   stored=${capture%.capture}.$ending
-  if ! "$program" < "$capture" > "$got"; then
+  if ! "${run[@]}" "$program" < "$capture" > "$got"; then
     echo "$capture: $program failed" >&2
     exit 1
   fi

@@ -3,9 +3,10 @@
 set -euo pipefail
 cd "$(dirname "$0")/../.."
 bash host/archive.sh
+. host/x86_64.sh
 build=target/c_replay
 mkdir -p "$build"
 strict=(-Wall -Wextra -Werror -pedantic -Iinclude)
-gcc -std=c11 "${strict[@]}" -fsyntax-only -x c include/lap.h
-gcc -std=c11 -O2 "${strict[@]}" host/replay/replay.c target/staticlib/liblap.a -o "$build/replay"
+"${tools}gcc" -std=c11 "${strict[@]}" -fsyntax-only -x c include/lap.h
+"${tools}gcc" -std=c11 -O2 "${strict[@]}" host/replay/replay.c target/staticlib/liblap.a -o "$build/replay"
 bash host/captures.sh "$build/replay" answer > "$build/log" || { tail -n 12 "$build/log"; exit 1; }

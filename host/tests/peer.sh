@@ -6,24 +6,25 @@
 set -euo pipefail
 cd "$(dirname "$0")/../.."
 bash host/archive.sh
+. host/x86_64.sh
 archive=$PWD/target/staticlib
 faulty=$PWD/target/faulty
 options=(--offline -j2 --quiet --manifest-path host/peer/Cargo.toml)
 
 export CARGO_TARGET_DIR=$PWD/target/peer
 cargo test "${options[@]}"
-LAP_ARCHIVE_DIR=$archive cargo build --release "${options[@]}" --features archive --bin compare --bin capture --bin show
-programs=$CARGO_TARGET_DIR/release
-"$programs/compare"
+LAP_ARCHIVE_DIR=$archive "${cross[@]}" cargo build --release "${options[@]}" --features archive --bin compare --bin capture --bin show
+programs=$CARGO_TARGET_DIR/$programs_of
+"${run[@]}" "$programs/compare"
 
 # 20,000 lines in four captures: the mix of compare's histories, and damaged lines.
 show=${SHOW:-target/bin/show}
 words=$PWD/target/words
 mkdir -p "$words"
 for seed in 1 2 3 4; do
-  "$programs/capture" --lines 5000 --seed "$seed" > "$words/capture"
-  "$programs/show" < "$words/capture" > "$words/right"
-  "$show" < "$words/capture" > "$words/printed"
+  "${run[@]}" "$programs/capture" --lines 5000 --seed "$seed" > "$words/capture"
+  "${run[@]}" "$programs/show" < "$words/capture" > "$words/right"
+  "${run[@]}" "$show" < "$words/capture" > "$words/printed"
   bash host/same.sh "$words/right" "$words/printed" "$show, seed $seed"
 done
 echo "same: 20000 lines of random captures in words"
@@ -32,17 +33,17 @@ echo "same: 20000 lines of random captures in words"
 # comparing program stays linked with the right archive.
 mkdir -p "$faulty"
 rm -f "$faulty/liblap.a"
-objcopy --redefine-sym lap_fresh=core_fresh --redefine-sym lap_open=core_open --redefine-sym lap_close=core_close \
+"${tools}objcopy" --redefine-sym lap_fresh=core_fresh --redefine-sym lap_open=core_open --redefine-sym lap_close=core_close \
   --redefine-sym lap_packet=core_packet "$archive/liblap.a" "$faulty/liblap.a"
-gcc -std=c11 -O2 -Wall -Wextra -Werror -Iinclude -c host/peer/tests/faults.c -o "$faulty/faults.o"
-ar r "$faulty/liblap.a" "$faulty/faults.o"
+"${tools}gcc" -std=c11 -O2 -Wall -Wextra -Werror -Iinclude -c host/peer/tests/faults.c -o "$faulty/faults.o"
+"${tools}ar" r "$faulty/liblap.a" "$faulty/faults.o"
 export CARGO_TARGET_DIR=$faulty/cargo
-LAP_ARCHIVE_DIR=$faulty cargo build --release "${options[@]}" --features archive --bin compare
-compare=$CARGO_TARGET_DIR/release/compare
-LAP_FAULT=0 "$compare" --events 2000 > "$faulty/printed"
+LAP_ARCHIVE_DIR=$faulty "${cross[@]}" cargo build --release "${options[@]}" --features archive --bin compare
+compare=$CARGO_TARGET_DIR/$programs_of/compare
+LAP_FAULT=0 "${run[@]}" "$compare" --events 2000 > "$faulty/printed"
 for fault in $(seq 1 10); do
   status=0
-  LAP_FAULT=$fault "$compare" --events 60000 > "$faulty/printed" || status=$?
+  LAP_FAULT=$fault "${run[@]}" "$compare" --events 60000 > "$faulty/printed" || status=$?
   if [ "$status" != 1 ]; then
     echo "fault $fault was not found (exit status $status)"
     exit 1

@@ -3,6 +3,7 @@
 # input writes nothing.
 set -euo pipefail
 cd "$(dirname "$0")/../.."
+. host/x86_64.sh
 out=$(mktemp)
 err=$(mktemp)
 trap 'rm -f "$out" "$err"' EXIT
@@ -11,16 +12,16 @@ for name in replay show; do
   program=target/bin/$name
 
   # A folder can be opened and not read.
-  "$program" < captures > "$out" 2> "$err" || true
+  "${run[@]}" "$program" < captures > "$out" 2> "$err" || true
   cmp "$out" /dev/null
   grep -qx "$name: standard input could not be read" "$err"
 
   # A full disk.
-  "$program" < captures/example.capture > /dev/full 2> "$err" || true
+  "${run[@]}" "$program" < captures/example.capture > /dev/full 2> "$err" || true
   grep -qx "$name: standard output could not be written" "$err"
 
   # Nothing to read.
-  "$program" < /dev/null > "$out" 2> "$err"
+  "${run[@]}" "$program" < /dev/null > "$out" 2> "$err"
   cmp "$out" /dev/null
   cmp "$err" /dev/null
 done

@@ -3,8 +3,9 @@
 set -euo pipefail
 cd "$(dirname "$0")/../.."
 bash host/archive.sh
+. host/x86_64.sh
 mkdir -p target/hub
-gcc -std=c11 -Wall -Wextra -Werror -pedantic -Iinclude host/hub/hub.c target/staticlib/liblap.a -o target/hub/hub
-target/hub/hub > target/hub/printed
+"${tools}gcc" -std=c11 -Wall -Wextra -Werror -pedantic -Iinclude host/hub/hub.c target/staticlib/liblap.a -o target/hub/hub
+"${run[@]}" target/hub/hub > target/hub/printed
 bash host/same.sh host/hub/printed target/hub/printed "the README's program"
 python3 host/readme.py host/hub/hub.c host/hub/printed captures/example.capture captures/example.shown

@@ -6,7 +6,7 @@ use server::JobRow;
 ghost use mathlib.Core.Path.{_≡_};
 ghost use Prim.Native.Nat.{_<_};
 ghost use lib.ListN.{getD, set};
-ghost use Rattle.server.specs.Table.{closed, noRow, withHolder, withListeners};
+ghost use Rattle.server.specs.Table.{noRow, withHolder, withListeners};
 ghost use Rattle.server.specs.Events.{submittedBy};
 ghost use Rattle.plans.specs.Plans.{withAble};
 
@@ -33,30 +33,6 @@ pub fn no_row() -> JobRow
         holder: 0,
         size: 0,
     }
-}
-
-// The connections able to do the function at a place.
-pub fn able_at(able: [u32; 16], q: usize) -> u32
-    ensures { λ r. ⌜ r ≡ getD able q 0 ⌝ }
-{
-    if 16 <= q {
-        return 0;
-    }
-    able[q]
-}
-
-// The connection's row.
-pub fn connection_at(connections: [Connection; 16], c: usize) -> Connection
-    ensures { λ r. ⌜ r ≡ getD connections c closed ⌝ }
-{
-    if 16 <= c {
-        return Connection {
-            opened: false,
-            asleep: false,
-            exceptions: false,
-        };
-    }
-    connections[c]
 }
 
 // The connections with another row at a place.

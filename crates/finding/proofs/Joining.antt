@@ -1,57 +1,58 @@
 -- The job that a submission joins: none for an empty unique or an unknown function; else functions are compared by place, since the
 -- names of known functions are distinct. Assumes nothing.
 use Prim.Native.Nat.{ℕ, _+_, _*_, _<_, _≤_}
-use mathlib.Core.Path.{_≡_, refl, sym, ap, ap₂, _∙_}
-use mathlib.Core.Bool.{Bool, true, false, not, _&&_}
-use mathlib.Core.Option.{none, some}
-use mathlib.Core.List.{List, [], _∷_}
+use mathlib.Core.Path.{_≡_, refl, sym, ap, _∙_}
+use mathlib.Core.Bool.{Bool, true, false, not, _&&_, _||_}
+use mathlib.Core.Option.{Option, none, some}
+use mathlib.Core.List.{[], _∷_}
 use native.Mathlib.Omega.{arith}
-use borrow.Author.Tests.{ltb-true, eqb-true, eq-eqb, not-true, not-false}
-use lib.ListN.{length, getD, List·getD-map}
+use borrow.Author.Tests.{ltb-true, eqb-true, eq-eqb, not-true}
+use lib.ListN.{length, take, drop}
 use lib.Dec.{eqb, leb, ltb}
-use Rattle.octets.specs.Bytes.{Bytes, same}
+use Rattle.octets.specs.Bytes.{Bytes, same, zeroFree}
 use Rattle.octets.proofs.Strings.{and-false, and-left, and-right, same-is, same-lengths, same-refl}
-use Rattle.server.specs.declared.JobRow.{JobRow}
-use Rattle.server.specs.Lists.{find}
-use Rattle.server.specs.Table.{Job, Table, noFunction, noJob, noRow, functionAt, jobAt, live, known, joins, joined}
+use Rattle.server.specs.Lists.{find, fit, numbers}
+use Rattle.server.specs.Table.{Table, noFunction, noJob, functionAt, jobAt, live, known, joins, joined}
 use Rattle.server.specs.Rules.{rowHasMeaning, namesApart}
-use Rattle.server.specs.Layout.{tableOf, textAt, jobIn}
+use Rattle.server.specs.Layout.{tableOf, rowIn, jobIn}
 use Rattle.server.specs.Call.{isSound}
 use Rattle.plans.specs.declared.Place.{Place}
-use Rattle.plans.specs.declared.Place.the-variants.{At, Nowhere}
-use Rattle.plans.specs.Values.{placed, rowsOf}
-use Rattle.table_bytes.proofs.Columns.{places-at}
+use Rattle.plans.specs.declared.Place.the-variants.{Nowhere}
+use Rattle.plans.specs.Values.{placed, unplaced}
+use Rattle.plans.proofs.Places.{searched}
+use Rattle.texts.specs.Places.{agree}
 use Rattle.outcomes.proofs.Searches.{found}
 use Rattle.rules_kept.proofs.Rows.{clash, iff, all-at, pairwise-at}
 use Rattle.rules_kept.proofs.Sound.{Sound, rowMeans}
-use Rattle.finding.specs.Uniques.{hasUnique, isFor}
-use Rattle.finding.proofs.Searches.{placed-at, placed-nowhere, find-same, find-nothing}
-use Rattle.finding.proofs.Names.{sound-table}
+use Rattle.finding.specs.Uniques.{isFor, joinedAt, liesFor}
+use Rattle.searching.proofs.Alike.{find-numbers, find-same, find-nothing, skipped, not-skipped}
+use Rattle.finding.proofs.Names.{within-by, place-agrees, unique-place, unique-within, sound-table}
 
--- ---- rows by value, uniques in the bytes
+-- ---- jobs as they lie in the bytes
 
-row-is-for : (b : Bytes) (rows : List JobRow) (q : ℕ) (u : Bytes) (i : ℕ) → rows ≡ rowsOf (tableOf 16 b) → i < 32
-    → hasUnique q u (getD rows i noRow) (textAt 64 b (1060 + 64 * i)) ≡ isFor q u (jobAt (tableOf 16 b) i)
-unfolding isFor tableOf
-row-is-for b rows q u i e h =
-    let j : jobAt (tableOf 16 b) i ≡ jobIn b i = places-at (jobIn b) noJob 32 i h in
-    ap₂ (hasUnique q u) (ap (λ (l : List JobRow). getD l i noRow) e ∙ List·getD-map (λ (x : Job). x .row) (tableOf 16 b .jobs) i noJob) (sym (ap (λ (x : Job). x .unique) j))
+-- a row that the code skips, and one whose unique it compares
+module _ (b : Bytes) (q : ℕ) (w : Bytes) (p serial of : ℕ) (es : serial ≡ rowIn b p .serial) (eo : of ≡ rowIn b p .function) where
+  pub other-job : eqb serial 0 || not (eqb of q) ≡ true → false ≡ liesFor b q w p
+  unfolding liesFor
+  other-job h = let k = skipped (eqb serial 0) (eqb of q) h in rw (← es, ← eo, k)
 
--- what the code's test of row i says of job i
-pub row-tested : (b : Bytes) (rows : List JobRow) (q : ℕ) (u : Bytes) (i : ℕ) (x y : Bool) → rows ≡ rowsOf (tableOf 16 b) → i < 32
-    → x ≡ hasUnique q u (getD rows i noRow) (textAt 64 b (1060 + 64 * i)) → x ≡ y → isFor q u (jobAt (tableOf 16 b) i) ≡ y
-row-tested b rows q u i x y e h f g = sym (row-is-for b rows q u i e h) ∙ sym f ∙ g
+  pub same-job : (x : Bool) → eqb serial 0 || not (eqb of q) ≡ false → x ≡ agree 64 (take 64 (drop (1060 + 64 * p) b)) w → x ≡ liesFor b q w p
+  unfolding liesFor
+  same-job x h g = let k = not-skipped (eqb serial 0) (eqb of q) h in g ∙ rw (← es, ← eo, k)
 
--- ---- one row
+same-if : (l a x y : Bool) → (l ≡ true → x ≡ y) → (l && a) && x ≡ (l && a) && y
+same-if true a x y h = ap (λ (z : Bool). a && z) (h refl)
+same-if false a x y h = refl
 
-module _ (q : ℕ) (u : Bytes) (r : JobRow) (unique : Bytes) where
-  pub other-job : not (live r && eqb (r .function) q) ≡ true → false ≡ hasUnique q u r unique
-  unfolding hasUnique
-  other-job e = rw (not-true (live r && eqb (r .function) q) e)
-
-  pub same-job : (x : Bool) → not (live r && eqb (r .function) q) ≡ false → x ≡ same unique u → x ≡ hasUnique q u r unique
-  unfolding hasUnique
-  same-job x e g = g ∙ rw (not-false (live r && eqb (r .function) q) e)
+-- the search in the bytes is the search among the jobs
+pub unique-found : (b : Bytes) (sound : isSound 16 b ≡ true) (q : ℕ) (u w : Bytes) (r : Place) → length u ≤ 64 → zeroFree u ≡ true → w ≡ fit 64 u
+    → r ≡ placed (find (liesFor b q w) (numbers 0 32)) → r ≡ placed (find (isFor q u) (tableOf 16 b .jobs))
+unfolding tableOf liesFor isFor
+unique-found b sound q u w r h z e g =
+    let k : find (liesFor b q w) (numbers 0 32) ≡ find (isFor q u) (tableOf 16 b .jobs) = rw e (find-numbers (liesFor b q (fit 64 u)) (isFor q u) (jobIn b) 32
+    (λ p i. same-if (live (jobIn b p .row)) (eqb (jobIn b p .row .function) q) _ _
+    (λ v. place-agrees 64 _ (jobIn b p .unique) u (unique-place b sound p i) (unique-within b sound p i v) (within-by 64 u h z)))) in
+    g ∙ ap placed k
 
 -- ---- tests in two orders
 
@@ -103,7 +104,7 @@ module _ (t : Table) (ok : Sound t) where
       (found (λ x. same (x .name) f) noFunction (t .functions) none e) (function-place i l v))))
 
   joined-known : (f u : Bytes) (q : ℕ) → 1 ≤ length f → (length u ≡ 0 → ⊥) → known (t .functions) f ≡ some q → find (isFor q u) (t .jobs) ≡ joined t f u
-  unfolding joined isFor hasUnique
+  unfolding joined isFor
   joined-known f u q h n e =
       let hit = found (λ x. same (x .name) f) noFunction (t .functions) (some q) e in
       find-same (isFor q u) noJob (joins (t .functions) f u) (t .jobs)
@@ -115,19 +116,32 @@ module _ (t : Table) (ok : Sound t) where
 
 -- ---- the outcomes
 
-pub joined-empty : (t : Table) (f u : Bytes) → length u ≡ 0 → joined t f u ≡ none
+joined-empty : (t : Table) (f : Bytes) → joined t f [] ≡ none
 unfolding joined
-joined-empty t f u e =
-    let z : same u [] ≡ true = go u e in
-    find-nothing (joins (t .functions) f u) noJob (t .jobs) (λ i l. rw z (and-false (live (jobAt t i .row))))
+joined-empty t f = find-nothing (joins (t .functions) f []) noJob (t .jobs) (λ i l. rw (same-refl []) (and-false (live (jobAt t i .row))))
+
+-- from the place of the function, whether the unique is empty or not
+joined-is : (t : Table) → Sound t → (f u : Bytes) → 1 ≤ length f → joinedAt (known (t .functions) f) u t ≡ joined t f u
+unfolding joinedAt
+joined-is t ok f u h = go (known (t .functions) f) refl u
   where
-    go : (s : Bytes) → length s ≡ 0 → same s [] ≡ true
-    go [] e = same-refl []
-    go (x ∷ s) e = absurd (omega arith)
+    go : (o : Option ℕ) → known (t .functions) f ≡ o → (u : Bytes) → joinedAt o u t ≡ joined t f u
+    go none e u = sym (joined-unknown t ok f u e)
+    go (some q) e [] = rw (same-refl []) (sym (joined-empty t f))
+    go (some q) e (x ∷ u) = rw (same-lengths (x ∷ u) [] (λ z. omega arith)) (joined-known t ok f (x ∷ u) q h (λ z. omega arith) e)
 
-module _ (b f u : Bytes) (sound : isSound 16 b ≡ true) (p : Place) (e : p ≡ placed (known (tableOf 16 b .functions) f)) where
-  pub joins-at : (q : ℕ) (r : Place) → p ≡ At q → 1 ≤ length f → (length u ≡ 0 → ⊥) → r ≡ placed (find (isFor q u) (tableOf 16 b .jobs)) → r ≡ placed (joined (tableOf 16 b) f u)
-  joins-at q r g h n k = k ∙ ap placed (joined-known (tableOf 16 b) (sound-table b sound) f u q h n (placed-at _ q (sym e ∙ g)))
+-- what the code answers of the two cases
+pub no-unique : (t : Table) (o : Option ℕ) (u : Bytes) → length u ≡ 0 → Nowhere ≡ placed (joinedAt o u t)
+unfolding joinedAt
+no-unique t none u e = refl
+no-unique t (some q) [] e = rw (same-refl [])
+no-unique t (some q) (x ∷ u) e = absurd (omega arith)
 
-  pub joins-nowhere : p ≡ Nowhere → Nowhere ≡ placed (joined (tableOf 16 b) f u)
-  joins-nowhere g = ap placed (sym (joined-unknown (tableOf 16 b) (sound-table b sound) f u (placed-nowhere _ (sym e ∙ g))))
+pub some-unique : (t : Table) (u : Bytes) (q : ℕ) (r : Place) → (length u ≡ 0 → ⊥) → r ≡ placed (find (isFor q u) (t .jobs)) → r ≡ placed (joinedAt (some q) u t)
+unfolding joinedAt
+some-unique t u q r n g = g ∙ rw (same-lengths u [] n)
+
+pub joined-found : (b : Bytes) → isSound 16 b ≡ true → (f u : Bytes) (p r : Place) → 1 ≤ length f → p ≡ placed (known (tableOf 16 b .functions) f)
+    → r ≡ placed (joinedAt (unplaced p) u (tableOf 16 b)) → r ≡ placed (joined (tableOf 16 b) f u)
+joined-found b sound f u p r h e g =
+    g ∙ rw (searched (known (tableOf 16 b .functions) f) p e) (ap placed (joined-is (tableOf 16 b) (sound-table b sound) f u h))

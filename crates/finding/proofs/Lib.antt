@@ -1,3 +1,2 @@
-pub mod Searches
 pub mod Names
 pub mod Joining

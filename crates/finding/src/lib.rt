@@ -1,18 +1,26 @@
 // Searches in a table that obeys the table rules: the place of a function's name, a place for a new one, and the job that a
-// submission joins. An inner crate: it asks for such a table and for a name that a packet may have, and refuses nothing.
+// submission joins. Names are a local array of byte arrays; a place is compared with a padded text, all bytes of it. An inner crate:
+// it asks for such a table and for texts that a packet may have, and refuses nothing.
+use plans::Place;
 ghost use mathlib.Core.Path.{_≡_};
 ghost use mathlib.Core.Bool.{true};
-ghost use Prim.Native.Nat.{_+_, _*_, _≤_, _<_};
+ghost use mathlib.Core.List.{[]};
+ghost use Prim.Native.Nat.{_≤_, _<_};
 ghost use lib.ListN.{length};
 ghost use Rattle.octets.specs.Bytes.{zeroFree};
-ghost use Rattle.server.specs.Lists.{find};
-ghost use Rattle.server.specs.Table.{joined, known, roomFor};
-ghost use Rattle.server.specs.Layout.{tableOf, textAt};
+ghost use Rattle.server.specs.Lists.{find, fit};
+ghost use Rattle.server.specs.Table.{joined, known, orElse, roomFor};
+ghost use Rattle.server.specs.Layout.{rowIn, tableOf};
 ghost use Rattle.server.specs.Call.{isSound};
-ghost use Rattle.plans.specs.Values.{placed, rowsOf};
-ghost use Rattle.finding.specs.Uniques.{hasUnique, isFor};
-use plans::Place;
-use server::JobRow;
+ghost use Rattle.plans.specs.Values.{placed, unplaced};
+ghost use Rattle.texts.specs.Places.{placeOf};
+ghost use Rattle.finding.specs.Uniques.{isFor, joinedAt, liesFor};
+
+// Where a submission goes: the job that it joins, and the place that its function has or would take.
+pub struct Places {
+    pub joined: Place,
+    pub room: Place,
+}
 
 // The place of the function's name.
 pub fn known(table: &[u8], name: &[u8]) -> Place
@@ -20,7 +28,21 @@ pub fn known(table: &[u8], name: &[u8]) -> Place
     ensures { λ r. ⌜ r ≡ placed (known (tableOf 16 (now (table .entry)) .functions) (now (name .entry))) ⌝ }
 {
     let names = texts::read_names(table);
-    texts::place_of(names, texts::padded(name))
+    let place = texts::padded_name(name);
+    texts::place_of(&names, &place)
+}
+
+// The place, or else the lowest free one: a free place is all zeros.
+fn or_free(names: &[[u8; 32]; 16], known: Place) -> Place
+    ensures { λ r. ⌜ r ≡ placed (orElse (unplaced known) (placeOf (now (names .entry)) (fit 32 []))) ⌝ }
+{
+    match known {
+        Place::At(place) => Place::At(place),
+        Place::Nowhere => {
+            let free: [u8; 32] = [0; 32];
+            texts::place_of(names, &free)
+        }
+    }
 }
 
 // The place of the function's name, or else the lowest free one.
@@ -29,34 +51,33 @@ pub fn room_for(table: &[u8], f: &[u8]) -> Place
     ensures { λ r. ⌜ r ≡ placed (roomFor (tableOf 16 (now (table .entry)) .functions) (now (f .entry))) ⌝ }
 {
     let names = texts::read_names(table);
-    let name = texts::padded(f);
-    let free: [u8; 32] = [0; 32];
-    match texts::place_of(names, name) {
-        Place::At(place) => Place::At(place),
-        Place::Nowhere => texts::place_of(names, free),
-    }
+    let name = texts::padded_name(f);
+    or_free(&names, texts::place_of(&names, &name))
 }
 
-// Whether the row at `place` is that of an unfinished job for the function at place `function`, with this unique.
-fn has_unique(table: &[u8], place: usize, row: JobRow, function: usize, unique: &[u8]) -> bool
-    requires { ⌜ (place < 32) × (3796 ≤ length (now table)) ⌝ }
-    ensures { λ r. ⌜ r ≡ hasUnique function (now (unique .entry)) row (textAt 64 (now (table .entry)) (1060 + 64 * place)) ⌝ }
+// Whether the row at `place`, whose serial this is, is that of an unfinished job for the function, with this padded unique. A unique is
+// looked at only where the rest agrees.
+fn has_unique(table: &[u8], place: usize, serial: u32, function: usize, unique: &[u8; 64]) -> bool
+    requires { ⌜ (3796 ≤ length (now table)) × (place < 32) × (serial ≡ rowIn (now table) place .serial) ⌝ }
+    ensures { λ r. ⌜ r ≡ liesFor (now (table .entry)) function (now (unique .entry)) place ⌝ }
 {
-    let of = row.function as usize;
-    if !((row.serial != 0) & (of == function)) {
+    let of = octets::wide(table[516 + place]);
+    if (serial == 0) | (of as usize != function) {
         return false;
     }
-    texts::text_is(table, 1060 + 64 * place, 64, unique)
+    texts::unique_at(table, 1060 + 64 * place, unique)
 }
 
 // The lowest unfinished job for the function at place `function`, with this unique.
-fn with_unique(table: &[u8], rows: [JobRow; 32], function: usize, unique: &[u8]) -> Place
-    requires { ⌜ (3796 ≤ length (now table)) × (rows ≡ rowsOf (tableOf 16 (now table))) ⌝ }
+fn with_unique(table: &[u8], function: usize, unique: &[u8]) -> Place
+    requires { ⌜ (isSound 16 (now table) ≡ true) × (3796 ≤ length (now table)) × (length (now unique) ≤ 64) × (zeroFree (now unique) ≡ true) ⌝ }
     ensures { λ r. ⌜ r ≡ placed (find (isFor function (now (unique .entry))) (tableOf 16 (now (table .entry)) .jobs)) ⌝ }
 {
+    let serials = columns::fours(table, 68);
+    let place = texts::padded_unique(unique);
     let mut i = 0;
     while i < 32 {
-        if has_unique(table, i, rows[i], function, unique) {
+        if has_unique(table, i, serials[i], function, &place) {
             return Place::At(i);
         }
         i += 1;
@@ -64,17 +85,31 @@ fn with_unique(table: &[u8], rows: [JobRow; 32], function: usize, unique: &[u8])
     Place::Nowhere
 }
 
-// The unfinished job that a submission of the function with this unique joins: none, if the unique is empty.
-pub fn joined(table: &[u8], rows: [JobRow; 32], f: &[u8], u: &[u8]) -> Place
-    requires { ⌜ (isSound 16 (now table) ≡ true) × (3796 ≤ length (now table)) × (1 ≤ length (now f)) × (length (now f) ≤ 32)
-        × (zeroFree (now f) ≡ true) × (rows ≡ rowsOf (tableOf 16 (now table))) ⌝ }
-    ensures { λ r. ⌜ r ≡ placed (joined (tableOf 16 (now (table .entry))) (now (f .entry)) (now (u .entry))) ⌝ }
+// The unfinished job that a submission with this unique joins, from the place of its function: none, if the unique is empty.
+fn joined_at(table: &[u8], known: Place, u: &[u8]) -> Place
+    requires { ⌜ (isSound 16 (now table) ≡ true) × (3796 ≤ length (now table)) × (length (now u) ≤ 64) × (zeroFree (now u) ≡ true) ⌝ }
+    ensures { λ r. ⌜ r ≡ placed (joinedAt (unplaced known) (now (u .entry)) (tableOf 16 (now (table .entry)))) ⌝ }
 {
     if u.len() == 0 {
         return Place::Nowhere;
     }
-    match known(table, f) {
-        Place::At(function) => with_unique(table, rows, function, u),
+    match known {
+        Place::At(function) => with_unique(table, function, u),
         Place::Nowhere => Place::Nowhere,
     }
+}
+
+// Where a submission of the function with this unique goes: the names are read once.
+pub fn places_for(table: &[u8], f: &[u8], u: &[u8]) -> Places
+    requires { ⌜ (isSound 16 (now table) ≡ true) × (3796 ≤ length (now table)) × (1 ≤ length (now f)) × (length (now f) ≤ 32)
+        × (zeroFree (now f) ≡ true) × (length (now u) ≤ 64) × (zeroFree (now u) ≡ true) ⌝ }
+    ensures { λ r. ⌜ (r .joined ≡ placed (joined (tableOf 16 (now (table .entry))) (now (f .entry)) (now (u .entry))))
+        × (r .room ≡ placed (roomFor (tableOf 16 (now (table .entry)) .functions) (now (f .entry)))) ⌝ }
+{
+    let names = texts::read_names(table);
+    let name = texts::padded_name(f);
+    let known = texts::place_of(&names, &name);
+    let joined = joined_at(table, known, u);
+    let room = or_free(&names, known);
+    Places { joined, room }
 }

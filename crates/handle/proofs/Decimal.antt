@@ -1,14 +1,14 @@
--- Laws of decimal numbers: their length, their digits, and that a number of at most ten digits comes back from its text, so that
--- printing is one to one. Assumes nothing.
+-- Laws of decimal numbers: their length, their digits, that a number of at most ten digits comes back from its text, so that printing
+-- is one to one, and that digits with no leading zero come back from their number. Assumes nothing.
 use Prim.Native.Nat.{ℕ, zero, suc, _+_, _-_, _*_, _/_, _%_, _^_, _<_, _≤_, zero-le}
 use mathlib.Core.Path.{_≡_, refl, ap, _∙_, sym}
 use mathlib.Core.Bool.{Bool, true, false, cond}
-use mathlib.Core.List.{[], _∷_, _++_}
-use native.Mathlib.Nat.{pow-suc}
+use mathlib.Core.List.{[], _∷_, _++_, append-assoc, append-nil}
+use native.Mathlib.Nat.{pow-suc, zero-add}
 use native.Mathlib.Omega.{arith}
-use borrow.Author.Tests.{ltb-false, ltb-true, le-leb}
+use borrow.Author.Tests.{ltb-false, ltb-true, lt-ltb, le-leb, leb-true}
 use lib.ListN.{length, getD, length-append, List·getD-append}
-use lib.Dec.{ltb}
+use lib.Dec.{leb, ltb}
 use Rattle.octets.specs.Bytes.{Bytes, every, within}
 use Rattle.octets.proofs.Strings.{and-both, and-left, and-right}
 use Rattle.handle.specs.Handle.{decimalIn, decimal, value}
@@ -105,3 +105,47 @@ decimal-in-first (suc k) n l h =
 pub decimal-first : (n : ℕ) → 1 ≤ n → n < 10 ^ 10 → 49 ≤ getD (decimal n) 0 0
 unfolding decimal
 decimal-first n l h = decimal-in-first 9 n l h
+
+-- ---- the digits come back
+
+next-step : (b : Bool) (k a d : ℕ) → ltb (a * 10 + (d - 48)) 10 ≡ b → 1 ≤ a → 48 ≤ d → d ≤ 57
+    → cond b ((a * 10 + (d - 48) + 48) ∷ []) (decimalIn k ((a * 10 + (d - 48)) / 10) ++ (((a * 10 + (d - 48)) % 10 + 48) ∷ [])) ≡ decimalIn k a ++ (d ∷ [])
+next-step true k a d e l lo hi = absurd (omega (arith, ltb-true (a * 10 + (d - 48)) 10 e))
+next-step false k a d e l lo hi =
+    let q : (a * 10 + (d - 48)) / 10 ≡ a = omega arith in
+    let r : (a * 10 + (d - 48)) % 10 + 48 ≡ d = omega arith in
+    rw (q, r)
+
+-- one digit more behind a number
+decimal-next : (k a d : ℕ) → 1 ≤ a → 48 ≤ d → d ≤ 57 → decimalIn (suc k) (a * 10 + (d - 48)) ≡ decimalIn k a ++ (d ∷ [])
+unfolding decimalIn
+decimal-next k a d l lo hi = next-step (ltb (a * 10 + (d - 48)) 10) k a d refl l lo hi
+
+digit-bounds : (d : ℕ) → within 48 57 d ≡ true → (48 ≤ d) × (d ≤ 57)
+digit-bounds d e = (leb-true 48 d (and-left (leb 48 d) (leb d 57) e), leb-true d 57 (and-right (leb 48 d) (leb d 57) e))
+
+-- and as many as there are
+decimal-more : (s : Bytes) (k a : ℕ) → 1 ≤ a → every (within 48 57) s ≡ true → decimalIn (length s + k) (value a s) ≡ decimalIn k a ++ s
+unfolding every value
+decimal-more [] k a l e = rw zero-add (sym (append-nil (decimalIn k a)))
+decimal-more (d ∷ s) k a l e =
+    let b = digit-bounds d (and-left (within 48 57 d) (every (within 48 57) s) e) in
+    let rest = and-right (within 48 57 d) (every (within 48 57) s) e in
+    let q : suc (length s) + k ≡ length s + suc k = omega arith in
+    rw q (decimal-more s (suc k) (a * 10 + (d - 48)) (omega arith) rest ∙ rw (decimal-next k a d l (b .0) (b .1)) (append-assoc (decimalIn k a) (d ∷ []) s))
+
+-- the first digit is a number
+decimal-one : (k d : ℕ) → 48 ≤ d → d ≤ 57 → decimalIn (suc k) (d - 48) ≡ d ∷ []
+unfolding decimalIn
+decimal-one k d lo hi = let q : d - 48 + 48 ≡ d = omega arith in rw (lt-ltb (d - 48) 10 (omega arith), q)
+
+-- a text of digits with no leading zero is the decimal of its value
+pub decimal-value : (s : Bytes) → 1 ≤ length s → length s ≤ 10 → every (within 48 57) s ≡ true → 49 ≤ getD s 0 0 → decimal (value 0 s) ≡ s
+unfolding every value decimal
+decimal-value [] l m e f = absurd (omega arith)
+decimal-value (d ∷ s) l m e f =
+    let b = digit-bounds d (and-left (within 48 57 d) (every (within 48 57) s) e) in
+    let rest = and-right (within 48 57 d) (every (within 48 57) s) e in
+    let q : 10 ≡ length s + suc (9 - length s) = omega arith in
+    let z : 0 * 10 + (d - 48) ≡ d - 48 = omega arith in
+    rw (z, q) (decimal-more s (suc (9 - length s)) (d - 48) (omega arith) rest ∙ rw (decimal-one (9 - length s) d (b .0) (b .1)))

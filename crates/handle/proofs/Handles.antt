@@ -9,7 +9,7 @@ use borrow.Author.Tests.{le-leb, leb-true, eq-eqb, ne-eqb, eqb-true}
 use lib.ListN.{length, drop, length-append}
 use lib.Dec.{eqb, leb}
 use Rattle.octets.specs.Bytes.{Bytes, same, every, firstZero, within, zeroFree}
-use Rattle.octets.proofs.Strings.{and-both, and-left, and-right, same-refl, same-is}
+use Rattle.octets.proofs.Strings.{and-left, and-right, same-refl, same-is}
 use Rattle.handle.specs.Handle.{decimal, handle, lap, value, serialOf}
 use Rattle.handle.specs.declared.Serial.the-variants.{Of, None}
 use Rattle.handle.proofs.Decimal.{decimal-most, decimal-least, decimal-digits, decimal-one-to-one, value-decimal}
@@ -25,12 +25,6 @@ handle-least name n = rw (length-handle name n) (omega (arith, decimal-least n))
 
 pub handle-most : (name : Bytes) (n : ℕ) → length (handle name n) ≤ 13 + length name
 handle-most name n = rw (length-handle name n) (omega (arith, decimal-most n))
-
--- what an argument that is a handle must have: 1 to 63 bytes
-pub handle-within : (name : Bytes) (n : ℕ) → length name ≤ 50 → within 1 63 (length (handle name n)) ≡ true
-handle-within name n h =
-    let l = length (handle name n) in
-    and-both (leb 1 l) (leb l 63) (le-leb 1 l (omega (arith, handle-least name n))) (le-leb l 63 (omega (arith, handle-most name n)))
 
 drop-past : (s : Bytes) (x : ℕ) (d : Bytes) → drop (suc (length s)) (s ++ (x ∷ d)) ≡ d
 drop-past [] x d = refl
@@ -69,13 +63,9 @@ first-zero-handle name n e =
 pub handle-zero-free : (name : Bytes) (n : ℕ) → zeroFree name ≡ true → zeroFree (handle name n) ≡ true
 handle-zero-free name n e = eq-eqb _ _ (first-zero-handle name n (eqb-true (firstZero name) (length name) e))
 
--- and that of `lap` is 1 to 63 bytes, none of them zero
 pub lap-zero-free : (n : ℕ) → zeroFree (handle lap n) ≡ true
 unfolding firstZero
 lap-zero-free n = handle-zero-free lap n refl
-
-pub lap-within : (n : ℕ) → within 1 63 (length (handle lap n)) ≡ true
-lap-within n = handle-within lap n (omega arith)
 
 -- ---- a serial and its handle
 

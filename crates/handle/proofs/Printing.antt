@@ -1,50 +1,114 @@
--- What each step of `put_digits` and `handle_of` adds, in the shape of their tests and calls: digits laid one after the other, and
--- a text followed by zeros. Assumes nothing.
+-- What each step of `count_digits`, `put_digits` and `handle_of` adds, in the shape of their tests and calls: digits counted, and laid
+-- from the last to the first, and a text followed by zeros. Assumes nothing.
 use Prim.Native.Nat.{ℕ, zero, suc, _+_, _-_, _/_, _%_, _<_, _≤_}
-use mathlib.Core.Path.{_≡_, refl, ap, _∙_, sym}
-use mathlib.Core.Bool.{cond}
+use mathlib.Core.Path.{_≡_, refl, ap, _∙_, sym, subst}
+use mathlib.Core.Bool.{Bool, true, false, cond}
 use mathlib.Core.List.{[], _∷_, _++_}
 use native.Mathlib.Nat.{add-zero, not-suc-le-zero, le-of-suc-le-suc}
+use native.Mathlib.Numerals.{add-one}
 use native.Mathlib.Omega.{arith}
-use borrow.Author.Tests.{lt-ltb, le-ltb}
-use lib.ListN.{length, take, drop, set, replicate, length-append, length-replicate}
-use lib.Seq.{take-append-seam, length-take-le}
+use borrow.Author.Tests.{lt-ltb, le-ltb, ltb-true}
+use lib.ListN.{length, getD, take, drop, set, replicate, length-append, length-replicate}
+use lib.Seq.{drop-cons, drop-length, take-append-seam, take-length, take-suc, length-take-le}
 use lib.Dec.{ltb}
 use Rattle.octets.specs.Bytes.{Bytes}
 use Rattle.octets.specs.Put.{put}
-use Rattle.octets.proofs.Laying.{put-none, put-one, put-more, put-put, put-start}
+use Rattle.octets.proofs.Laying.{put-none, put-front, put-put, put-start}
 use Rattle.handle.specs.Handle.{decimalIn, decimal, handle, lap, padded, printed}
 use Rattle.handle.specs.declared.Handle.{Handle}
 use Rattle.handle.proofs.Handles.{handle-most}
 
--- ---- digits laid over a buffer
+-- ---- digits counted
 
 decimal-step : (k n : ℕ) → (k ≡ 0 → ⊥) → decimalIn k n ≡ cond (ltb n 10) ((n + 48) ∷ []) (decimalIn (k - 1) (n / 10) ++ ((n % 10 + 48) ∷ []))
 unfolding decimalIn
 decimal-step zero n h = absurd (h refl)
 decimal-step (suc k) n h = let e : suc k - 1 ≡ k = omega arith in rw e
 
-module _ (b : Bytes) (at k n : ℕ) where
-  pub none-next : k ≡ 0 → at ≡ at + length (decimalIn k n)
+-- how many digits: one, or one more than the number without its last
+count-one : (k n : ℕ) → (k ≡ 0 → ⊥) → n < 10 → length (decimalIn k n) ≡ 1
+count-one k n z h = rw (decimal-step k n z, lt-ltb _ _ h)
+
+count-more : (k n : ℕ) → (k ≡ 0 → ⊥) → 10 ≤ n → length (decimalIn k n) ≡ length (decimalIn (k - 1) (n / 10)) + 1
+count-more k n z h = rw (decimal-step k n z, le-ltb _ _ h, length-append)
+
+pub count-none : (k n : ℕ) → length (decimalIn k n) ≡ 0 + length (decimalIn (k - 0) n)
+count-none k n = let q : k - 0 ≡ k = omega arith in rw q (omega arith)
+
+-- the count: `count` digits are behind, and those of `left` are before
+module _ (most number left count : ℕ) (e : length (decimalIn most number) ≡ count + length (decimalIn (most - count) left)) where
+  pub count-last : count < most → left < 10 → count + 1 ≡ length (decimalIn most number)
+  count-last h l = omega (arith, count-one (most - count) left (λ z. omega arith) l)
+
+  pub count-on : count < most → 10 ≤ left → length (decimalIn most number) ≡ count + 1 + length (decimalIn (most - (count + 1)) (left / 10))
+  count-on h l =
+      let q : most - count - 1 ≡ most - (count + 1) = omega arith in
+      omega (arith, rw q at (count-more (most - count) left (λ z. omega arith) l))
+
+  pub count-end : most ≤ count → count ≡ length (decimalIn most number)
   unfolding decimalIn
-  none-next e = rw e (sym (add-zero at))
+  count-end h = let q : most - count ≡ 0 = omega arith in let n : length (decimalIn (most - count) left) ≡ 0 = rw q in omega arith
 
-  pub none-out : k ≡ 0 → b ≡ put at (decimalIn k n) b
+-- ---- digits laid over a buffer, the last one first
+
+fit-step : (b : Bool) (k n : ℕ) → ltb n 10 ≡ b → decimalIn (length (decimalIn k (n / 10))) (n / 10) ≡ decimalIn k (n / 10)
+    → decimalIn (length (cond b ((n + 48) ∷ []) (decimalIn k (n / 10) ++ ((n % 10 + 48) ∷ [])))) n ≡ cond b ((n + 48) ∷ []) (decimalIn k (n / 10) ++ ((n % 10 + 48) ∷ []))
+unfolding decimalIn
+fit-step true k n e h = rw e
+fit-step false k n e h = rw (length-append, add-one, e, h)
+
+-- as many places as digits are enough
+pub decimal-fit : (k n : ℕ) → decimalIn (length (decimalIn k n)) n ≡ decimalIn k n
+unfolding decimalIn
+decimal-fit zero n = refl
+decimal-fit (suc k) n = fit-step (ltb n 10) k n refl (decimal-fit k (n / 10))
+
+snoc-both : (s t : Bytes) (x y : ℕ) → s ++ (x ∷ []) ≡ t ++ (y ∷ []) → (s ≡ t) × (x ≡ y)
+snoc-both [] [] x y e = let q : x ≡ y = cc in (refl, q)
+snoc-both [] (b ∷ t) x y e = absurd (omega (arith, ap length e, length-append t (y ∷ [])))
+snoc-both (a ∷ s) [] x y e = absurd (omega (arith, ap length e, length-append s (x ∷ [])))
+snoc-both (a ∷ s) (b ∷ t) x y e =
+    let h : a ≡ b = cc in
+    let r : s ++ (x ∷ []) ≡ t ++ (y ∷ []) = cc in
+    let both = snoc-both s t x y r in
+    (rw (h, both .0), both .1)
+
+last-step : (b : Bool) (d : Bytes) (j n : ℕ) → suc j ≤ length d → ltb n 10 ≡ b
+    → take j d ++ (getD d j 0 ∷ []) ≡ cond b ((n + 48) ∷ []) (decimalIn j (n / 10) ++ ((n % 10 + 48) ∷ [])) → (take j d ≡ decimalIn j (n / 10)) × (getD d j 0 ≡ n % 10 + 48)
+unfolding decimalIn
+last-step true d j n h t e =
+    let l : n < 10 = ltb-true n 10 t in
+    let both = snoc-both (take j d) [] (getD d j 0) (n + 48) e in
+    let z : j ≡ 0 = omega (arith, ap length (both .0), length-take-le j d (omega arith)) in
+    (rw z, omega (arith, both .1))
+last-step false d j n h t e = snoc-both (take j d) (decimalIn j (n / 10)) (getD d j 0) (n % 10 + 48) e
+
+-- what is before the last of i digits, and the last
+module _ (d : Bytes) (i n : ℕ) (h : i ≤ length d) (z : 0 < i) (e : take i d ≡ decimalIn i n) where
+  last-digit : (take (i - 1) d ≡ decimalIn (i - 1) (n / 10)) × (getD d (i - 1) 0 ≡ n % 10 + 48)
   unfolding decimalIn
-  none-out e = rw e (sym (put-none at b))
+  last-digit =
+      let q : i ≡ suc (i - 1) = omega arith in
+      let s : take (suc (i - 1)) d ≡ decimalIn (suc (i - 1)) n = subst (λ (k : ℕ). take k d ≡ decimalIn k n) q e in
+      last-step (ltb n 10) d (i - 1) n (omega arith) refl (sym (take-suc d (i - 1) 0 (omega arith)) ∙ s)
 
-  pub one-next : (k ≡ 0 → ⊥) → n < 10 → at + 1 ≡ at + length (decimalIn k n)
-  one-next z h = rw (decimal-step k n z, lt-ltb _ _ h)
+  pub digits-left : take (i - 1) d ≡ decimalIn (i - 1) (n / 10)
+  digits-left = last-digit .0
 
-  pub one-out : (k ≡ 0 → ⊥) → n < 10 → set b at (n + 48) ≡ put at (decimalIn k n) b
-  one-out z h = rw (decimal-step k n z, lt-ltb _ _ h) (put-one at (n + 48) b)
+  pub digit-laid : (at : ℕ) (o b : Bytes) → o ≡ put (at + i) (drop i d) b → set o (at + (i - 1)) (n % 10 + 48) ≡ put (at + (i - 1)) (drop (i - 1) d) b
+  digit-laid at o b eo =
+      let q : at + i ≡ at + (i - 1) + 1 = omega arith in
+      let r : suc (i - 1) ≡ i = omega arith in
+      let c : drop (i - 1) d ≡ (n % 10 + 48) ∷ drop i d = drop-cons d (i - 1) 0 (omega arith) ∙ rw (r, last-digit .1) in
+      rw (eo, q, c) (put-front (at + (i - 1)) (n % 10 + 48) (drop i d) b)
 
-  pub more-next : (e : ℕ) → (k ≡ 0 → ⊥) → 10 ≤ n → e ≡ at + length (decimalIn (k - 1) (n / 10)) → e + 1 ≡ at + length (decimalIn k n)
-  more-next e z h q = rw (decimal-step k n z, le-ltb _ _ h, length-append, q) (omega arith)
+-- at the start all digits are left, and at the end none
+module _ (at k n : ℕ) (b : Bytes) where
+  pub all-left : (i : ℕ) → i ≡ length (decimalIn k n) → (take i (decimalIn k n) ≡ decimalIn i n) × (b ≡ put (at + i) (drop i (decimalIn k n)) b)
+  all-left i e = (rw (e, take-length, decimal-fit k n), rw (e, drop-length) (sym (put-none _ b)))
 
-  pub more-out : (o : Bytes) (e : ℕ) → (k ≡ 0 → ⊥) → 10 ≤ n → e ≡ at + length (decimalIn (k - 1) (n / 10))
-      → o ≡ put at (decimalIn (k - 1) (n / 10)) b → set o e (n % 10 + 48) ≡ put at (decimalIn k n) b
-  more-out o e z h q p = rw (decimal-step k n z, le-ltb _ _ h, p, q) (put-more at _ b _ (n % 10 + 48) refl)
+  pub none-left : (i : ℕ) (o : Bytes) → i ≤ 0 → o ≡ put (at + i) (drop i (decimalIn k n)) b → o ≡ put at (decimalIn k n) b
+  none-left i o h e = let z : i ≡ 0 = omega arith in e ∙ rw (z, add-zero)
 
 -- ---- a text and then zeros
 

@@ -1,16 +1,30 @@
-// The arguments of a packet that is to be written: tried against the rules of its shape, measured, and laid over a buffer with a
-// zero byte between each two. An inner crate of the packet layer.
+// A packet that is to be written: its header, laid over a buffer; its arguments, tried against the rules of its shape, measured, and
+// laid with a zero byte between each two. An inner crate of the packet layer.
 use packet::Shape;
 ghost use mathlib.Core.Path.{_≡_};
 ghost use mathlib.Core.Bool.{cond, true};
+ghost use mathlib.Core.List.{_++_};
 ghost use Prim.Native.Nat.{_+_, _≤_, min};
 ghost use lib.ListN.{getD, length};
 ghost use lib.Dec.{leb};
+ghost use Rattle.octets.specs.Bytes.{bigEndian};
 ghost use Rattle.octets.specs.Put.{put};
 ghost use Rattle.packet.specs.declared.Rule.the-variants.{Absent};
 ghost use Rattle.packet.specs.Layout.{rulesOf};
 ghost use Rattle.packet.specs.Arguments.{fitAll, fits, join};
 ghost use Rattle.packet.specs.Packet.{given};
+
+// Lays a header over `out` from `at` on, and returns the place after it.
+pub fn put_header(out: &mut [u8], at: usize, magic: &[u8], kind: u32, size: u32) -> usize
+    requires { ⌜ (length (now magic) ≡ 4) × (at + 12 ≤ length (now out)) ⌝ }
+    ensures { λ r. ⌜ (r ≡ at + 12) × (now (out .exit) ≡ put at (now (magic .entry) ++ (bigEndian kind ++ bigEndian size)) (now (out .entry))) ⌝ }
+{
+    let kind_bytes = octets::big_endian(kind);
+    let size_bytes = octets::big_endian(size);
+    let type_at = octets::put(out, at, magic);
+    let size_at = octets::put(out, type_at, &kind_bytes);
+    octets::put(out, size_at, &size_bytes)
+}
 
 // Whether argument `i` is as the shape's rule for it says, where the shape has such an argument.
 fn fits_at(shape: Shape, i: usize, a: &[u8]) -> bool

@@ -1,9 +1,7 @@
-// What a connection leaves behind when it closes or gives up its abilities, and which listeners hear an exception: loops over the
-// rows by value. An inner crate: its callers name connections below 16.
-use server::Connection;
+// What a connection leaves behind when it closes or gives up its abilities: loops over the rows by value. An inner crate: its callers
+// name connections below 16.
 use server::JobRow;
 ghost use mathlib.Core.Path.{_≡_};
-ghost use mathlib.Core.Bool.{cond};
 ghost use mathlib.Core.List.{map};
 ghost use Prim.Native.Nat.{_<_};
 ghost use Rattle.sets.specs.Sets as S;
@@ -67,29 +65,4 @@ pub fn unable_all(able: [u32; 16], c: usize) -> [u32; 16]
         i += 1;
     }
     next
-}
-
-// The listeners of the set that have the option.
-pub fn heard(connections: [Connection; 16], listeners: u32) -> u32
-    ensures { λ r. ⌜ r ≡ P.heard connections listeners ⌝ }
-{
-    let mut s = listeners;
-    let mut i = 0;
-    while i < 16 {
-        let x = connections[i];
-        s = kept(s, i, x.exceptions);
-        i += 1;
-    }
-    s
-}
-
-// The set as it is, or without the connection.
-fn kept(s: u32, c: usize, stays: bool) -> u32
-    requires { ⌜ c < 16 ⌝ }
-    ensures { λ r. ⌜ r ≡ cond stays s (S.remove s c) ⌝ }
-{
-    if stays {
-        return s;
-    }
-    sets::remove(s, c)
 }

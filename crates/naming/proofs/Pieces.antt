@@ -10,7 +10,7 @@ use lib.ListN.{length, length-append}
 use Rattle.octets.specs.Bytes.{Bytes}
 use Rattle.octets.specs.Put.{put}
 use Rattle.naming.specs.Pieces.{pieces}
-use Rattle.naming.proofs.Runs.{laid-as, laid-none, laid-then, room-then}
+use Rattle.octets.proofs.Runs.{laid-as, laid-none, laid-then, room-then}
 
 -- pieces that are equal one by one make the same run
 pub same-pieces : (f g : ℕ → Bytes) (n : ℕ) → ((i : ℕ) → i < n → f i ≡ g i) → pieces f n ≡ pieces g n

@@ -45,6 +45,14 @@ put-one (suc at) x (y ∷ b) = ap (λ (l : Bytes). y ∷ l) (put-one at x b)
 pub put-more : (at : ℕ) (s b : Bytes) (n x : ℕ) → length s ≡ n → set (put at s b) (at + n) x ≡ put at (s ++ (x ∷ [])) b
 put-more at s b n x e = put-one (at + n) x (put at s b) ∙ put-next at s (x ∷ []) b n e
 
+-- one byte stored right before a run
+pub put-front : (at x : ℕ) (s b : Bytes) → set (put (at + 1) s b) at x ≡ put at (x ∷ s) b
+unfolding over put
+put-front zero x s [] = refl
+put-front zero x s (y ∷ b) = refl
+put-front (suc at) x s [] = rw suc-add
+put-front (suc at) x s (y ∷ b) = rw (suc-add, put-front at x s b)
+
 length-over : (s b : Bytes) → length (over s b) ≡ length b
 unfolding over
 length-over [] b = refl

@@ -1,40 +1,34 @@
--- Laws of a packet laid over an output: its header's three parts, the header and the data, and what the writer answers then.
+-- Laws of a packet laid over an output: the header and the data, and what the writer answers then.
 -- Assumes nothing.
 use Prim.Native.Nat.{ℕ, zero, suc, _+_, _<_, min}
-use mathlib.Core.Path.{_≡_, refl, ap, _∙_}
+use mathlib.Core.Path.{_≡_, refl}
 use mathlib.Core.List.{List, _++_, append-assoc}
 use native.Mathlib.Omega.{arith}
 use lib.ListN.{length, length-append}
 use Rattle.octets.specs.Bytes.{Bytes, bigEndian}
 use Rattle.octets.specs.Put.{put}
-use Rattle.octets.proofs.Laying.{put-next}
+use Rattle.octets.proofs.Runs.{laid-as, laid-then}
 use Rattle.packet.specs.declared.Shape.{Shape}
 use Rattle.packet.specs.declared.Written.the-variants as WV
 use Rattle.packet.specs.Arguments.{join}
 use Rattle.packet.specs.Packet.{packet, writeRefusal}
 use Rattle.packet.specs.Answers.{Writing, finished, writing}
 
-module _ (magic out : Bytes) (kind : ℕ) (four : length magic ≡ 4) where
-  pub header-laid : (size : ℕ) (k s o p q : Bytes) → o ≡ put 0 magic out → k ≡ bigEndian kind → p ≡ put 4 k o → s ≡ bigEndian size → q ≡ put 8 s p
-      → q ≡ put 0 (magic ++ (bigEndian kind ++ bigEndian size)) out
-  header-laid size k s o p q eo ek ep es eq =
-      let f : put 4 (bigEndian kind) (put 0 magic out) ≡ put 0 (magic ++ bigEndian kind) out = put-next 0 magic (bigEndian kind) out 4 four in
-      let n : length (magic ++ bigEndian kind) ≡ 8 = omega (arith, length-append magic (bigEndian kind)) in
-      rw (eq, ep, eo, ek, es, f, ← append-assoc magic (bigEndian kind) (bigEndian size)) (put-next 0 (magic ++ bigEndian kind) (bigEndian size) out 8 n)
+header-long : (magic : Bytes) (kind size : ℕ) → length magic ≡ 4 → length (magic ++ (bigEndian kind ++ bigEndian size)) ≡ 12
+header-long magic kind size four = omega (arith, length-append magic (bigEndian kind ++ bigEndian size))
 
-  module _ (d : Bytes) where
-    pub packet-length : (r : ℕ) → r ≡ 12 + length d → r ≡ length (packet magic kind d)
-    unfolding packet
-    packet-length r e = omega (arith, length-append magic (bigEndian kind ++ (bigEndian (length d) ++ d)))
-
-    pub packet-laid : (size : ℕ) (o p : Bytes) → length d < 65536 → size ≡ min 65536 (length d) → o ≡ put 0 (magic ++ (bigEndian kind ++ bigEndian size)) out → p ≡ put 12 d o
-        → p ≡ put 0 (packet magic kind d) out
-    unfolding packet
-    packet-laid size o p h es eo ep =
-        let q : size ≡ length d = omega arith in
-        let front = magic ++ (bigEndian kind ++ bigEndian (length d)) in
-        let n : length front ≡ 12 = omega (arith, length-append magic (bigEndian kind ++ bigEndian (length d))) in
-        rw (ep, eo, q) (put-next 0 front d out 12 n ∙ ap (λ (l : Bytes). put 0 l out) (append-assoc magic (bigEndian kind ++ bigEndian (length d)) d))
+-- the header, and the data right behind it
+pub packet-laid : (magic out d : Bytes) (kind size : ℕ) → length magic ≡ 4 → length d < 65536 → size ≡ min 65536 (length d)
+    → (p : ℕ) (o : Bytes) → (p ≡ 0 + 12) × (o ≡ put 0 (magic ++ (bigEndian kind ++ bigEndian size)) out)
+    → (r : ℕ) (u : Bytes) → (r ≡ p + length d) × (u ≡ put p d o)
+    → (r ≡ length (packet magic kind d)) × (u ≡ put 0 (packet magic kind d) out)
+unfolding packet
+packet-laid magic out d kind size four h es p o e r u f =
+    let place : p ≡ 0 + length (magic ++ (bigEndian kind ++ bigEndian size)) = omega (arith, header-long magic kind size four, e .0) in
+    let q : size ≡ length d = omega arith in
+    let same : (magic ++ (bigEndian kind ++ bigEndian size)) ++ d ≡ packet magic kind d = rw q (append-assoc magic (bigEndian kind ++ bigEndian (length d)) d) in
+    let l = laid-as _ _ same 0 r u out (laid-then 0 (magic ++ (bigEndian kind ++ bigEndian size)) d out p o (place, e .1) r u f) in
+    (omega (arith, l .0), l .1)
 
 -- a refusal answers its number and leaves the output; without one the answer is the packet's length
 finished-refused : (n : ℕ) (p out : Bytes) → (n ≡ 0 → ⊥) → record { answer = WV.Refused n; output = out } ≡ finished n p out

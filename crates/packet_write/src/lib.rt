@@ -6,8 +6,6 @@ use packet::Written;
 ghost use mathlib.Core.Path.{_≡_};
 ghost use Prim.Native.Nat.{_+_, _≤_, _<_};
 ghost use lib.ListN.{length};
-ghost use mathlib.Core.List.{_++_};
-ghost use Rattle.octets.specs.Bytes.{bigEndian};
 ghost use Rattle.octets.specs.Put.{put};
 ghost use Rattle.packet.specs.Arguments.{join};
 ghost use Rattle.packet.specs.Packet.{given, packet, requests, responses, writeRefusal};
@@ -44,18 +42,6 @@ fn refusal(
     0
 }
 
-// Lays a header over the start of `out`.
-fn put_header(out: &mut [u8], magic: &[u8], kind: u32, size: u32)
-    requires { ⌜ (length (now magic) ≡ 4) × (12 ≤ length (now out)) ⌝ }
-    ensures { λ _. ⌜ now (out .exit) ≡ put 0 (now (magic .entry) ++ (bigEndian kind ++ bigEndian size)) (now (out .entry)) ⌝ }
-{
-    octets::put(out, 0, magic);
-    let kind_bytes = octets::big_endian(kind);
-    octets::put(out, 4, &kind_bytes);
-    let size_bytes = octets::big_endian(size);
-    octets::put(out, 8, &size_bytes);
-}
-
 // Lays a packet over the start of `out`, and returns its length.
 fn put_packet(
     out: &mut [u8],
@@ -74,8 +60,8 @@ fn put_packet(
         × (now (out .exit) ≡ put 0 (packet (now (magic .entry)) kind (join (given count (now (a .entry)) (now (b .entry)) (now (c .entry)) (now (d .entry)) (now (e .entry))))) (now (out .entry))) ⌝ }
 {
     let size = joining::joined_length(count, a, b, c, d, e);
-    put_header(out, magic, kind, size as u32);
-    joining::put_joined(out, 12, count, a, b, c, d, e)
+    let data = joining::put_header(out, 0, magic, kind, size as u32);
+    joining::put_joined(out, data, count, a, b, c, d, e)
 }
 
 // Writes a packet of this shape and magic.

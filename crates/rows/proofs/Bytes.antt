@@ -16,7 +16,7 @@ use Rattle.plans.specs.Values.{valuesOf}
 use Rattle.table_bytes.proofs.Fields.{length-little}
 use Rattle.table_bytes.proofs.Columns.{numbers-long, flags-long, texts-long}
 use Rattle.rows.specs.Columns.{rowBytes, numberBytes, textBytes, flagBytes, connectionBytes}
-use Rattle.rows.proofs.Writing.{column-map}
+use Rattle.rows.proofs.Written.{column-map}
 
 -- ---- the three runs
 

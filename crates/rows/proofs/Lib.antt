@@ -1,3 +1,3 @@
 pub mod Reading
-pub mod Writing
+pub mod Written
 pub mod Bytes

@@ -1,4 +1,4 @@
--- Laws of the table's numbers read: an array filled place after place, and the arrays that this gives.
+-- Laws of the table's numbers read: an array filled place after place, the arrays that this gives, and what stands at one place.
 -- Assumes nothing.
 use Prim.Native.Nat.{ℕ, zero, suc, _+_, _*_, _≤_, _<_}
 use mathlib.Core.Path.{_≡_, refl, sym, ap, _∙_}
@@ -14,9 +14,9 @@ use Rattle.server.specs.declared.JobRow.{JobRow}
 use Rattle.server.specs.Lists.{numbers}
 use Rattle.server.specs.Table.{noRow, closed}
 use Rattle.server.specs.Layout.{littleAt, connectionIn, functionIn, rowIn, jobIn, tableOf}
-use Rattle.table_bytes.proofs.Columns.{length-places, places-at}
 use Rattle.plans.specs.Values.{ablesOf, rowsOf, valuesOf}
 use Rattle.plans.specs.Plans as P
+use Rattle.table_bytes.proofs.Columns.{length-places, places-at}
 
 -- ---- an array filled
 
@@ -42,63 +42,71 @@ map-map : {A B C : Type 0} (g : B → C) (f : A → B) (xs : List A) → map g (
 map-map g f [] = refl
 map-map g f (x ∷ xs) = ap (λ l. g (f x) ∷ l) (map-map g f xs)
 
-module _ (b : Bytes) (i : ℕ) where
-  pub rows-read : (l : List JobRow) → i ≤ 32 → 32 ≤ i → length l ≡ 32 → take i l ≡ map (rowIn b) (numbers 0 i) → l ≡ rowsOf (tableOf 16 b)
+module _ (b : Bytes) where
+  -- the rows and the sets that the bytes hold, place after place
+  pub rows-are : rowsOf (tableOf 16 b) ≡ map (rowIn b) (numbers 0 32)
   unfolding tableOf
-  rows-read l h g k t = filled (rowIn b) l i 32 h g k t ∙ sym (map-map (λ j. j .row) (jobIn b) (numbers 0 32))
+  rows-are = map-map (λ j. j .row) (jobIn b) (numbers 0 32)
 
-  pub able-read : (l : List ℕ) → i ≤ 16 → 16 ≤ i → length l ≡ 16 → take i l ≡ map (λ q. littleAt 4 b (4 + 4 * q)) (numbers 0 i) → l ≡ ablesOf (tableOf 16 b)
+  pub ables-are : ablesOf (tableOf 16 b) ≡ map (λ q. littleAt 4 b (4 + 4 * q)) (numbers 0 16)
   unfolding tableOf
-  able-read l h g k t = filled (λ q. littleAt 4 b (4 + 4 * q)) l i 16 h g k t ∙ sym (map-map (λ x. x .able) (functionIn b) (numbers 0 16))
+  ables-are = map-map (λ x. x .able) (functionIn b) (numbers 0 16)
 
-  pub connections-read : (l : List Connection) → i ≤ 16 → 16 ≤ i → length l ≡ 16 → take i l ≡ map (connectionIn 16 b) (numbers 0 i) → l ≡ tableOf 16 b .connections
-  unfolding tableOf
-  connections-read l h g k t = filled (connectionIn 16 b) l i 16 h g k t
+  module _ (i : ℕ) where
+    pub rows-read : (l : List JobRow) → i ≤ 32 → 32 ≤ i → length l ≡ 32 → take i l ≡ map (rowIn b) (numbers 0 i) → l ≡ rowsOf (tableOf 16 b)
+    rows-read l h g k t = filled (rowIn b) l i 32 h g k t ∙ sym rows-are
+
+    pub able-read : (l : List ℕ) → i ≤ 16 → 16 ≤ i → length l ≡ 16 → take i l ≡ map (λ q. littleAt 4 b (4 + 4 * q)) (numbers 0 i) → l ≡ ablesOf (tableOf 16 b)
+    able-read l h g k t = filled (λ q. littleAt 4 b (4 + 4 * q)) l i 16 h g k t ∙ sym ables-are
+
+    pub connections-read : (l : List Connection) → i ≤ 16 → 16 ≤ i → length l ≡ 16 → take i l ≡ map (connectionIn 16 b) (numbers 0 i) → l ≡ tableOf 16 b .connections
+    unfolding tableOf
+    connections-read l h g k t = filled (connectionIn 16 b) l i 16 h g k t
+
+pub last-read : (b : Bytes) (last : ℕ) → last ≡ littleAt 4 b 0 → last ≡ valuesOf (tableOf 16 b) .last
+unfolding valuesOf tableOf
+last-read b last e = e
 
 pub values-read : (b : Bytes) (last : ℕ) (connections : List Connection) (able : List ℕ) (rows : List JobRow)
-    → last ≡ littleAt 4 b 0 → connections ≡ tableOf 16 b .connections → able ≡ ablesOf (tableOf 16 b) → rows ≡ rowsOf (tableOf 16 b)
+    → last ≡ valuesOf (tableOf 16 b) .last → connections ≡ tableOf 16 b .connections → able ≡ ablesOf (tableOf 16 b) → rows ≡ rowsOf (tableOf 16 b)
     → record { last = last; connections = connections; able = able; rows = rows } ≡ valuesOf (tableOf 16 b)
 unfolding valuesOf tableOf
 values-read b last connections able rows el ec ea er = rw (el, ec, ea, er)
 
--- ---- one place: what stands there, or an empty one beyond the last
+-- ---- one place
 
-module _ {A : Type 0} (g : ℕ → A) (d : A) (n k : ℕ) where
-  read-at : (l : List A) → l ≡ map g (numbers 0 n) → k < n → g k ≡ getD l k d
-  read-at l e h = sym (ap (λ (x : List A). getD x k d) e ∙ places-at g d n k h)
+-- what stands at a place is what is read there, and beyond the last place the empty one
+module _ {A : Type 0} (f : ℕ → A) (d : A) (n : ℕ) (l : List A) (i : ℕ) (e : l ≡ map f (numbers 0 n)) where
+  pub column-at : i < n → getD l i d ≡ f i
+  column-at h = rw e (places-at f d n i h)
 
-  read-beyond : (l : List A) → l ≡ map g (numbers 0 n) → n ≤ k → d ≡ getD l k d
-  read-beyond l e h = sym (List·getD-eq-default l d {n = k} (omega (arith, ap length e, length-places g 0 n)))
+  column-beyond : n ≤ i → getD l i d ≡ d
+  column-beyond h = rw e (List·getD-eq-default (map f (numbers 0 n)) d (rw (length-places f 0 n) h))
 
-module _ (b : Bytes) (k : ℕ) where
-  rows-are : rowsOf (tableOf 16 b) ≡ map (rowIn b) (numbers 0 32)
-  unfolding tableOf
-  rows-are = map-map (λ j. j .row) (jobIn b) (numbers 0 32)
+module _ (b : Bytes) (i : ℕ) where
+  pub row-place : i < 32 → getD (rowsOf (tableOf 16 b)) i noRow ≡ rowIn b i
+  row-place = column-at (rowIn b) noRow 32 (rowsOf (tableOf 16 b)) i (rows-are b)
 
-  ables-are : ablesOf (tableOf 16 b) ≡ map (λ q. littleAt 4 b (4 + 4 * q)) (numbers 0 16)
-  unfolding tableOf
-  ables-are = map-map (λ x. x .able) (functionIn b) (numbers 0 16)
-
-  pub row-at : k < 32 → rowIn b k ≡ P.rowIn (valuesOf (tableOf 16 b)) k
+  pub row-inside : (x : JobRow) → i < 32 → x ≡ rowIn b i → x ≡ P.rowIn (valuesOf (tableOf 16 b)) i
   unfolding valuesOf
-  row-at h = read-at (rowIn b) noRow 32 k (rowsOf (tableOf 16 b)) rows-are h
+  row-inside x h g = g ∙ sym (row-place h)
 
-  pub row-beyond : 32 ≤ k → noRow ≡ P.rowIn (valuesOf (tableOf 16 b)) k
+  pub row-beyond : (x : JobRow) → 32 ≤ i → x ≡ noRow → x ≡ P.rowIn (valuesOf (tableOf 16 b)) i
   unfolding valuesOf
-  row-beyond h = read-beyond (rowIn b) noRow 32 k (rowsOf (tableOf 16 b)) rows-are h
+  row-beyond x h g = g ∙ sym (column-beyond (rowIn b) noRow 32 (rowsOf (tableOf 16 b)) i (rows-are b) h)
 
-  pub able-at : k < 16 → littleAt 4 b (4 + 4 * k) ≡ getD (valuesOf (tableOf 16 b) .able) k 0
+  pub able-inside : (x : ℕ) → i < 16 → x ≡ littleAt 4 b (4 + 4 * i) → x ≡ getD (valuesOf (tableOf 16 b) .able) i 0
   unfolding valuesOf
-  able-at h = read-at (λ q. littleAt 4 b (4 + 4 * q)) 0 16 k (ablesOf (tableOf 16 b)) ables-are h
+  able-inside x h g = g ∙ sym (column-at (λ q. littleAt 4 b (4 + 4 * q)) 0 16 (ablesOf (tableOf 16 b)) i (ables-are b) h)
 
-  pub able-beyond : 16 ≤ k → 0 ≡ getD (valuesOf (tableOf 16 b) .able) k 0
+  pub able-beyond : (x : ℕ) → 16 ≤ i → x ≡ 0 → x ≡ getD (valuesOf (tableOf 16 b) .able) i 0
   unfolding valuesOf
-  able-beyond h = read-beyond (λ q. littleAt 4 b (4 + 4 * q)) 0 16 k (ablesOf (tableOf 16 b)) ables-are h
+  able-beyond x h g = g ∙ sym (column-beyond (λ q. littleAt 4 b (4 + 4 * q)) 0 16 (ablesOf (tableOf 16 b)) i (ables-are b) h)
 
-  pub connection-at : k < 16 → connectionIn 16 b k ≡ P.connectionIn (valuesOf (tableOf 16 b)) k
+  pub connection-inside : (x : Connection) → i < 16 → x ≡ connectionIn 16 b i → x ≡ P.connectionIn (valuesOf (tableOf 16 b)) i
   unfolding valuesOf tableOf
-  connection-at h = read-at (connectionIn 16 b) closed 16 k (tableOf 16 b .connections) refl h
+  connection-inside x h g = g ∙ sym (column-at (connectionIn 16 b) closed 16 (tableOf 16 b .connections) i refl h)
 
-  pub connection-beyond : 16 ≤ k → closed ≡ P.connectionIn (valuesOf (tableOf 16 b)) k
+  pub connection-beyond : (x : Connection) → 16 ≤ i → x ≡ closed → x ≡ P.connectionIn (valuesOf (tableOf 16 b)) i
   unfolding valuesOf tableOf
-  connection-beyond h = read-beyond (connectionIn 16 b) closed 16 k (tableOf 16 b .connections) refl h
+  connection-beyond x h g = g ∙ sym (column-beyond (connectionIn 16 b) closed 16 (tableOf 16 b .connections) i refl h)

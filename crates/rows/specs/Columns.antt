@@ -10,8 +10,8 @@ use Rattle.server.specs.Lists.{fit}
 use Rattle.server.specs.Table.{Table}
 use Rattle.server.specs.Layout.{little, flagByte, column}
 use Rattle.plans.specs.declared.Values.{Values}
-use Rattle.rows.specs.declared.Columns as C′
-use Rattle.rows.specs.declared.Flags as F′
+use Rattle.rows.specs.declared.writing.Columns as C′
+use Rattle.rows.specs.declared.writing.Flags as F′
 
 -- ---- the three runs
 

@@ -1,43 +1,54 @@
-// The numbers of a table read from the lent bytes into arrays by value, and written back: the columns of docs/TABLE.md,
-// little-endian. Texts stay in the bytes. An inner crate: each function asks its callers that its places lie inside the bytes, and
-// refuses nothing.
+// The numbers of a table in the lent bytes: one row, one set or one connection read at its place, all of them read into arrays by
+// value, and all of them written back: the columns of docs/TABLE.md, little-endian. Texts stay in the bytes. An inner crate: each
+// function asks its callers that the table lies inside the bytes, and refuses nothing; a place beyond the last is read as an empty one.
+mod writing;
+
 use plans::Values;
 use server::Connection;
 use server::JobRow;
 ghost use mathlib.Core.Path.{_≡_};
-ghost use mathlib.Core.List.{_++_};
-ghost use Prim.Native.Nat.{_+_, _*_, _≤_, _<_};
+ghost use Prim.Native.Nat.{_≤_, _<_};
 ghost use lib.ListN.{length, getD};
 ghost use Rattle.octets.specs.Put.{put};
-ghost use Rattle.server.specs.Layout.{column, little, rowIn, tableOf};
+ghost use Rattle.server.specs.Table.{closed, noRow};
+ghost use Rattle.server.specs.Layout as L;
+ghost use Rattle.server.specs.Layout.{tableOf};
 ghost use Rattle.plans.specs.Values.{ablesOf, rowsOf, valuesOf};
 ghost use Rattle.plans.specs.Plans as P;
-ghost use Rattle.rows.specs.Columns.{columnsOf, connectionBytes, flagBytes, flagsOf, numberBytes, rowBytes};
+ghost use Rattle.rows.specs.Columns.{connectionBytes, numberBytes};
 
-// The numbers of the rows, field by field, as the layout has them; a flag is 0 or 1.
-struct Columns {
-    serial: [u32; 32],
-    listeners: [u32; 32],
-    size: [u16; 32],
-    holder: [u16; 32],
-    priority: [u8; 32],
-    background: [u8; 32],
-    function: [u8; 32],
+// ---- one place
+
+// A free row.
+fn no_row() -> JobRow
+    ensures { λ r. ⌜ r ≡ noRow ⌝ }
+{
+    JobRow {
+        serial: 0,
+        function: 0,
+        priority: 0,
+        background: false,
+        listeners: 0,
+        holder: 0,
+        size: 0,
+    }
 }
 
-// The connections' flags, field by field.
-struct Flags {
-    opened: [u8; 16],
-    asleep: [u8; 16],
-    exceptions: [u8; 16],
+// A closed connection.
+fn no_connection() -> Connection
+    ensures { λ r. ⌜ r ≡ closed ⌝ }
+{
+    Connection {
+        opened: false,
+        asleep: false,
+        exceptions: false,
+    }
 }
 
-// ---- reading
-
-// The row of the job at place `p`.
+// The row of the job at one of the 32 places.
 fn read_row(table: &[u8], p: usize) -> JobRow
     requires { ⌜ (3796 ≤ length (now table)) × (p < 32) ⌝ }
-    ensures { λ r. ⌜ r ≡ rowIn (now (table .entry)) p ⌝ }
+    ensures { λ r. ⌜ r ≡ L.rowIn (now (table .entry)) p ⌝ }
 {
     JobRow {
         serial: little::number4(table, 68 + 4 * p),
@@ -50,26 +61,30 @@ fn read_row(table: &[u8], p: usize) -> JobRow
     }
 }
 
-// The row of the job at a place; a free one beyond the last.
+// The row of one of the 16 connections.
+fn read_connection(table: &[u8], c: usize) -> Connection
+    requires { ⌜ (3796 ≤ length (now table)) × (c < 16) ⌝ }
+    ensures { λ r. ⌜ r ≡ L.connectionIn 16 (now (table .entry)) c ⌝ }
+{
+    Connection {
+        opened: table[3748 + c] == 1,
+        asleep: table[3764 + c] == 1,
+        exceptions: table[3780 + c] == 1,
+    }
+}
+
+// The row of the job at a place: a free one beyond the last.
 pub fn row_at(table: &[u8], p: usize) -> JobRow
     requires { ⌜ 3796 ≤ length (now table) ⌝ }
     ensures { λ r. ⌜ r ≡ P.rowIn (valuesOf (tableOf 16 (now (table .entry)))) p ⌝ }
 {
     if 32 <= p {
-        return JobRow {
-            serial: 0,
-            function: 0,
-            priority: 0,
-            background: false,
-            listeners: 0,
-            holder: 0,
-            size: 0,
-        };
+        return no_row();
     }
     read_row(table, p)
 }
 
-// The connections able to do the function at a place; nobody beyond the last.
+// The connections able to do the function at a place: nobody beyond the last.
 pub fn able_at(table: &[u8], q: usize) -> u32
     requires { ⌜ 3796 ≤ length (now table) ⌝ }
     ensures { λ r. ⌜ r ≡ getD (valuesOf (tableOf 16 (now (table .entry))) .able) q 0 ⌝ }
@@ -80,40 +95,33 @@ pub fn able_at(table: &[u8], q: usize) -> u32
     little::number4(table, 4 + 4 * q)
 }
 
-// The row of a connection; a closed one beyond the last.
+// The row of a connection: a closed one beyond the last.
 pub fn connection_at(table: &[u8], c: usize) -> Connection
     requires { ⌜ 3796 ≤ length (now table) ⌝ }
     ensures { λ r. ⌜ r ≡ P.connectionIn (valuesOf (tableOf 16 (now (table .entry)))) c ⌝ }
 {
     if 16 <= c {
-        return Connection {
-            opened: false,
-            asleep: false,
-            exceptions: false,
-        };
+        return no_connection();
     }
-    Connection {
-        opened: table[3748 + c] == 1,
-        asleep: table[3764 + c] == 1,
-        exceptions: table[3780 + c] == 1,
-    }
+    read_connection(table, c)
 }
+
+// The last serial given out.
+pub fn last(table: &[u8]) -> u32
+    requires { ⌜ 3796 ≤ length (now table) ⌝ }
+    ensures { λ r. ⌜ r ≡ valuesOf (tableOf 16 (now (table .entry))) .last ⌝ }
+{
+    little::number4(table, 0)
+}
+
+// ---- all numbers
 
 // The rows of all jobs.
 pub fn read_rows(table: &[u8]) -> [JobRow; 32]
     requires { ⌜ 3796 ≤ length (now table) ⌝ }
     ensures { λ r. ⌜ r ≡ rowsOf (tableOf 16 (now (table .entry))) ⌝ }
 {
-    let free = JobRow {
-        serial: 0,
-        function: 0,
-        priority: 0,
-        background: false,
-        listeners: 0,
-        holder: 0,
-        size: 0,
-    };
-    let mut rows = [free; 32];
+    let mut rows = [no_row(); 32];
     let mut i = 0;
     while i < 32 {
         rows[i] = read_row(table, i);
@@ -141,19 +149,10 @@ fn read_connections(table: &[u8]) -> [Connection; 16]
     requires { ⌜ 3796 ≤ length (now table) ⌝ }
     ensures { λ r. ⌜ r ≡ (tableOf 16 (now (table .entry))) .connections ⌝ }
 {
-    let closed = Connection {
-        opened: false,
-        asleep: false,
-        exceptions: false,
-    };
-    let mut connections = [closed; 16];
+    let mut connections = [no_connection(); 16];
     let mut i = 0;
     while i < 16 {
-        connections[i] = Connection {
-            opened: table[3748 + i] == 1,
-            asleep: table[3764 + i] == 1,
-            exceptions: table[3780 + i] == 1,
-        };
+        connections[i] = read_connection(table, i);
         i += 1;
     }
     connections
@@ -164,7 +163,7 @@ pub fn read_values(table: &[u8]) -> Values
     requires { ⌜ 3796 ≤ length (now table) ⌝ }
     ensures { λ r. ⌜ r ≡ valuesOf (tableOf 16 (now (table .entry))) ⌝ }
 {
-    let last = little::number4(table, 0);
+    let last = last(table);
     let connections = read_connections(table);
     let able = read_able(table);
     let rows = read_rows(table);
@@ -176,163 +175,15 @@ pub fn read_values(table: &[u8]) -> Values
     }
 }
 
-// ---- writing
-
-// The fields of the rows, each in an array of its own.
-fn columns_of(rows: [JobRow; 32]) -> Columns
-    ensures { λ r. ⌜ r ≡ columnsOf rows ⌝ }
-{
-    let mut c = Columns {
-        serial: [0; 32],
-        listeners: [0; 32],
-        size: [0; 32],
-        holder: [0; 32],
-        priority: [0; 32],
-        background: [0; 32],
-        function: [0; 32],
-    };
-    let mut i = 0;
-    while i < 32 {
-        let r = rows[i];
-        c.serial[i] = r.serial;
-        c.listeners[i] = r.listeners;
-        c.size[i] = r.size;
-        c.holder[i] = r.holder;
-        c.priority[i] = r.priority;
-        c.background[i] = r.background as u8;
-        c.function[i] = r.function;
-        i += 1;
-    }
-    c
-}
-
-// The connections' flags, each in an array of its own.
-fn flags_of(connections: [Connection; 16]) -> Flags
-    ensures { λ r. ⌜ r ≡ flagsOf connections ⌝ }
-{
-    let mut f = Flags {
-        opened: [0; 16],
-        asleep: [0; 16],
-        exceptions: [0; 16],
-    };
-    let mut i = 0;
-    while i < 16 {
-        let c = connections[i];
-        f.opened[i] = c.opened as u8;
-        f.asleep[i] = c.asleep as u8;
-        f.exceptions[i] = c.exceptions as u8;
-        i += 1;
-    }
-    f
-}
-
-// Lays a column of numbers in four bytes over the table from `at` on.
-fn put_column4(table: &mut [u8], at: usize, values: &[u32])
-    requires { ⌜ at + 4 * length (now values) ≤ length (now table) ⌝ }
-    ensures { λ _. ⌜ now (table .exit) ≡ put at (column (little 4) (now (values .entry))) (now (table .entry)) ⌝ }
-{
-    let mut i = 0;
-    while i < values.len() {
-        little::put4(table, at + 4 * i, values[i]);
-        i += 1;
-    }
-}
-
-// Lays a column of numbers in two bytes over the table from `at` on.
-fn put_column2(table: &mut [u8], at: usize, values: &[u16])
-    requires { ⌜ at + 2 * length (now values) ≤ length (now table) ⌝ }
-    ensures { λ _. ⌜ now (table .exit) ≡ put at (column (little 2) (now (values .entry))) (now (table .entry)) ⌝ }
-{
-    let mut i = 0;
-    while i < values.len() {
-        little::put2(table, at + 2 * i, values[i]);
-        i += 1;
-    }
-}
-
-// Lays a column of numbers in one byte over the table from `at` on.
-fn put_column1(table: &mut [u8], at: usize, values: &[u8])
-    requires { ⌜ at + length (now values) ≤ length (now table) ⌝ }
-    ensures { λ _. ⌜ now (table .exit) ≡ put at (column (little 1) (now (values .entry))) (now (table .entry)) ⌝ }
-{
-    octets::put(table, at, values);
-}
-
-// Lays the last serial and the sets of able connections over the table's start.
-fn write_head(table: &mut [u8], last: u32, able: [u32; 16])
-    requires { ⌜ 3796 ≤ length (now table) ⌝ }
-    ensures { λ _. ⌜ now (table .exit) ≡ put 0 (little 4 last ++ column (little 4) able) (now (table .entry)) ⌝ }
-{
-    little::put4(table, 0, last);
-    put_column4(table, 4, &able);
-}
-
-// Lays the rows' columns of four bytes over the table.
-fn write_fours(table: &mut [u8], serial: [u32; 32], listeners: [u32; 32])
-    requires { ⌜ 3796 ≤ length (now table) ⌝ }
-    ensures { λ _. ⌜ now (table .exit) ≡ put 68 (column (little 4) serial ++ column (little 4) listeners) (now (table .entry)) ⌝ }
-{
-    put_column4(table, 68, &serial);
-    put_column4(table, 196, &listeners);
-}
-
-// Lays the rows' columns of two bytes over the table.
-fn write_twos(table: &mut [u8], size: [u16; 32], holder: [u16; 32])
-    requires { ⌜ 3796 ≤ length (now table) ⌝ }
-    ensures { λ _. ⌜ now (table .exit) ≡ put 324 (column (little 2) size ++ column (little 2) holder) (now (table .entry)) ⌝ }
-{
-    put_column2(table, 324, &size);
-    put_column2(table, 388, &holder);
-}
-
-// Lays the rows' columns of one byte over the table.
-fn write_ones(table: &mut [u8], priority: [u8; 32], background: [u8; 32], function: [u8; 32])
-    requires { ⌜ 3796 ≤ length (now table) ⌝ }
-    ensures { λ _. ⌜ now (table .exit) ≡ put 452 (column (little 1) priority ++ (column (little 1) background ++ column (little 1) function)) (now (table .entry)) ⌝ }
-{
-    put_column1(table, 452, &priority);
-    put_column1(table, 484, &background);
-    put_column1(table, 516, &function);
-}
-
-// Lays the rows over the table.
-fn write_rows(table: &mut [u8], rows: [JobRow; 32])
-    requires { ⌜ 3796 ≤ length (now table) ⌝ }
-    ensures { λ _. ⌜ now (table .exit) ≡ put 68 (rowBytes rows) (now (table .entry)) ⌝ }
-{
-    let c = columns_of(rows);
-    let serial = c.serial;
-    let listeners = c.listeners;
-    write_fours(table, serial, listeners);
-    let size = c.size;
-    let holder = c.holder;
-    write_twos(table, size, holder);
-    let priority = c.priority;
-    let background = c.background;
-    let function = c.function;
-    write_ones(table, priority, background, function);
-}
-
-// Lays the connections' flags over the table.
-fn write_connections(table: &mut [u8], connections: [Connection; 16])
-    requires { ⌜ 3796 ≤ length (now table) ⌝ }
-    ensures { λ _. ⌜ now (table .exit) ≡ put 3748 (flagBytes connections) (now (table .entry)) ⌝ }
-{
-    let f = flags_of(connections);
-    put_column1(table, 3748, &f.opened);
-    put_column1(table, 3764, &f.asleep);
-    put_column1(table, 3780, &f.exceptions);
-}
-
 // Lays the numbers over the table; its texts stay.
 pub fn write_values(table: &mut [u8], v: Values)
     requires { ⌜ 3796 ≤ length (now table) ⌝ }
     ensures { λ _. ⌜ now (table .exit) ≡ put 0 (numberBytes v) (put 3748 (connectionBytes v) (now (table .entry))) ⌝ }
 {
     let connections = v.connections;
-    write_connections(table, connections);
+    writing::write_connections(table, connections);
     let able = v.able;
-    write_head(table, v.last, able);
+    writing::write_head(table, v.last, able);
     let rows = v.rows;
-    write_rows(table, rows);
+    writing::write_rows(table, rows);
 }

@@ -1,2 +1,2 @@
 pub mod Lowest
-pub mod Greatest
+pub mod Alike

@@ -1,6 +1,6 @@
 -- How a loop that looks for the lowest place where a test holds meets its definition: a search is the search among the entries
 -- from i on, with i added to the place that it finds. Assumes nothing.
-use Prim.Native.Nat.{ℕ, _+_, _<_, _≤_}
+use Prim.Native.Nat.{ℕ, zero, suc, _+_, _<_, _≤_}
 use mathlib.Core.Path.{_≡_, refl, ap, sym, _∙_}
 use mathlib.Core.Bool.{Bool, true, false}
 use mathlib.Core.Option.{Option, none, some}
@@ -10,7 +10,8 @@ use native.Mathlib.Numerals.{add-one}
 use native.Mathlib.Omega.{arith}
 use lib.ListN.{length, getD, drop, drop-of-length-le}
 use lib.Seq.{drop-cons}
-use Rattle.server.specs.Lists.{up, find}
+use Rattle.server.specs.Lists.{up, find, numbers}
+use Rattle.server.proofs.Lists.{length-numbers}
 use Rattle.plans.specs.declared.Place.the-variants.{At, Nowhere}
 use Rattle.plans.specs.Values.{placed}
 
@@ -42,3 +43,23 @@ module _ {A : Type 0} (p : A → Bool) (l : List A) where
 
     pub lowest-none : length l ≤ i → Nowhere ≡ placed (find p l)
     lowest-none h = let s : upBy i (find p (drop i l)) ≡ none = rw (drop-of-length-le l h) in sym (ap placed (e ∙ s))
+
+-- ---- among the numbers below n
+
+number-is : (i n k : ℕ) → k < n → getD (numbers i n) k 0 ≡ i + k
+number-is i zero k h = absurd (omega arith)
+number-is i (suc n) zero h = omega arith
+number-is i (suc n) (suc k) h = number-is (suc i) n k (omega arith) ∙ omega arith
+
+module _ (p : ℕ → Bool) (n i : ℕ) (e : find p (numbers 0 n) ≡ upBy i (find p (drop i (numbers 0 n)))) where
+  tested : {b : Bool} → i < n → p i ≡ b → p (getD (numbers 0 n) i 0) ≡ b
+  tested h t = rw (number-is 0 n i h, zero-add) t
+
+  pub number-here : i < n → p i ≡ true → At i ≡ placed (find p (numbers 0 n))
+  number-here h t = lowest-here p (numbers 0 n) i 0 e (rw (length-numbers 0 n) h) (tested h t)
+
+  pub number-on : i < n → p i ≡ false → find p (numbers 0 n) ≡ upBy (i + 1) (find p (drop (i + 1) (numbers 0 n)))
+  number-on h t = lowest-on p (numbers 0 n) i 0 e (rw (length-numbers 0 n) h) (tested h t)
+
+  pub number-none : n ≤ i → Nowhere ≡ placed (find p (numbers 0 n))
+  number-none h = lowest-none p (numbers 0 n) i 0 e (rw (length-numbers 0 n) h)

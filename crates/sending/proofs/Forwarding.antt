@@ -101,17 +101,19 @@ module _ (p : Bytes) (ends : Ends) (kind : ℕ) (f : Forwards p ends kind) where
   forward-fit = rw (f .alike) (split-join _ (drop 12 p) (f .arguments) (got-it .splits) .1)
 
   -- the data is the packet's
-  pub forward-data : join (f .arguments) ≡ drop 12 p
+  forward-data : join (f .arguments) ≡ drop 12 p
   forward-data = split-join _ (drop 12 p) (f .arguments) (got-it .splits) .0
 
   pub forward-long : 12 ≤ length p
   forward-long = header-good _ _ p (got-it .headed) .long
 
-  pub forward-sendable : Sendable kind (f .arguments)
-  forward-sendable =
+  pub forward-short : length (drop 12 p) ≤ 1088
+  forward-short =
       let h : Headed (requests .magic) (requests .most) p = header-good _ _ p (got-it .headed) in
-      let l : length (join (f .arguments)) ≤ 1088 = rw (forward-data, length-drop) (omega (arith, h .limited, h .whole)) in
-      record { own = rw (f .alike) (got-it .own); fit = forward-fit; limited = l }
+      rw length-drop (omega (arith, h .limited, h .whole))
+
+  pub forward-sendable : Sendable kind (f .arguments)
+  forward-sendable = record { own = rw (f .alike) (got-it .own); fit = forward-fit; limited = rw forward-data forward-short }
 
   forward-argument : (i : ℕ) → i < 5 → argumentAt p ends i ≡ getD (f .arguments) i []
   forward-argument i h = rw (f .marked) (argument-read requests p (f .from) (f .arguments) (f .reads) i h)

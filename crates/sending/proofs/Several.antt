@@ -1,24 +1,30 @@
 -- One packet to each member of a set, in rising order: what one turn of the loop over the connections adds. Assumes nothing.
-use Prim.Native.Nat.{ℕ, zero, suc, _+_, _-_, _*_, _<_, _≤_}
+use Prim.Native.Nat.{ℕ, zero, suc, _+_, _-_, _/_, _^_, _<_, _≤_}
 use mathlib.Core.Path.{_≡_, refl, ap, _∙_, sym}
-use mathlib.Core.Bool.{Bool, true, false, not, cond}
+use mathlib.Core.Bool.{Bool, true, false, not, cond, _&&_}
 use mathlib.Core.List.{List, [], _∷_, _++_, append-nil, append-assoc}
-use native.Mathlib.Nat.{add-zero, suc-mul}
+use native.Mathlib.Nat.{add-zero, zero-div}
 use native.Mathlib.Numerals.{add-one}
 use native.Mathlib.Omega.{arith}
-use borrow.Author.Tests.{not-true, not-false}
+use borrow.Author.Tests.{ltb-true, ltb-false, not-true, not-false}
+use lib.Dec.{ltb}
+use lib.Pow.{shr-shr}
 use lib.ListN.{length, length-append}
 use Rattle.octets.specs.Bytes.{Bytes}
 use Rattle.octets.specs.Put.{put}
+use Rattle.octets.proofs.Strings.{and-left}
 use Rattle.octets.proofs.Laying.{put-none, put-put}
 use Rattle.sets.specs.Sets.{has, members}
-use Rattle.sending.proofs.Laid.{message-length}
 use Rattle.sending.specs.Messages.{message, messages, messageIf}
 
 messages-append : (ls ms : List ℕ) (kind : ℕ) (d : Bytes) → messages (ls ++ ms) kind d ≡ messages ls kind d ++ messages ms kind d
 unfolding messages
 messages-append [] ms kind d = refl
 messages-append (l ∷ ls) ms kind d = ap (λ (r : Bytes). message l kind d ++ r) (messages-append ls ms kind d) ∙ sym (append-assoc (message l kind d) _ _)
+
+-- the loop's test finds more only below 16
+pub turn-below : (s c : ℕ) (b : Bool) → b ≡ ltb c 16 && ltb 0 (s / 2 ^ c) → b ≡ true → c < 16
+turn-below s c b e t = ltb-true c 16 (and-left (ltb c 16) (ltb 0 (s / 2 ^ c)) (sym e ∙ t))
 
 module _ (s kind : ℕ) (d : Bytes) where
   -- to the members below n
@@ -42,19 +48,31 @@ module _ (s kind : ℕ) (d : Bytes) where
   below-grows c zero = rw add-zero (omega arith)
   below-grows c (suc k) = let q : c + suc k ≡ suc (c + k) = omega arith in rw (q, more-long (c + k)) (omega (arith, below-grows c k))
 
-  if-short : (c : ℕ) → length (messageIf s c kind d) ≤ 13 + length d
-  unfolding messageIf
-  if-short c = at-most (has s c)
-    where
-      at-most : (b : Bool) → length (cond b (message c kind d) []) ≤ 13 + length d
-      at-most true = omega (arith, message-length c kind d)
-      at-most false = omega arith
+  -- ---- none is left
 
-  -- n packets at most
-  pub below-short : (n : ℕ) → length (below n) ≤ n * (13 + length d)
-  unfolding members messages
-  below-short zero = omega arith
-  below-short (suc n) = rw (more-long n, suc-mul) (omega (arith, below-short n, if-short n))
+  -- from where the set is empty on there is nobody
+  lacks : (c k : ℕ) → s / 2 ^ c ≡ 0 → has s (c + k) ≡ false
+  unfolding has
+  lacks c k e = rw (← shr-shr s c k, e, zero-div)
+
+  below-same : (c k : ℕ) → s / 2 ^ c ≡ 0 → below c ≡ below (c + k)
+  unfolding messageIf
+  below-same c zero e = rw add-zero
+  below-same c (suc k) e =
+      let q : c + suc k ≡ suc (c + k) = omega arith in
+      let r : messageIf s (c + k) kind d ≡ [] = rw (lacks c k e) in
+      below-same c k e ∙ rw (q, below-more (c + k), r) (sym (append-nil (below (c + k))))
+
+  -- where it finds no more, all are behind
+  all-below : (c : ℕ) → c ≤ 16 → (b : Bool) → b ≡ ltb c 16 && ltb 0 (s / 2 ^ c) → b ≡ false → below c ≡ below 16
+  all-below c h b e n = by-test (ltb c 16) refl
+    where
+      by-test : (t : Bool) → ltb c 16 ≡ t → below c ≡ below 16
+      by-test true t =
+          let z : ltb 0 (s / 2 ^ c) ≡ false = ap (λ (x : Bool). x && ltb 0 (s / 2 ^ c)) (sym t) ∙ sym e ∙ n in
+          let q : c + (16 - c) ≡ 16 = omega arith in
+          rw q at (below-same c (16 - c) (omega (arith, ltb-false 0 (s / 2 ^ c) z)))
+      by-test false t = let q : c ≡ 16 = omega (arith, ltb-false c 16 t) in rw q
 
   -- ---- one connection, in or not in the set
 
@@ -95,9 +113,9 @@ module _ (s kind : ℕ) (d : Bytes) where
       pub turn-laid : (o p : Bytes) → o ≡ put at (below c) out → p ≡ put place (messageIf s c kind d) o → p ≡ put at (below (c + 1)) out
       turn-laid o p eo e = rw (e, eo, ep, add-one c, below-more c) (put-put at (below c) (messageIf s c kind d) out)
 
-    module _ (c : ℕ) (h : c ≤ 16) (k : 16 ≤ c) where
+    module _ (c : ℕ) (h : c ≤ 16) (b : Bool) (e : b ≡ ltb c 16 && ltb 0 (s / 2 ^ c)) (n : b ≡ false) where
       pub end-place : (r : ℕ) → r ≡ at + length (below c) → r ≡ at + length (below 16)
-      end-place r e = let q : c ≡ 16 = omega arith in rw q at e
+      end-place r p = p ∙ ap (λ (x : Bytes). at + length x) (all-below c h b e n)
 
       pub end-laid : (o : Bytes) → o ≡ put at (below c) out → o ≡ put at (below 16) out
-      end-laid o e = let q : c ≡ 16 = omega arith in rw q at e
+      end-laid o p = p ∙ ap (λ (x : Bytes). put at x out) (all-below c h b e n)

@@ -3,9 +3,9 @@
 use Prim.Native.Nat.{ℕ, _+_, _-_, _/_, _%_, _≤_}
 use mathlib.Core.Path.{_≡_}
 use mathlib.Core.Bool.{Bool, true, cond}
-use mathlib.Core.List.{List, [], _∷_, map}
+use mathlib.Core.List.{List, [], _∷_, _++_, map}
 use lib.ListN.{length, getD}
-use Rattle.octets.specs.Bytes.{Bytes}
+use Rattle.octets.specs.Bytes.{Bytes, bigEndian}
 use Rattle.packet.specs.declared.Ends.{Ends}
 use Rattle.packet.specs.Layout.{isOwn, requestShape, responseShape, rulesOf}
 use Rattle.packet.specs.Arguments.{endsOf, fitAll, join}
@@ -18,6 +18,14 @@ use Rattle.server.specs.Events.{errorTexts, exceptionsName, flag}
 -- 01: "An addressed packet is one connection byte and then the packet."
 unfoldable pub message : ℕ → ℕ → Bytes → Bytes
 message to kind d = to ∷ packet (responses .magic) kind d
+
+-- what stands before its data: the connection byte and the header, which says how long the data is
+unfoldable pub heading : ℕ → ℕ → ℕ → Bytes
+heading to kind size = to ∷ (responses .magic ++ (bigEndian kind ++ bigEndian size))
+
+-- an argument and the zero byte after it
+abbrev pub ended : Bytes → Bytes
+ended a = a ++ (0 ∷ [])
 
 -- the same packet to each of several connections, in their order
 unfoldable pub messages : List ℕ → ℕ → Bytes → Bytes

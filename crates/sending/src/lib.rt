@@ -1,20 +1,19 @@
 // Addressed packets, laid over a lent output: one connection byte and then a response. Each function returns the place after
 // what it laid. An inner crate: its callers see to the arguments and to the room, and nothing is refused.
 use packet::Ends;
-use packet::Written;
 ghost use mathlib.Core.Path.{_≡_};
-ghost use mathlib.Core.List.{[]};
-ghost use mathlib.Core.Bool.{cond, true};
-ghost use Prim.Native.Nat.{_+_, _-_, _≤_, _<_};
+ghost use mathlib.Core.List.{[], _∷_};
+ghost use mathlib.Core.Bool.{cond, true, _&&_};
+ghost use Prim.Native.Nat.{_+_, _-_, _/_, _^_, _≤_, _<_};
+ghost use lib.Dec.{ltb};
 ghost use lib.ListN.{drop, getD, length};
 ghost use Rattle.octets.specs.Put.{put};
 ghost use Rattle.packet.specs.Layout as L;
 ghost use Rattle.packet.specs.Arguments.{fits, join};
-ghost use Rattle.packet.specs.Packet.{given};
 ghost use Rattle.sets.specs.Sets.{members};
 ghost use Rattle.handle.specs.Handle.{padded};
 ghost use Rattle.server.specs.Events.{errorTexts};
-ghost use Rattle.sending.specs.Messages.{Forwards, Sendable, assignArguments, createdArguments, errorArguments, message, messageIf, messages, optionArguments, statusArguments};
+ghost use Rattle.sending.specs.Messages.{Forwards, Sendable, assignArguments, createdArguments, ended, errorArguments, heading, message, messageIf, messages, optionArguments, statusArguments};
 
 // The texts of the refusals from 9 on, each followed by zeros.
 const TEXTS: [[u8; 9]; 7] = [
@@ -27,31 +26,67 @@ const TEXTS: [[u8; 9]; 7] = [
     *b"option\0\0\0",
 ];
 
-// Lays one response with the first `count` of five arguments.
-pub fn send(
-    out: &mut [u8],
-    at: usize,
-    to: u8,
-    kind: u32,
-    count: usize,
-    a: &[u8],
-    b: &[u8],
-    c: &[u8],
-    d: &[u8],
-    e: &[u8],
-) -> usize
-    requires { ⌜ Sendable kind (given count (now a) (now b) (now c) (now d) (now e))
-        × (at + length (message to kind (join (given count (now a) (now b) (now c) (now d) (now e)))) ≤ length (now out)) ⌝ }
-    ensures { λ r. ⌜ (r ≡ at + length (message to kind (join (given count (now (a .entry)) (now (b .entry)) (now (c .entry)) (now (d .entry)) (now (e .entry))))))
-        × (now (out .exit) ≡ put at (message to kind (join (given count (now (a .entry)) (now (b .entry)) (now (c .entry)) (now (d .entry)) (now (e .entry))))) (now (out .entry))) ⌝ }
+// Lays the connection byte and the header of a response with this much data.
+fn put_heading(out: &mut [u8], at: usize, to: u8, kind: u32, size: usize) -> usize
+    requires { ⌜ (size < 2 ^ 32) × (at + 13 ≤ length (now out)) ⌝ }
+    ensures { λ r. ⌜ (r ≡ at + 13) × (now (out .exit) ≡ put at (heading to kind size) (now (out .entry))) ⌝ }
 {
     out[at] = to;
-    let start = at + 1;
-    let written = packet_write::write_response(&mut out[start..], kind, count, a, b, c, d, e);
-    match written {
-        Written::Refused(_) => at, // never: the arguments fit, and there is room
-        Written::Length(size) => start + size,
+    joining::put_header(out, at + 1, b"\0RES", kind, size as u32)
+}
+
+// Lays a response with this data.
+fn send(out: &mut [u8], at: usize, to: u8, kind: u32, d: &[u8]) -> usize
+    requires { ⌜ (length (now d) < 2 ^ 32) × (at + length (message to kind (now d)) ≤ length (now out)) ⌝ }
+    ensures { λ r. ⌜ (r ≡ at + length (message to kind (now (d .entry)))) × (now (out .exit) ≡ put at (message to kind (now (d .entry))) (now (out .entry))) ⌝ }
+{
+    let start = put_heading(out, at, to, kind, d.len());
+    octets::put(out, start, d)
+}
+
+// Lays it, if the connection belongs to the set.
+fn send_if(out: &mut [u8], at: usize, set: u32, c: usize, kind: u32, d: &[u8]) -> usize
+    requires { ⌜ (c < 16) × (length (now d) < 2 ^ 32) × (at + length (messageIf set c kind (now d)) ≤ length (now out)) ⌝ }
+    ensures { λ r. ⌜ (r ≡ at + length (messageIf set c kind (now (d .entry)))) × (now (out .exit) ≡ put at (messageIf set c kind (now (d .entry))) (now (out .entry))) ⌝ }
+{
+    if !sets::has(set, c) {
+        return at;
     }
+    send(out, at, c as u8, kind, d)
+}
+
+// Whether there is more to look at: connection `c` is one of the 16, and the set is not empty from it on.
+fn has_more(set: u32, c: usize) -> bool
+    ensures { λ r. ⌜ r ≡ ltb c 16 && ltb 0 (set / 2 ^ c) ⌝ }
+{
+    if 16 <= c {
+        return false;
+    }
+    0 < set >> c
+}
+
+// Lays a copy for each connection of the set, in rising order; none is looked for behind the last.
+fn send_all(out: &mut [u8], at: usize, to: u32, kind: u32, d: &[u8]) -> usize
+    requires { ⌜ (length (now d) < 2 ^ 32) × (at + length (messages (members 16 to) kind (now d)) ≤ length (now out)) ⌝ }
+    ensures { λ r. ⌜ (r ≡ at + length (messages (members 16 to) kind (now (d .entry)))) × (now (out .exit) ≡ put at (messages (members 16 to) kind (now (d .entry))) (now (out .entry))) ⌝ }
+{
+    let mut place = at;
+    let mut listener: usize = 0;
+    while has_more(to, listener) {
+        place = send_if(out, place, to, listener, kind, d);
+        listener += 1;
+    }
+    place
+}
+
+// Lays an argument and the zero byte after it.
+fn put_argument(out: &mut [u8], at: usize, a: &[u8]) -> usize
+    requires { ⌜ at + length (now a) < length (now out) ⌝ }
+    ensures { λ r. ⌜ (r ≡ at + length (now (a .entry)) + 1) × (now (out .exit) ≡ put at (ended (now (a .entry))) (now (out .entry))) ⌝ }
+{
+    let end = octets::put(out, at, a);
+    out[end] = 0;
+    end + 1
 }
 
 // Lays a packet without data.
@@ -59,7 +94,7 @@ pub fn send_empty(out: &mut [u8], at: usize, to: u8, kind: u32) -> usize
     requires { ⌜ Sendable kind [] × (at + length (message to kind []) ≤ length (now out)) ⌝ }
     ensures { λ r. ⌜ (r ≡ at + length (message to kind [])) × (now (out .exit) ≡ put at (message to kind []) (now (out .entry))) ⌝ }
 {
-    send(out, at, to, kind, 0, b"", b"", b"", b"", b"")
+    put_heading(out, at, to, kind, 0)
 }
 
 // The text of a refusal, followed by zeros.
@@ -79,7 +114,9 @@ pub fn send_error(out: &mut [u8], at: usize, to: u8, number: u8) -> usize
     let digits = [number / 10 + 48, number % 10 + 48];
     let text = error_text(number);
     let size = octets::first_zero(&text);
-    send(out, at, to, 19, 2, &digits, &text[..size], b"", b"", b"")
+    let start = put_heading(out, at, to, 19, 3 + size);
+    let place = put_argument(out, start, &digits);
+    octets::put(out, place, &text[..size])
 }
 
 // Lays JOB_CREATED: the handle of a serial.
@@ -89,8 +126,7 @@ pub fn send_created(out: &mut [u8], at: usize, to: u8, serial: u32) -> usize
 {
     let created = handle::handle_of(serial);
     let text = created.text;
-    let job = &text[..created.length];
-    send(out, at, to, 8, 1, job, b"", b"", b"", b"")
+    send(out, at, to, 8, &text[..created.length])
 }
 
 // Lays OPTION_RES: the name of the option that was set.
@@ -98,7 +134,7 @@ pub fn send_option(out: &mut [u8], at: usize, to: u8) -> usize
     requires { ⌜ at + length (message to 27 (join optionArguments)) ≤ length (now out) ⌝ }
     ensures { λ r. ⌜ (r ≡ at + length (message to 27 (join optionArguments))) × (now (out .exit) ≡ put at (message to 27 (join optionArguments)) (now (out .entry))) ⌝ }
 {
-    send(out, at, to, 27, 1, b"exceptions", b"", b"", b"", b"")
+    send(out, at, to, 27, b"exceptions")
 }
 
 // `1` for yes and `0` for no.
@@ -129,18 +165,50 @@ pub fn send_status(
 {
     let is_known = [flag(known)];
     let is_running = [flag(running)];
-    send(
-        out,
-        at,
-        to,
-        20,
-        5,
-        handle,
-        &is_known,
-        &is_running,
-        numerator,
-        denominator,
-    )
+    let size = handle.len() + numerator.len() + denominator.len() + 6;
+    let start = put_heading(out, at, to, 20, size);
+    let second = put_argument(out, start, handle);
+    let third = put_argument(out, second, &is_known);
+    let fourth = put_argument(out, third, &is_running);
+    let fifth = put_argument(out, fourth, numerator);
+    octets::put(out, fifth, denominator)
+}
+
+// Lays JOB_ASSIGN: the handle, the function and the workload.
+fn assign(out: &mut [u8], at: usize, to: u8, job: &[u8], function: &[u8], workload: &[u8]) -> usize
+    requires { ⌜ (length (now job) + length (now function) + length (now workload) + 2 < 2 ^ 32)
+        × (at + length (message to 11 (join (now job ∷ now function ∷ now workload ∷ []))) ≤ length (now out)) ⌝ }
+    ensures { λ r. ⌜ (r ≡ at + length (message to 11 (join (now (job .entry) ∷ now (function .entry) ∷ now (workload .entry) ∷ []))))
+        × (now (out .exit) ≡ put at (message to 11 (join (now (job .entry) ∷ now (function .entry) ∷ now (workload .entry) ∷ []))) (now (out .entry))) ⌝ }
+{
+    let size = job.len() + function.len() + workload.len() + 2;
+    let start = put_heading(out, at, to, 11, size);
+    let name = put_argument(out, start, job);
+    let load = put_argument(out, name, function);
+    octets::put(out, load, workload)
+}
+
+// Lays JOB_ASSIGN_UNIQ: the handle, the function, the unique and the workload.
+fn assign_uniq(
+    out: &mut [u8],
+    at: usize,
+    to: u8,
+    job: &[u8],
+    function: &[u8],
+    unique: &[u8],
+    workload: &[u8],
+) -> usize
+    requires { ⌜ (length (now job) + length (now function) + length (now unique) + length (now workload) + 3 < 2 ^ 32)
+        × (at + length (message to 31 (join (now job ∷ now function ∷ now unique ∷ now workload ∷ []))) ≤ length (now out)) ⌝ }
+    ensures { λ r. ⌜ (r ≡ at + length (message to 31 (join (now (job .entry) ∷ now (function .entry) ∷ now (unique .entry) ∷ now (workload .entry) ∷ []))))
+        × (now (out .exit) ≡ put at (message to 31 (join (now (job .entry) ∷ now (function .entry) ∷ now (unique .entry) ∷ now (workload .entry) ∷ []))) (now (out .entry))) ⌝ }
+{
+    let size = job.len() + function.len() + unique.len() + workload.len() + 3;
+    let start = put_heading(out, at, to, 31, size);
+    let name = put_argument(out, start, job);
+    let own = put_argument(out, name, function);
+    let load = put_argument(out, own, unique);
+    octets::put(out, load, workload)
 }
 
 // Lays JOB_ASSIGN, or JOB_ASSIGN_UNIQ with the job's unique.
@@ -164,9 +232,9 @@ pub fn send_assign(
     let text = handle.text;
     let job = &text[..handle.length];
     if uniq {
-        return send(out, at, to, 31, 4, job, function, unique, workload, b"");
+        return assign_uniq(out, at, to, job, function, unique, workload);
     }
-    send(out, at, to, 11, 3, job, function, workload, b"", b"")
+    assign(out, at, to, job, function, workload)
 }
 
 // Lays the data of a packet that was read, as it came, in a response of this type.
@@ -174,32 +242,7 @@ pub fn forward(out: &mut [u8], at: usize, to: u8, kind: u32, packet: &[u8], ends
     requires { ⌜ Forwards (now packet) ends kind × (at + length (message to kind (drop 12 (now packet))) ≤ length (now out)) ⌝ }
     ensures { λ r. ⌜ (r ≡ at + length (message to kind (drop 12 (now (packet .entry))))) × (now (out .exit) ≡ put at (message to kind (drop 12 (now (packet .entry)))) (now (out .entry))) ⌝ }
 {
-    let count = kinds::count_of(kinds::response_shape(kind));
-    let a = packet_read::argument(packet, ends, 0);
-    let b = packet_read::argument(packet, ends, 1);
-    let c = packet_read::argument(packet, ends, 2);
-    let d = packet_read::argument(packet, ends, 3);
-    let e = packet_read::argument(packet, ends, 4);
-    send(out, at, to, kind, count, a, b, c, d, e)
-}
-
-// The same, if the connection belongs to the set.
-fn forward_if(
-    out: &mut [u8],
-    at: usize,
-    set: u32,
-    c: usize,
-    kind: u32,
-    packet: &[u8],
-    ends: Ends,
-) -> usize
-    requires { ⌜ (c < 16) × Forwards (now packet) ends kind × (at + length (messageIf set c kind (drop 12 (now packet))) ≤ length (now out)) ⌝ }
-    ensures { λ r. ⌜ (r ≡ at + length (messageIf set c kind (drop 12 (now (packet .entry))))) × (now (out .exit) ≡ put at (messageIf set c kind (drop 12 (now (packet .entry)))) (now (out .entry))) ⌝ }
-{
-    if !sets::has(set, c) {
-        return at;
-    }
-    forward(out, at, c as u8, kind, packet, ends)
+    send(out, at, to, kind, &packet[12..])
 }
 
 // Lays a copy of a packet's data for each connection of the set, in rising order.
@@ -214,24 +257,7 @@ pub fn forward_all(
     requires { ⌜ Forwards (now packet) ends kind × (at + length (messages (members 16 to) kind (drop 12 (now packet))) ≤ length (now out)) ⌝ }
     ensures { λ r. ⌜ (r ≡ at + length (messages (members 16 to) kind (drop 12 (now (packet .entry))))) × (now (out .exit) ≡ put at (messages (members 16 to) kind (drop 12 (now (packet .entry)))) (now (out .entry))) ⌝ }
 {
-    let mut place = at;
-    let mut listener: usize = 0;
-    while listener < 16 {
-        place = forward_if(out, place, to, listener, kind, packet, ends);
-        listener += 1;
-    }
-    place
-}
-
-// Lays a NOOP, if the connection belongs to the set.
-fn wake_if(out: &mut [u8], at: usize, set: u32, c: usize) -> usize
-    requires { ⌜ (c < 16) × (at + length (messageIf set c 6 []) ≤ length (now out)) ⌝ }
-    ensures { λ r. ⌜ (r ≡ at + length (messageIf set c 6 [])) × (now (out .exit) ≡ put at (messageIf set c 6 []) (now (out .entry))) ⌝ }
-{
-    if !sets::has(set, c) {
-        return at;
-    }
-    send_empty(out, at, c as u8, 6)
+    send_all(out, at, to, kind, &packet[12..])
 }
 
 // Lays a NOOP for each connection of the set, in rising order.
@@ -239,11 +265,5 @@ pub fn wake_all(out: &mut [u8], at: usize, to: u32) -> usize
     requires { ⌜ at + length (messages (members 16 to) 6 []) ≤ length (now out) ⌝ }
     ensures { λ r. ⌜ (r ≡ at + length (messages (members 16 to) 6 [])) × (now (out .exit) ≡ put at (messages (members 16 to) 6 []) (now (out .entry))) ⌝ }
 {
-    let mut place = at;
-    let mut sleeper: usize = 0;
-    while sleeper < 16 {
-        place = wake_if(out, place, to, sleeper);
-        sleeper += 1;
-    }
-    place
+    send_all(out, at, to, 6, b"")
 }

@@ -14,7 +14,7 @@ use Rattle.server.specs.Asked.{Event}
 use Rattle.server.specs.Call.{outputSize}
 use Rattle.framing.specs.Packets.{Packed, packetsIn}
 use Rattle.framing.proofs.Cutting.{packets-in}
-use Rattle.naming.proofs.Runs.{laid-then, laid-third, room-first, room-second, room-then, room-third}
+use Rattle.octets.proofs.Runs.{laid-then, laid-third, room-first, room-second, room-then, room-third}
 use Rattle.reporting.specs.Parts.{answerText, headingText, tableText}
 use Rattle.reporting.proofs.Bounds.{heading-short}
 use Rattle.showing.specs.Shown.{lineEnd, lineText, textSize}

@@ -13,7 +13,7 @@ use Rattle.handle.specs.Handle.{decimal}
 use Rattle.server.specs.declared.Connection.{Connection}
 use Rattle.server.specs.Table.{closed}
 use Rattle.naming.specs.Names.{space}
-use Rattle.naming.proofs.Runs.{laid-as, laid-third, room-as, room-second, room-third}
+use Rattle.octets.proofs.Runs.{laid-as, laid-third, room-as, room-second, room-third}
 use Rattle.standing.specs.Standing.{connectionsText, each, noneWord, orNone}
 
 -- connection c sleeps

@@ -1,31 +1,53 @@
--- The names of the table, read place after place: the array agrees with the table up to place i. Assumes nothing.
-use Prim.Native.Nat.{ℕ, _+_, _-_, _*_, _<_, _≤_}
-use mathlib.Core.Path.{_≡_, sym, ap, _∙_}
-use mathlib.Core.List.{List, []}
-use native.Mathlib.Nat.{add-sub-cancel-left}
+-- Places as they lie: read byte after byte, and compared byte after byte. Assumes nothing.
+use Prim.Native.Nat.{ℕ, zero, suc, _+_, _≤_}
+use mathlib.Core.Path.{_≡_, refl, sym, ap, _∙_}
+use mathlib.Core.Bool.{Bool, true, false, _&&_}
+use mathlib.Core.List.{[], _∷_, map}
+use native.Mathlib.Nat.{add-zero, zero-add, add-suc, suc-add}
 use native.Mathlib.Numerals.{add-one}
 use native.Mathlib.Omega.{arith}
-use lib.ListN.{length, getD, take, drop, set}
-use lib.Seq.{take-suc, take-suc-set, take-all}
-use Rattle.octets.specs.Bytes.{Bytes}
-use Rattle.server.specs.Lists.{fit}
-use Rattle.table_bytes.proofs.Columns.{length-places, places-at}
-use Rattle.table_bytes.proofs.Same.{length-part}
-use Rattle.texts.specs.Places.{nameIn, namesIn}
-use Rattle.texts.proofs.Padding.{fit-all}
+use lib.ListN.{length, getD, take, drop}
+use lib.Seq.{getD-take, getD-drop}
+use lib.Dec.{eqb}
+use Rattle.octets.specs.Bytes.{Bytes, same}
+use Rattle.server.specs.Lists.{all, numbers}
+use Rattle.table_bytes.proofs.Columns.{places-are}
+use Rattle.table_bytes.proofs.Same.{and-assoc, length-part}
+use Rattle.texts.specs.Places.{agree}
 
-module _ (b : Bytes) (long : 1060 ≤ length b) (names : List Bytes) (i : ℕ) (sixteen : length names ≡ 16) (e : take i names ≡ take i (namesIn b)) where
-  pub names-more : (x : Bytes) → i < 16 → (let at = 548 + 32 * i in x ≡ fit 32 (take (at + 32 - at) (drop at b))) → take (i + 1) (set names i x) ≡ take (i + 1) (namesIn b)
-  unfolding namesIn
-  names-more x h f =
-      let l : length (nameIn b i) ≡ 32 = length-part 32 b (548 + 32 * i) (omega arith) in
-      let n : length (namesIn b) ≡ 16 = length-places (nameIn b) 0 16 in
-      let g : x ≡ nameIn b i = f ∙ rw add-sub-cancel-left (ap (λ (k : ℕ). fit k (nameIn b i)) (sym l) ∙ fit-all (nameIn b i)) in
-      let m : x ≡ getD (namesIn b) i [] = g ∙ sym (places-at (nameIn b) [] 16 i h) in
-      rw (add-one, take-suc-set names i x (omega arith), take-suc (namesIn b) i [] (omega arith), e, m)
+and-true : (a : Bool) → a && true ≡ a
+and-true true = refl
+and-true false = refl
 
-  pub names-all : 16 ≤ i → names ≡ namesIn b
-  unfolding namesIn
-  names-all h =
-      let n : length (namesIn b) ≡ 16 = length-places (nameIn b) 0 16 in
-      sym (take-all i names (omega arith)) ∙ e ∙ take-all i (namesIn b) (omega arith)
+-- the bytes of a place, one by one
+pub place-read : (n : ℕ) (b : Bytes) (at : ℕ) → at + n ≤ length b → map (λ k. getD b (at + k) 0) (numbers 0 n) ≡ take n (drop at b)
+place-read n b at h = places-are (λ k. getD b (at + k) 0) 0 n (take n (drop at b)) (length-part n b at h) (λ k l. sym (getD-take n (drop at b) k 0 l ∙ getD-drop at b k 0))
+
+-- ---- compared
+
+all-more : (p : ℕ → Bool) (i n : ℕ) → all p (numbers i (suc n)) ≡ all p (numbers i n) && p (i + n)
+all-more p i zero = rw add-zero (and-true (p i))
+all-more p i (suc n) = rw (add-suc, ← suc-add) (ap (λ (y : Bool). p i && y) (all-more p (suc i) n) ∙ sym (and-assoc (p i) (all p (numbers (suc i) n)) (p (suc i + n))))
+
+module _ (s t : Bytes) (i : ℕ) (ok : Bool) (e : ok ≡ agree i s t) where
+  pub agree-more : (b : Bool) → b ≡ eqb (getD s i 0) (getD t i 0) → ok && b ≡ agree (i + 1) s t
+  unfolding agree
+  agree-more b f = rw (add-one, e, f) (sym (all-more (λ k. eqb (getD s k 0) (getD t k 0)) 0 i ∙ ap (λ (k : ℕ). agree i s t && eqb (getD s k 0) (getD t k 0)) (zero-add i)))
+
+  pub agree-all : (n : ℕ) → i ≤ n → n ≤ i → ok ≡ agree n s t
+  agree-all n h k = let q : i ≡ n = omega arith in e ∙ ap (λ (m : ℕ). agree m s t) q
+
+all-shift : (p : ℕ → Bool) (i n : ℕ) → all p (numbers (suc i) n) ≡ all (λ k. p (suc k)) (numbers i n)
+all-shift p i zero = refl
+all-shift p i (suc n) = ap (λ (y : Bool). p (suc i) && y) (all-shift p (suc i) n)
+
+-- two places of n bytes that agree in all of them are the same
+pub agree-same : (n : ℕ) (s t : Bytes) → length s ≡ n → length t ≡ n → agree n s t ≡ same s t
+unfolding agree same
+agree-same zero [] [] a b = refl
+agree-same zero [] (y ∷ t) a b = absurd (omega arith)
+agree-same zero (x ∷ s) t a b = absurd (omega arith)
+agree-same (suc n) [] t a b = absurd (omega arith)
+agree-same (suc n) (x ∷ s) [] a b = absurd (omega arith)
+agree-same (suc n) (x ∷ s) (y ∷ t) a b =
+    ap (λ (z : Bool). eqb x y && z) (all-shift (λ k. eqb (getD (x ∷ s) k 0) (getD (y ∷ t) k 0)) 0 n ∙ agree-same n s t (omega arith) (omega arith))

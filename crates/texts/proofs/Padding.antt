@@ -1,14 +1,13 @@
 -- A text in its place: read off the place, and laid over it with zeros after it. Assumes nothing.
 use Prim.Native.Nat.{ℕ, zero, suc, _+_, _-_, _≤_}
 use mathlib.Core.Path.{_≡_, refl, sym, ap, _∙_}
-use mathlib.Core.Bool.{Bool}
 use mathlib.Core.List.{[], _∷_, _++_}
 use native.Mathlib.Nat.{add-sub-cancel-left, sub-zero, suc-sub-suc, le-of-suc-le-suc, not-suc-le-zero}
 use native.Mathlib.Numerals.{add-one}
 use native.Mathlib.Omega.{arith}
-use lib.ListN.{length, take, drop, set, replicate, length-replicate, length-take}
+use lib.ListN.{length, take, drop, set, replicate, length-replicate}
 use lib.Seq.{length-take-le}
-use Rattle.octets.specs.Bytes.{Bytes, same, firstZero}
+use Rattle.octets.specs.Bytes.{Bytes, firstZero}
 use Rattle.octets.specs.Put.{over, put}
 use Rattle.octets.proofs.Laying.{put-none, put-put, put-more}
 use Rattle.server.specs.Lists.{fit}
@@ -24,13 +23,6 @@ text-length n place h = sym (length-take-le n place h)
 pub text-before-zero : (b : Bytes) (at width n : ℕ) → n ≡ firstZero (take (at + width - at) (drop at b)) → take n (take (at + width - at) (drop at b)) ≡ textAt width b at
 unfolding textAt
 text-before-zero b at width n e = rw (e, add-sub-cancel-left)
-
--- what a part of the table lends for a place
-pub place-within : (b : Bytes) (at width : ℕ) → length (take (at + width - at) (drop at b)) ≤ width
-place-within b at width = rw add-sub-cancel-left (omega (arith, length-take width (drop at b)))
-
-pub text-compared : (a b s : Bytes) (r : Bool) → r ≡ same a s → a ≡ b → r ≡ same b s
-text-compared a b s r e f = e ∙ ap (λ (x : Bytes). same x s) f
 
 -- ---- zeros under way
 
@@ -73,8 +65,3 @@ unfolding put over zeros
 laid-over-zeros w [] h = sym (fit-none w)
 laid-over-zeros zero (x ∷ s) h = absurd (not-suc-le-zero h)
 laid-over-zeros (suc w) (x ∷ s) h = ap (λ (l : Bytes). x ∷ l) (laid-over-zeros w s (le-of-suc-le-suc h))
-
--- a text as long as its place
-pub fit-all : (s : Bytes) → fit (length s) s ≡ s
-fit-all [] = refl
-fit-all (x ∷ s) = ap (λ (l : Bytes). x ∷ l) (fit-all s)

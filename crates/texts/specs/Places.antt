@@ -1,11 +1,13 @@
--- Texts laid over places of one width, and the places of the functions' names. Assumes nothing.
+-- Texts laid over places of one width, and the places of the functions' names: as they lie, and searched. Assumes nothing.
 use Prim.Native.Nat.{ℕ, _+_, _*_}
 use mathlib.Core.Bool.{Bool, cond}
 use mathlib.Core.List.{List, [], _∷_, map}
-use lib.ListN.{take, drop, replicate}
+use mathlib.Core.Option.{Option}
+use lib.ListN.{getD, take, drop, replicate}
+use lib.Dec.{eqb}
 use Rattle.octets.specs.Bytes.{Bytes}
 use Rattle.octets.specs.Put.{put}
-use Rattle.server.specs.Lists.{fit, numbers}
+use Rattle.server.specs.Lists.{all, find, fit, numbers}
 use Rattle.server.specs.Layout.{namesAt}
 
 -- n zero bytes; shut, so that no goal writes them out
@@ -30,3 +32,11 @@ nameIn b q = take 32 (drop (namesAt + 32 * q) b)
 
 unfoldable pub namesIn : Bytes → List Bytes
 namesIn b = map (nameIn b) (numbers 0 16)
+
+-- the first n bytes agree; shut, so that no goal writes them out
+unfoldable pub agree : ℕ → Bytes → Bytes → Bool
+agree n s t = all (λ k. eqb (getD s k 0) (getD t k 0)) (numbers 0 n)
+
+-- the lowest of the 16 places where the name stands
+abbrev pub placeOf : List Bytes → Bytes → Option ℕ
+placeOf names name = find (λ q. agree 32 (getD names q []) name) (numbers 0 16)

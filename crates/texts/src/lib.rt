@@ -2,14 +2,14 @@
 // by zeros. An inner crate: every function asks its callers that the place lies inside the bytes, and refuses nothing.
 ghost use mathlib.Core.Path.{_≡_};
 ghost use mathlib.Core.Bool.{cond};
-ghost use Prim.Native.Nat.{_+_, _*_, _≤_};
-ghost use lib.ListN.{length};
-ghost use Rattle.octets.specs.Bytes.{same};
+ghost use Prim.Native.Nat.{_+_, _*_, _≤_, _<_};
+ghost use mathlib.Core.List.{[]};
+ghost use lib.ListN.{length, getD, take, drop};
 ghost use Rattle.octets.specs.Put.{put};
-ghost use Rattle.server.specs.Lists.{find, fit};
+ghost use Rattle.server.specs.Lists.{fit};
 ghost use Rattle.server.specs.Layout.{textAt};
 ghost use Rattle.plans.specs.Values.{placed};
-ghost use Rattle.texts.specs.Places.{cleared, namesIn, putWhere, reset, zeros};
+ghost use Rattle.texts.specs.Places.{agree, cleared, namesIn, placeOf, putWhere, reset, zeros};
 use plans::Place;
 
 // The text of the place of `width` bytes at `at`.
@@ -20,14 +20,6 @@ pub fn text(table: &[u8], at: usize, width: usize) -> &[u8]
     let place = &table[at..at + width];
     let end = octets::first_zero(place);
     &place[..end]
-}
-
-// Whether the text of the place is `s`.
-pub fn text_is(table: &[u8], at: usize, width: usize, s: &[u8]) -> bool
-    requires { ⌜ at + width ≤ length (now table) ⌝ }
-    ensures { λ r. ⌜ r ≡ same (textAt width (now (table .entry)) at) (now (s .entry)) ⌝ }
-{
-    octets::equal(text(table, at, width), s)
 }
 
 // Lays `n` zeros over `b` from `at` on.
@@ -90,13 +82,39 @@ pub fn reset_where(b: &mut [u8], at: usize, marks: &[bool])
     put_where(b, at, 10, b"0", marks);
 }
 
+// ---- places compared: the bytes of a place say what its text is, where the table obeys the rules
+
 // A name and zeros after it, 32 bytes in all.
-pub fn padded(name: &[u8]) -> [u8; 32]
+pub fn padded_name(name: &[u8]) -> [u8; 32]
     requires { ⌜ length (now name) ≤ 32 ⌝ }
     ensures { λ r. ⌜ r ≡ fit 32 (now (name .entry)) ⌝ }
 {
     let mut place: [u8; 32] = [0; 32];
     octets::put(&mut place, 0, name);
+    place
+}
+
+// A unique and zeros after it, 64 bytes in all.
+pub fn padded_unique(unique: &[u8]) -> [u8; 64]
+    requires { ⌜ length (now unique) ≤ 64 ⌝ }
+    ensures { λ r. ⌜ r ≡ fit 64 (now (unique .entry)) ⌝ }
+{
+    let mut place: [u8; 64] = [0; 64];
+    octets::put(&mut place, 0, unique);
+    place
+}
+
+// The 32 bytes from `at` on.
+fn name_at(table: &[u8], at: usize) -> [u8; 32]
+    requires { ⌜ at + 32 ≤ length (now table) ⌝ }
+    ensures { λ r. ⌜ r ≡ take 32 (drop at (now (table .entry))) ⌝ }
+{
+    let mut place: [u8; 32] = [0; 32];
+    let mut i = 0;
+    while i < 32 {
+        place[i] = table[at + i];
+        i += 1;
+    }
     place
 }
 
@@ -108,30 +126,50 @@ pub fn read_names(table: &[u8]) -> [[u8; 32]; 16]
     let mut names: [[u8; 32]; 16] = [[0; 32]; 16];
     let mut i = 0;
     while i < 16 {
-        let at = 548 + 32 * i;
-        names[i] = padded(&table[at..at + 32]);
+        names[i] = name_at(table, 548 + 32 * i);
         i += 1;
     }
     names
 }
 
-// Whether two places are equal.
-fn equal_places(s: [u8; 32], t: [u8; 32]) -> bool
-    ensures { λ r. ⌜ r ≡ same s t ⌝ }
+// Whether the name stands at place q.
+fn stands_at(names: &[[u8; 32]; 16], q: usize, name: &[u8; 32]) -> bool
+    requires { ⌜ q < 16 ⌝ }
+    ensures { λ r. ⌜ r ≡ agree 32 (getD (now (names .entry)) q []) (now (name .entry)) ⌝ }
 {
-    octets::equal(&s, &t)
+    let mut ok = true;
+    let mut i = 0;
+    while i < 32 {
+        ok = ok & (names[q][i] == name[i]);
+        i += 1;
+    }
+    ok
 }
 
-// The lowest place that holds the name.
-pub fn place_of(names: [[u8; 32]; 16], name: [u8; 32]) -> Place
-    ensures { λ r. ⌜ r ≡ placed (find (λ x. same x name) names) ⌝ }
+// The lowest place where the name stands.
+pub fn place_of(names: &[[u8; 32]; 16], name: &[u8; 32]) -> Place
+    ensures { λ r. ⌜ r ≡ placed (placeOf (now (names .entry)) (now (name .entry))) ⌝ }
 {
     let mut i = 0;
     while i < 16 {
-        if equal_places(names[i], name) {
+        if stands_at(names, i, name) {
             return Place::At(i);
         }
         i += 1;
     }
     Place::Nowhere
+}
+
+// Whether the 64 bytes from `at` on are those of the padded unique.
+pub fn unique_at(table: &[u8], at: usize, unique: &[u8; 64]) -> bool
+    requires { ⌜ at + 64 ≤ length (now table) ⌝ }
+    ensures { λ r. ⌜ r ≡ agree 64 (take 64 (drop at (now (table .entry)))) (now (unique .entry)) ⌝ }
+{
+    let mut ok = true;
+    let mut i = 0;
+    while i < 64 {
+        ok = ok & (table[at + i] == unique[i]);
+        i += 1;
+    }
+    ok
 }

@@ -3,41 +3,72 @@
 
 use crate::event::Event;
 
-extern "C" {
-    fn lap_fresh(table: *mut u8, table_len: usize, workloads: *mut u8, workloads_len: usize) -> u32;
-    fn lap_open(
-        table: *mut u8,
-        table_len: usize,
-        workloads: *mut u8,
-        workloads_len: usize,
-        output: *mut u8,
-        output_len: usize,
-        connection: u32,
-        length: *mut u32,
-    ) -> u32;
-    fn lap_close(
-        table: *mut u8,
-        table_len: usize,
-        workloads: *mut u8,
-        workloads_len: usize,
-        output: *mut u8,
-        output_len: usize,
-        connection: u32,
-        length: *mut u32,
-    ) -> u32;
-    fn lap_packet(
-        table: *mut u8,
-        table_len: usize,
-        workloads: *mut u8,
-        workloads_len: usize,
-        output: *mut u8,
-        output_len: usize,
-        connection: u32,
-        packet: *const u8,
-        packet_len: usize,
-        length: *mut u32,
-    ) -> u32;
+/// The functions as C has them.
+type Fresh = unsafe extern "C" fn(*mut u8, usize, *mut u8, usize) -> u32;
+type Quiet = unsafe extern "C" fn(*mut u8, usize, *mut u8, usize, *mut u8, usize, u32, *mut u32) -> u32;
+type Packet =
+    unsafe extern "C" fn(*mut u8, usize, *mut u8, usize, *mut u8, usize, u32, *const u8, usize, *mut u32) -> u32;
+
+/// The four functions of one archive.
+pub struct Calls {
+    fresh: Fresh,
+    open: Quiet,
+    close: Quiet,
+    packet: Packet,
 }
+
+/// Declares the functions of an archive under the names that the linker finds them by.
+macro_rules! calls {
+    ($fresh:literal, $open:literal, $close:literal, $packet:literal) => {{
+        extern "C" {
+            #[link_name = $fresh]
+            fn fresh(table: *mut u8, table_len: usize, workloads: *mut u8, workloads_len: usize) -> u32;
+            #[link_name = $open]
+            fn open(
+                table: *mut u8,
+                table_len: usize,
+                workloads: *mut u8,
+                workloads_len: usize,
+                output: *mut u8,
+                output_len: usize,
+                connection: u32,
+                length: *mut u32,
+            ) -> u32;
+            #[link_name = $close]
+            fn close(
+                table: *mut u8,
+                table_len: usize,
+                workloads: *mut u8,
+                workloads_len: usize,
+                output: *mut u8,
+                output_len: usize,
+                connection: u32,
+                length: *mut u32,
+            ) -> u32;
+            #[link_name = $packet]
+            fn packet(
+                table: *mut u8,
+                table_len: usize,
+                workloads: *mut u8,
+                workloads_len: usize,
+                output: *mut u8,
+                output_len: usize,
+                connection: u32,
+                packet: *const u8,
+                packet_len: usize,
+                length: *mut u32,
+            ) -> u32;
+        }
+        Calls { fresh, open, close, packet }
+    }};
+}
+
+/// The archive that is compared with the ordinary server.
+pub static ARCHIVE: Calls = calls!("lap_fresh", "lap_open", "lap_close", "lap_packet");
+
+/// An older archive, its functions renamed by host/bench.sh so that both can be linked.
+#[cfg(feature = "before")]
+pub static BEFORE: Calls = calls!("before_fresh", "before_open", "before_close", "before_packet");
 
 /// What stands in the length before a call, so that a call which leaves it alone is seen.
 pub const NO_LENGTH: u32 = 0xdead_beef;
@@ -45,17 +76,61 @@ pub const NO_LENGTH: u32 = 0xdead_beef;
 /// The number and the length that a call reports.
 pub type Report = (u32, u32);
 
-pub fn fresh(table: &mut [u8], workloads: &mut [u8]) -> u32 {
-    // Safe: the archive touches only the bytes it is lent, and slices do not overlap.
-    unsafe { lap_fresh(table.as_mut_ptr(), table.len(), workloads.as_mut_ptr(), workloads.len()) }
+impl Calls {
+    pub fn fresh(&self, table: &mut [u8], workloads: &mut [u8]) -> u32 {
+        // Safe: the archive touches only the bytes it is lent, and slices do not overlap.
+        unsafe { (self.fresh)(table.as_mut_ptr(), table.len(), workloads.as_mut_ptr(), workloads.len()) }
+    }
+
+    pub fn open(&self, table: &mut [u8], workloads: &mut [u8], output: &mut [u8], connection: u32) -> Report {
+        quiet(self.open, table, workloads, output, connection)
+    }
+
+    pub fn close(&self, table: &mut [u8], workloads: &mut [u8], output: &mut [u8], connection: u32) -> Report {
+        quiet(self.close, table, workloads, output, connection)
+    }
+
+    pub fn packet(
+        &self,
+        table: &mut [u8],
+        workloads: &mut [u8],
+        output: &mut [u8],
+        connection: u32,
+        packet: &[u8],
+    ) -> Report {
+        let mut length = NO_LENGTH;
+        // Safe: as above; the packet is only read, and `length` lives through the call.
+        let number = unsafe {
+            (self.packet)(
+                table.as_mut_ptr(),
+                table.len(),
+                workloads.as_mut_ptr(),
+                workloads.len(),
+                output.as_mut_ptr(),
+                output.len(),
+                connection,
+                packet.as_ptr(),
+                packet.len(),
+                &mut length,
+            )
+        };
+        (number, length)
+    }
+
+    /// The call for an event.
+    pub fn event(&self, table: &mut [u8], workloads: &mut [u8], output: &mut [u8], event: &Event) -> Report {
+        match event {
+            Event::Open(connection) => self.open(table, workloads, output, *connection),
+            Event::Close(connection) => self.close(table, workloads, output, *connection),
+            Event::Packet(connection, bytes) => self.packet(table, workloads, output, *connection, bytes),
+        }
+    }
 }
 
-/// A call without a packet: `lap_open` or `lap_close`.
-type Quiet = unsafe extern "C" fn(*mut u8, usize, *mut u8, usize, *mut u8, usize, u32, *mut u32) -> u32;
-
+/// A call without a packet.
 fn quiet(call: Quiet, table: &mut [u8], workloads: &mut [u8], output: &mut [u8], connection: u32) -> Report {
     let mut length = NO_LENGTH;
-    // Safe: as above; `length` lives through the call.
+    // Safe: as above.
     let number = unsafe {
         call(
             table.as_mut_ptr(),
@@ -69,41 +144,4 @@ fn quiet(call: Quiet, table: &mut [u8], workloads: &mut [u8], output: &mut [u8],
         )
     };
     (number, length)
-}
-
-pub fn open(table: &mut [u8], workloads: &mut [u8], output: &mut [u8], connection: u32) -> Report {
-    quiet(lap_open, table, workloads, output, connection)
-}
-
-pub fn close(table: &mut [u8], workloads: &mut [u8], output: &mut [u8], connection: u32) -> Report {
-    quiet(lap_close, table, workloads, output, connection)
-}
-
-pub fn packet(table: &mut [u8], workloads: &mut [u8], output: &mut [u8], connection: u32, packet: &[u8]) -> Report {
-    let mut length = NO_LENGTH;
-    // Safe: as above; the packet is only read.
-    let number = unsafe {
-        lap_packet(
-            table.as_mut_ptr(),
-            table.len(),
-            workloads.as_mut_ptr(),
-            workloads.len(),
-            output.as_mut_ptr(),
-            output.len(),
-            connection,
-            packet.as_ptr(),
-            packet.len(),
-            &mut length,
-        )
-    };
-    (number, length)
-}
-
-/// The call for an event.
-pub fn event(table: &mut [u8], workloads: &mut [u8], output: &mut [u8], event: &Event) -> Report {
-    match event {
-        Event::Open(connection) => open(table, workloads, output, *connection),
-        Event::Close(connection) => close(table, workloads, output, *connection),
-        Event::Packet(connection, bytes) => packet(table, workloads, output, *connection, bytes),
-    }
 }

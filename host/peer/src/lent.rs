@@ -1,7 +1,7 @@
 //! The buffers that the archive is lent, each beside what it must hold, with guard bytes before and after.
 #![forbid(unsafe_code)]
 
-use crate::archive;
+use crate::archive::ARCHIVE;
 use crate::event::Event;
 use crate::image;
 use crate::layout::{OUTPUT, TABLE};
@@ -110,7 +110,7 @@ impl Host {
             self.table.expect(&[0; TABLE]);
             self.workloads.expect(&[0; WORKLOADS]);
         }
-        let number = archive::fresh(self.table.lend(), self.workloads.lend());
+        let number = ARCHIVE.fresh(self.table.lend(), self.workloads.lend());
         self.compare((number, 0), (right, 0))?;
         Ok(right)
     }
@@ -135,7 +135,7 @@ impl Host {
         self.output.fill([0xa5, 0x5a, 0x00, 0xff][(self.calls % 4) as usize]);
         expect(self);
         self.output.expect(packets);
-        let report = archive::event(self.table.lend(), self.workloads.lend(), self.output.lend(), event);
+        let report = ARCHIVE.event(self.table.lend(), self.workloads.lend(), self.output.lend(), event);
         self.compare(report, (number, packets.len() as u32))
     }
 

@@ -7,7 +7,9 @@
 #[allow(unsafe_code)]
 pub mod archive;
 pub mod captures;
+pub mod counts;
 pub mod damage;
+pub mod edge_tables;
 pub mod event;
 pub mod handle;
 pub mod hex;
@@ -17,6 +19,7 @@ pub mod layout;
 #[cfg(feature = "archive")]
 pub mod lent;
 pub mod lines;
+pub mod load;
 pub mod options;
 pub mod outbox;
 pub mod packet;
@@ -26,6 +29,10 @@ pub mod rules;
 pub mod scripts;
 pub mod server;
 pub mod show;
+#[cfg(feature = "archive")]
+pub mod sides;
 pub mod state;
 pub mod text;
+#[cfg(feature = "archive")]
+pub mod trials;
 pub mod words;

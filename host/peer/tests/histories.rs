@@ -2,6 +2,8 @@
 use peer::event::Event;
 use peer::histories::{History, SUBMISSIONS};
 use peer::outbox::Outbox;
+use peer::server::Server;
+use std::collections::BTreeMap;
 
 #[test]
 fn histories_reach_everything() {
@@ -53,6 +55,51 @@ fn histories_reach_everything() {
     println!(
         "joins {joins}, full {full}, crowded {crowded}, sleepers {sleepers}, listeners {listeners}, largest {largest}"
     );
+}
+
+/// What an event did, if it is one of those that sleepers and forgotten functions need.
+fn telling(event: &Event, before: &Server, after: &Server, out: &Outbox) -> Vec<&'static str> {
+    let woken = out.addressed().filter(|packet| packet[8] == 6).count();
+    let known = |server: &Server| server.functions.iter().flatten().count();
+    let forgets = known(after) < known(before);
+    let Event::Packet(connection, packet) = event else {
+        return if woken > 0 { vec!["close wakes"] } else { vec![] };
+    };
+    let asleep = before.connections[*connection as usize].asleep;
+    let submission = SUBMISSIONS.contains(&u32::from(packet[7]));
+    let found = [
+        (submission && woken > 0, "a new job wakes"),
+        (submission && woken > 1, "a new job wakes several"),
+        (packet[7] == 4 && woken > 0, "PRE_SLEEP with a grabbable job"),
+        (packet[7] == 1 && asleep && woken > 0, "CAN_DO wakes its sender"),
+        (packet[7] == 1 && asleep && woken == 0, "CAN_DO leaves its sender asleep"),
+        (packet[7] == 2 && forgets, "CANT_DO forgets"),
+        ([13, 14, 25].contains(&packet[7]) && forgets, "an ending forgets"),
+        (packet[7] == 26 && asleep, "an option of a sleeper"),
+    ];
+    found.into_iter().filter(|(holds, _)| *holds).map(|(_, what)| what).collect()
+}
+
+#[test]
+fn histories_are_rich_in_sleepers() {
+    let mut out = Outbox::default();
+    let mut counts = BTreeMap::new();
+    for seed in 1..=30 {
+        let mut history = History::new(seed);
+        let mut server = history.start();
+        for _ in 0..2_000 {
+            let event = history.next(&server);
+            let before = server.clone();
+            if event.run(&mut server, &mut out) == 0 {
+                for what in telling(&event, &before, &server, &out) {
+                    *counts.entry(what).or_insert(0) += 1;
+                }
+            }
+        }
+    }
+    println!("{counts:?}");
+    assert_eq!(counts.len(), 9, "{counts:?}");
+    assert!(counts.values().all(|&count| count >= 40), "{counts:?}");
 }
 
 #[test]

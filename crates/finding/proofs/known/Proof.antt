@@ -1,22 +1,23 @@
 -- `finding::known` meets its contract: the padded name is looked for among the names as they lie. Assumes nothing.
-use borrow.Author.Needs.{needs}
 use Rattle.finding.proofs.Names.{known-place}
+use borrow.Author.Needs.{needs}
 use Rattle.finding.proofs.known.Statement.{statement}
 use Rattle.finding.proofs.known.Tie as tie
 
 read-names-requires : tie.Need-read-names-requires
 read-names-requires c κs = search needs
 
-padded-requires : tie.Need-padded-requires
-padded-requires c κs = search needs
+padded-name-requires : tie.Need-padded-name-requires
+padded-name-requires c κs = search needs
 
 place-of-requires : tie.Need-place-of-requires
 place-of-requires c κs = search needs
 
 returns : tie.Need-returns
 returns c =
-    let p = c .before .before .before .before .before .pre in
-    known-place _ _ (p .0) (c .before .before .read-names .ensures) _ _ _ (p .2) (p .3) (c .before .padded .ensures) (c .place-of .ensures)
+    let p = c .before .before .before .before .before .before .before .pre in
+    known-place _ _ (p .0) (c .before .before .before .before .read-names .ensures) _ _ (p .2) (p .3) (c .before .before .before .padded-name .ensures) _ (c .place-of .ensures)
 
 pub known-spec : {M : Type 1} → statement M
-known-spec = tie.close (tie.spec read-names-requires padded-requires place-of-requires returns)
+known-spec =
+    tie.close (tie.spec read-names-requires padded-name-requires place-of-requires returns)

@@ -1,46 +1,53 @@
--- `finding::with_unique` meets its contract. The invariant: the search among all jobs is the search from job i on. Assumes nothing.
-use Prim.Native.Nat.{_≤_, _-_}
-use mathlib.Core.Path.{_≡_}
+-- `finding::with_unique` meets its contract. The invariant: the search among all places is the search from place i on.
+-- Assumes nothing.
+use Prim.Native.Nat.{_≤_, _-_, _+_, _*_}
+use mathlib.Core.Path.{_≡_, sym, _∙_}
 use native.Mathlib.Omega.{arith}
-use borrow.Author.Needs.{needs}
 use denote.Ref.{now}
 use lib.ListN.{drop}
-use Rattle.server.specs.Lists.{find}
-use Rattle.server.specs.Table.{noJob}
-use Rattle.server.specs.Layout.{tableOf}
-use Rattle.searching.proofs.Lowest.{upBy, lowest-start, lowest-here, lowest-on, lowest-none}
-use Rattle.finding.specs.Uniques.{isFor}
-use Rattle.finding.proofs.Names.{thirty-two}
-use Rattle.finding.proofs.Joining.{row-tested}
+use Rattle.server.specs.Lists.{find, numbers}
+use Rattle.server.specs.Layout.{littleAt}
+use Rattle.rows.proofs.Reading.{column-at}
+use Rattle.searching.proofs.Lowest.{upBy, lowest-start, number-here, number-on, number-none}
+use Rattle.finding.specs.Uniques.{liesFor}
+use Rattle.finding.proofs.Joining.{unique-found}
+use borrow.Author.Needs.{needs}
 use Rattle.finding.proofs.with_unique.Statement.{statement}
 use Rattle.finding.proofs.with_unique.Tie as tie
 
 abbrev Inv-loop : tie.InvT-loop
-Inv-loop table function unique rows i₀ i = (i ≤ 32) × (find (isFor function unique) (tableOf 16 table .jobs) ≡ upBy i (find (isFor function unique) (drop i (tableOf 16 table .jobs))))
+Inv-loop table function unique serials place i₀ i = (i ≤ 32) × (find (liesFor table function place) (numbers 0 32) ≡ upBy i (find (liesFor table function place) (drop i (numbers 0 32))))
 
 abbrev μ-loop : tie.MeasureT-loop
-μ-loop table function unique rows i₀ i = 32 - i
+μ-loop table function unique serials place i₀ i = 32 - i
+
+fours-requires : tie.Need-fours-requires Inv-loop μ-loop
+fours-requires c κs = search needs
+
+padded-unique-requires : tie.Need-padded-unique-requires Inv-loop μ-loop
+padded-unique-requires c κs = search needs
 
 loop-holds : tie.Need-loop-holds Inv-loop μ-loop
-loop-holds c =
-    let a = c .before .before .args in
-    (omega arith, lowest-start (isFor (a .function) (now (a .unique))) (tableOf 16 (now (a .table)) .jobs))
+loop-holds c = (omega arith, lowest-start (liesFor _ _ _) (numbers 0 32))
 
 mul-has-unique : tie.Need-mul-has-unique Inv-loop μ-loop
 mul-has-unique c = search needs
 
-array-copy-out-has-unique : tie.Need-array-copy-out-has-unique Inv-loop μ-loop
-array-copy-out-has-unique c = search needs
+array-read-has-unique : tie.Need-array-read-has-unique Inv-loop μ-loop
+array-read-has-unique c = search needs
 
 has-unique-requires : tie.Need-has-unique-requires Inv-loop μ-loop
-has-unique-requires c κs = search needs
+has-unique-requires c κs =
+    let l = c .before .before .loop in
+    let s = c .before .before .before .before .before .before .before in
+    (s .pre .1, omega arith, column-at (λ k. littleAt 4 (now (s .args .table)) (68 + 4 * k)) 0 32 _ (l .i) (c .before .before .before .before .fours .ensures) (omega arith))
 
 returns : tie.Need-returns Inv-loop μ-loop
 returns c =
     let l = c .before .before .before .before .loop in
-    let s = c .before .before .before .before .before .before .before in
-    lowest-here _ _ (l .i) noJob (l .inv .1) (omega (arith, thirty-two (now (s .args .table))))
-    (row-tested _ _ _ _ (l .i) _ _ (s .pre .1) (omega arith) (c .before .has-unique .ensures) (c .if1 .taken))
+    let s = c .before .before .before .before .before .before .before .before .before in
+    unique-found _ (s .pre .0) _ _ _ _ (s .pre .2) (s .pre .3) (c .before .before .before .before .before .padded-unique .ensures)
+    (number-here _ 32 (l .i) (l .inv .1) (omega arith) (sym (c .before .has-unique .ensures) ∙ c .if1 .taken))
 
 add-i : tie.Need-add-i Inv-loop μ-loop
 add-i c = search needs
@@ -51,17 +58,13 @@ loop-less c = search needs
 loop-again : tie.Need-loop-again Inv-loop μ-loop
 loop-again c =
     let l = c .before .before .before .before .loop in
-    let s = c .before .before .before .before .before .before .before in (
-      omega arith,
-      lowest-on _ _ (l .i) noJob (l .inv .1) (omega (arith, thirty-two (now (s .args .table))))
-          (row-tested _ _ _ _ (l .i) _ _ (s .pre .1) (omega arith) (c .before .has-unique .ensures) (c .if1 .left)),
-    )
+    (omega arith, number-on _ 32 (l .i) (l .inv .1) (omega arith) (sym (c .before .has-unique .ensures) ∙ c .if1 .left))
 
 returns-2 : tie.Need-returns-2 Inv-loop μ-loop
 returns-2 c =
     let l = c .before .loop in
-    let s = c .before .before .before .before in
-    lowest-none _ _ (l .i) noJob (l .inv .1) (omega (arith, thirty-two (now (s .args .table))))
+    let s = c .before .before .before .before .before .before in
+    unique-found _ (s .pre .0) _ _ _ _ (s .pre .2) (s .pre .3) (c .before .before .padded-unique .ensures) (number-none _ 32 (l .i) (l .inv .1) (omega arith))
 
 pub with-unique-spec : {M : Type 1} → statement M
 with-unique-spec =
@@ -69,9 +72,11 @@ with-unique-spec =
     (tie.spec
     Inv-loop
     μ-loop
+    fours-requires
+    padded-unique-requires
     loop-holds
     mul-has-unique
-    array-copy-out-has-unique
+    array-read-has-unique
     has-unique-requires
     returns
     add-i

@@ -1,6 +1,6 @@
 -- `naming::put_label` meets its contract: no shape has a sixth argument, and the word of row i is the label. Assumes nothing.
 use native.Mathlib.Omega.{arith}
-use Rattle.naming.proofs.Runs.{laid-as, laid-none, room-as}
+use Rattle.octets.proofs.Runs.{laid-as, laid-none, room-as}
 use Rattle.naming.proofs.Words.{label-width, label-word, no-label}
 use borrow.Author.Needs.{needs}
 use Rattle.naming.proofs.put_label.Statement.{statement}

@@ -1,5 +1,5 @@
 -- `naming::put_number` meets its contract: the digits that were laid over ten zeros are the front of them. Assumes nothing.
-use Rattle.naming.proofs.Runs.{laid-as, room-as}
+use Rattle.octets.proofs.Runs.{laid-as, room-as}
 use Rattle.naming.proofs.Words.{digits-count, digits-part}
 use borrow.Author.Needs.{needs}
 use Rattle.naming.proofs.put_number.Statement.{statement}

@@ -1,7 +1,7 @@
 -- `naming::put_reason` meets its contract: the word of its row is the reason. Assumes nothing.
 use mathlib.Core.Path.{ap, _∙_}
 use Rattle.naming.specs.Names.{word}
-use Rattle.naming.proofs.Runs.{laid-as, room-as}
+use Rattle.octets.proofs.Runs.{laid-as, room-as}
 use Rattle.naming.proofs.Words.{reason-word}
 use borrow.Author.Needs.{needs}
 use Rattle.naming.proofs.put_reason.Statement.{statement}

@@ -1,7 +1,7 @@
 -- `naming::put_word` meets its contract: the part before the first zero byte is the word. Assumes nothing.
 use mathlib.Core.Path.{sym}
 use lib.Seq.{length-take-le}
-use Rattle.naming.proofs.Runs.{laid-as, room-as}
+use Rattle.octets.proofs.Runs.{laid-as, room-as}
 use Rattle.naming.proofs.Words.{word-part}
 use borrow.Author.Needs.{needs}
 use Rattle.naming.proofs.put_word.Statement.{statement}

@@ -31,36 +31,33 @@ argument-requires-4 c κs = search needs
 of-step-requires : tie.Need-of-step-requires
 of-step-requires c κs = search needs
 
-read-rows-requires : tie.Need-read-rows-requires
-read-rows-requires c κs = search needs
-
 send-order-requires : tie.Need-send-order-requires
 send-order-requires c κs =
-    let s = c .before .before .before .before .before .before .before .before .before .before .before .before .before .before .before .before .before in
+    let s = c .before .before .before .before .before .before .before .before .before .before .before .before .before .before .before in
     let v : Values = stepped (s .args .brief .step) (valuesOf (tableOf 16 (s .args .table .now))) in
-    let a = c .before .before .before .before .before .before .before .before .before .before .before .before .argument .ensures in
-    (s .pre .0, s .pre .1, s .pre .2, c .before .before .before .read-rows .ensures, rw a (s .pre .4 .orderly), rw a (order-room _ _ _ _ _ _ _ v _ (s .pre .4 .room)))
+    let a = c .before .before .before .before .before .before .before .before .before .before .argument .ensures in
+    (s .pre .0, s .pre .1, s .pre .2, rw a (s .pre .4 .orderly), rw a (order-room _ _ _ _ _ _ _ v _ (s .pre .4 .room)))
 
 wake-requires : tie.Need-wake-requires
 wake-requires c κs =
-    let s = c .before .before .before .before .before .before .before .before .before .before .before .before .before .before .before .before .before .before .before .before .before in
+    let s = c .before .before .before .before .before .before .before .before .before .before .before .before .before .before .before .before .before .before .before in
     let g = s .args in
     let v : Values = stepped (g .brief .step) (valuesOf (tableOf 16 (g .table .now))) in
-    let sent = rw (c .before .before .before .before .before .before .before .before .before .before .before .before .before .before .before .before .argument .ensures) at (c .before .before .before .send-order .ensures) in
-    noop-room _ _ _ _ _ _ _ v _ (lean-wakes (g .brief) (g .table .now) (g .workloads .now) (g .packet .now) (g .c) (g .kind) (g .ends) (s .pre .7) _ (c .before .before .before .before .before .before .before .before .before .of-step .ensures)) _ _ _ (sent .0) (sent .1) (s .pre .4 .room)
+    let sent = rw (c .before .before .before .before .before .before .before .before .before .before .before .before .before .before .argument .ensures) at (c .before .before .before .send-order .ensures) in
+    noop-room _ _ _ _ _ _ _ v _ (lean-wakes (g .brief) (g .table .now) (g .workloads .now) (g .packet .now) (g .c) (g .kind) (g .ends) (s .pre .7) _ (c .before .before .before .before .before .before .before .of-step .ensures)) _ _ _ (sent .0) (sent .1) (s .pre .4 .room)
 
 rework-requires : tie.Need-rework-requires
 rework-requires c κs =
-    let p = c .before .before .before .before .before .before .before .before .before .before .before .before .before .before .before .before .before .before .before .before .before .before .before .before .before .before .pre in
-    (p .2, p .1, rw (opaque-taken _ _ _ _ _ _ (c .before .before .before .before .before .before .before .before .before .before .before .before .before .before .before .before .before .before .request-shape .ensures) (c .before .before .before .before .before .before .before .before .before .before .before .before .before .before .before .before .before .opaque-place .ensures) (c .before .before .before .before .before .before .before .before .before .before .before .before .before .before .before .before .argument4 .ensures)) (p .4 .small), p .5, p .6)
+    let p = c .before .before .before .before .before .before .before .before .before .before .before .before .before .before .before .before .before .before .before .before .before .before .before .before .pre in
+    (p .2, p .1, rw (opaque-taken _ _ _ _ _ _ (c .before .before .before .before .before .before .before .before .before .before .before .before .before .before .before .before .request-shape .ensures) (c .before .before .before .before .before .before .before .before .before .before .before .before .before .before .before .opaque-place .ensures) (c .before .before .before .before .before .before .before .before .before .before .before .before .before .before .argument4 .ensures)) (p .4 .small), p .5, p .6)
 
 carry-requires : tie.Need-carry-requires
 carry-requires c κs =
-    let p = c .before .before .before .before .before .before .before .before .before .before .before .before .before .before .before .before .before .before .before .before .before .before .before .before .before .before .before .before .before .before .pre in
-    let a = c .before .before .before .before .before .before .before .before .before .before .before .before .before .before .before .before .before .before .before .before .before .before .before .before .before .argument .ensures in
-    let b = c .before .before .before .before .before .before .before .before .before .before .before .before .before .before .before .before .before .before .before .before .before .before .before .before .argument2 .ensures in
-    let d = c .before .before .before .before .before .before .before .before .before .before .before .before .before .before .before .before .before .before .before .before .before .before .before .argument3 .ensures in
-    (p .0, p .1, rw (a, b, d) (p .4 .fitting), p .5, c .before .before .before .before .before .before .before .before .before .before .before .before .before .before .before .before .before .before .of-step .ensures, rw (a, b, d) (p .7))
+    let p = c .before .before .before .before .before .before .before .before .before .before .before .before .before .before .before .before .before .before .before .before .before .before .before .before .before .before .before .before .pre in
+    let a = c .before .before .before .before .before .before .before .before .before .before .before .before .before .before .before .before .before .before .before .before .before .before .before .argument .ensures in
+    let b = c .before .before .before .before .before .before .before .before .before .before .before .before .before .before .before .before .before .before .before .before .before .before .argument2 .ensures in
+    let d = c .before .before .before .before .before .before .before .before .before .before .before .before .before .before .before .before .before .before .before .before .before .argument3 .ensures in
+    (p .0, p .1, rw (a, b, d) (p .4 .fitting), p .5, c .before .before .before .before .before .before .before .before .before .before .before .before .before .before .before .before .of-step .ensures, rw (a, b, d) (p .7))
 
 same-length : tie.Need-same-length
 same-length c = search needs
@@ -73,15 +70,15 @@ same-length-3 c = search needs
 
 returns : tie.Need-returns
 returns c =
-    let s = c .before .before .before .before .before .before .before .before .before .before .before .before .before .before .before .before .before .before .before .before .before .before .before .before .before .before .before .before .before .before .before .before .before in
+    let s = c .before .before .before .before .before .before .before .before .before .before .before .before .before .before .before .before .before .before .before .before .before .before .before .before .before .before .before .before .before .before .before in
     let g = s .args in
     let v : Values = stepped (g .brief .step) (valuesOf (tableOf 16 (g .table .now))) in
-    let a = c .before .before .before .before .before .before .before .before .before .before .before .before .before .before .before .before .before .before .before .before .before .before .before .before .before .before .before .before .argument .ensures in
-    let b = c .before .before .before .before .before .before .before .before .before .before .before .before .before .before .before .before .before .before .before .before .before .before .before .before .before .before .before .argument2 .ensures in
-    let d = c .before .before .before .before .before .before .before .before .before .before .before .before .before .before .before .before .before .before .before .before .before .before .before .before .before .before .argument3 .ensures in
-    let o = opaque-taken _ _ _ _ _ _ (c .before .before .before .before .before .before .before .before .before .before .before .before .before .before .before .before .before .before .before .before .before .before .before .before .before .request-shape .ensures) (c .before .before .before .before .before .before .before .before .before .before .before .before .before .before .before .before .before .before .before .before .before .before .before .before .opaque-place .ensures) (c .before .before .before .before .before .before .before .before .before .before .before .before .before .before .before .before .before .before .before .before .before .before .before .argument4 .ensures) in
+    let a = c .before .before .before .before .before .before .before .before .before .before .before .before .before .before .before .before .before .before .before .before .before .before .before .before .before .before .argument .ensures in
+    let b = c .before .before .before .before .before .before .before .before .before .before .before .before .before .before .before .before .before .before .before .before .before .before .before .before .before .argument2 .ensures in
+    let d = c .before .before .before .before .before .before .before .before .before .before .before .before .before .before .before .before .before .before .before .before .before .before .before .before .argument3 .ensures in
+    let o = opaque-taken _ _ _ _ _ _ (c .before .before .before .before .before .before .before .before .before .before .before .before .before .before .before .before .before .before .before .before .before .before .before .request-shape .ensures) (c .before .before .before .before .before .before .before .before .before .before .before .before .before .before .before .before .before .before .before .before .before .before .opaque-place .ensures) (c .before .before .before .before .before .before .before .before .before .before .before .before .before .before .before .before .before .before .before .before .before .argument4 .ensures) in
     let sent = rw a at (c .before .before .before .before .before .before .before .before .before .before .before .before .before .before .before .send-order .ensures) in
-    let woken = lean-wakes (g .brief) (g .table .now) (g .workloads .now) (g .packet .now) (g .c) (g .kind) (g .ends) (s .pre .7) _ (c .before .before .before .before .before .before .before .before .before .before .before .before .before .before .before .before .before .before .before .before .before .of-step .ensures) in
+    let woken = lean-wakes (g .brief) (g .table .now) (g .workloads .now) (g .packet .now) (g .c) (g .kind) (g .ends) (s .pre .7) _ (c .before .before .before .before .before .before .before .before .before .before .before .before .before .before .before .before .before .before .before .of-step .ensures) in
     let whole = answered _ _ _ _ _ _ _ v _ woken _ _ _ _ _ (sent .0) (sent .1) (c .before .before .before .before .before .before .before .before .before .before .before .wake .ensures) in
     let work = lean-workloads (g .brief) (g .table .now) (g .workloads .now) (g .packet .now) (g .c) (g .kind) (g .ends) (s .pre .7) _ o in
     done-concluded _ _ _ _ _ _ _ _ _ _ _ _ (s .pre .3) (whole .0, whole .1, rw (a, b, d) at (c .before .before .carry .ensures), rw work at (c .before .before .before .before .before .before .rework .ensures))
@@ -97,7 +94,6 @@ perform-lean-spec =
     opaque-place-requires
     argument-requires-4
     of-step-requires
-    read-rows-requires
     send-order-requires
     wake-requires
     rework-requires

@@ -32,7 +32,7 @@ answer-requires : tie.Need-answer-requires
 answer-requires c κs =
     let p = c .before .before .before .before .before .before .before .before .before .before .before .before .before .before .before .before .before .pre in
     let a = c .before .before .before .before .before .before .before .before .before .before .before .before .argument .ensures in
-    (p .0, p .1, p .2, rows-are _ _ (c .before .before .before .before .before .read-values .ensures), rw a (p .4 .orderly), rw (a, c .before .before .before .stepped .ensures, c .before .before .before .before .before .read-values .ensures) (p .4 .room))
+    (p .0, p .1, p .2, rw a (p .4 .orderly), rw (a, c .before .before .before .stepped .ensures, c .before .before .before .before .before .read-values .ensures) (p .4 .room))
 
 dropped-requires : tie.Need-dropped-requires
 dropped-requires c κs = search needs

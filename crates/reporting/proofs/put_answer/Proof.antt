@@ -1,5 +1,5 @@
 -- `reporting::put_answer` meets its contract: the packets, and right after them the number. Assumes nothing.
-use Rattle.naming.proofs.Runs.{laid-then, room-then}
+use Rattle.octets.proofs.Runs.{laid-then, room-then}
 use Rattle.reporting.specs.Parts.{answerText}
 use borrow.Author.Needs.{needs}
 use Rattle.reporting.proofs.put_answer.Statement.{statement}

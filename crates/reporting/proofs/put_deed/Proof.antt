@@ -2,7 +2,7 @@
 use mathlib.Core.List.{_++_}
 use denote.Ref.{now}
 use Rattle.handle.specs.Handle.{decimal}
-use Rattle.naming.proofs.Runs.{laid-third, room-first, room-second, room-third}
+use Rattle.octets.proofs.Runs.{laid-third, room-first, room-second, room-third}
 use Rattle.standing.specs.Standing.{below}
 use borrow.Author.Needs.{needs}
 use Rattle.reporting.proofs.put_deed.Statement.{statement}

@@ -3,7 +3,7 @@ use mathlib.Core.List.{[], _∷_, _++_}
 use denote.Ref.{now}
 use Rattle.hex.specs.Hex.{hex}
 use Rattle.naming.specs.Names.{space}
-use Rattle.naming.proofs.Runs.{laid-third, room-first, room-second, room-third}
+use Rattle.octets.proofs.Runs.{laid-third, room-first, room-second, room-third}
 use borrow.Author.Needs.{needs}
 use Rattle.reporting.proofs.put_digits.Statement.{statement}
 use Rattle.reporting.proofs.put_digits.Tie as tie

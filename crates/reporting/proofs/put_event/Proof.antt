@@ -1,6 +1,6 @@
 -- `reporting::put_event` meets its contract: nothing, a connection and its deed, or the request. Assumes nothing.
 use Rattle.framing.proofs.Answered.{packet-bounded}
-use Rattle.naming.proofs.Runs.{laid-as, laid-none, room-as}
+use Rattle.octets.proofs.Runs.{laid-as, laid-none, room-as}
 use Rattle.reporting.proofs.Laid.{close-event, nothing-event, open-event, packet-event}
 use borrow.Author.Needs.{needs}
 use Rattle.reporting.proofs.put_event.Statement.{statement}

@@ -2,7 +2,7 @@
 use mathlib.Core.List.{_++_}
 use denote.Ref.{now}
 use Rattle.handle.specs.Handle.{decimal}
-use Rattle.naming.proofs.Runs.{laid-then, laid-third, room-first, room-second, room-then, room-third}
+use Rattle.octets.proofs.Runs.{laid-then, laid-third, room-first, room-second, room-then, room-third}
 use Rattle.framing.specs.Frames.{eventOf}
 use Rattle.reporting.specs.Parts.{digitsText, eventText, headingText, lineWord}
 use borrow.Author.Needs.{needs}

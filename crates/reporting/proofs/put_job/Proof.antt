@@ -1,5 +1,5 @@
 -- `reporting::put_job` meets its contract: nothing, or the job of the serial. Assumes nothing.
-use Rattle.naming.proofs.Runs.{laid-as, laid-none, room-as}
+use Rattle.octets.proofs.Runs.{laid-as, laid-none, room-as}
 use Rattle.reporting.proofs.Laid.{no-serial, of-serial}
 use borrow.Author.Needs.{needs}
 use Rattle.reporting.proofs.put_job.Statement.{statement}

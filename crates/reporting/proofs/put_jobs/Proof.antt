@@ -1,6 +1,6 @@
 -- `reporting::put_jobs` meets its contract: nothing, the jobs left after a close, or the job that the packet concerns. Assumes nothing.
 use Rattle.framing.proofs.Answered.{packet-bounded}
-use Rattle.naming.proofs.Runs.{laid-as, laid-none, room-as}
+use Rattle.octets.proofs.Runs.{laid-as, laid-none, room-as}
 use Rattle.reporting.proofs.Laid.{close-jobs, nothing-jobs, open-jobs, packet-jobs}
 use borrow.Author.Needs.{needs}
 use Rattle.reporting.proofs.put_jobs.Statement.{statement}

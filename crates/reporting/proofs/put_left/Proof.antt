@@ -1,5 +1,5 @@
 -- `reporting::put_left` meets its contract: the jobs after a close that is done, or nothing. Assumes nothing.
-use Rattle.naming.proofs.Runs.{laid-as, laid-none, room-as}
+use Rattle.octets.proofs.Runs.{laid-as, laid-none, room-as}
 use Rattle.reporting.proofs.Laid.{left-done, left-refused}
 use borrow.Author.Needs.{needs}
 use Rattle.reporting.proofs.put_left.Statement.{statement}

@@ -1,7 +1,7 @@
 -- `reporting::put_outcome` meets its contract: the start of a line, and that the event is done, or the refusal. Assumes nothing.
 use mathlib.Core.Bool.{cond}
 use lib.Dec.{eqb}
-use Rattle.naming.proofs.Runs.{laid-as, laid-then, room-as, room-first, room-then}
+use Rattle.octets.proofs.Runs.{laid-as, laid-then, room-as, room-first, room-then}
 use Rattle.wording.specs.Lines.{refusalText}
 use Rattle.standing.specs.Standing.{below}
 use Rattle.reporting.specs.Parts.{doneWord, numberText}

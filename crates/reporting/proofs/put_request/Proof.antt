@@ -1,6 +1,6 @@
 -- `reporting::put_request` meets its contract: the start of a line, and the request. Assumes nothing.
 use denote.Ref.{now}
-use Rattle.naming.proofs.Runs.{laid-then, room-first, room-then}
+use Rattle.octets.proofs.Runs.{laid-then, room-first, room-then}
 use Rattle.wording.specs.Lines.{requestLine}
 use Rattle.standing.specs.Standing.{below}
 use borrow.Author.Needs.{needs}

@@ -1,6 +1,6 @@
 -- `reporting::put_seen` meets its contract: nothing, or the digits of each kind of frame. Assumes nothing.
 use Rattle.framing.proofs.Answered.{packet-bounded}
-use Rattle.naming.proofs.Runs.{laid-as, laid-none, room-as}
+use Rattle.octets.proofs.Runs.{laid-as, laid-none, room-as}
 use Rattle.reporting.proofs.Laid.{close-digits, nothing-digits, open-digits, packet-digits}
 use borrow.Author.Needs.{needs}
 use Rattle.reporting.proofs.put_seen.Statement.{statement}

@@ -3,7 +3,7 @@ use denote.Ref.{now}
 use Prim.Native.Nat.{_-_}
 use lib.ListN.{length, getD, take, drop}
 use Rattle.wording.specs.Lines.{responseLine}
-use Rattle.naming.proofs.Runs.{laid-as, laid-then, room-as, room-first, room-then}
+use Rattle.octets.proofs.Runs.{laid-as, laid-then, room-as, room-first, room-then}
 use Rattle.standing.specs.Standing.{below}
 use Rattle.reporting.specs.Parts.{sentText}
 use Rattle.reporting.proofs.Laid.{sent-as}

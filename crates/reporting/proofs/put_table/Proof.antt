@@ -4,7 +4,7 @@ use Rattle.framing.specs.Frames.{eventOf}
 use Rattle.framing.specs.Packets.{packetsIn}
 use Rattle.reporting.specs.Parts.{jobsAfter}
 use Rattle.standing.specs.Standing.{sleepersText}
-use Rattle.naming.proofs.Runs.{laid-as, laid-none, laid-then, room-as, room-first, room-then}
+use Rattle.octets.proofs.Runs.{laid-as, laid-none, laid-then, room-as, room-first, room-then}
 use Rattle.reporting.proofs.Laid.{no-table, table-stands, unseen}
 use borrow.Author.Needs.{needs}
 use Rattle.reporting.proofs.put_table.Statement.{statement}

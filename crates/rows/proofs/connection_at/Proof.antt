@@ -1,42 +1,21 @@
--- `rows::connection_at` meets its contract: the flags that stand there, or none beyond the last. Assumes nothing.
+-- `rows::connection_at` meets its contract: inside it reads the place, and beyond the last there is a closed connection. Assumes nothing.
+use Rattle.rows.proofs.Reading.{connection-inside, connection-beyond}
 use borrow.Author.Needs.{needs}
-use Rattle.rows.proofs.Reading.{connection-at, connection-beyond}
 use Rattle.rows.proofs.connection_at.Statement.{statement}
 use Rattle.rows.proofs.connection_at.Tie as tie
 
+no-connection-requires : tie.Need-no-connection-requires
+no-connection-requires c κs = search needs
+
 returns : tie.Need-returns
-returns c = connection-beyond _ _ (c .if1 .taken)
+returns c = search (needs, connection-beyond)
 
-add-t4 : tie.Need-add-t4
-add-t4 c = search needs
-
-shared-slice-read-t6 : tie.Need-shared-slice-read-t6
-shared-slice-read-t6 c = search needs
-
-add-t7 : tie.Need-add-t7
-add-t7 c = search needs
-
-shared-slice-read-t9 : tie.Need-shared-slice-read-t9
-shared-slice-read-t9 c = search needs
-
-add-t11 : tie.Need-add-t11
-add-t11 c = search needs
-
-shared-slice-read-t13 : tie.Need-shared-slice-read-t13
-shared-slice-read-t13 c = search needs
+read-connection-requires : tie.Need-read-connection-requires
+read-connection-requires c κs = search needs
 
 returns-2 : tie.Need-returns-2
-returns-2 c = connection-at _ _ (search needs)
+returns-2 c = search (needs, connection-inside)
 
 pub connection-at-spec : {M : Type 1} → statement M
 connection-at-spec =
-    tie.close
-    (tie.spec
-    returns
-    add-t4
-    shared-slice-read-t6
-    add-t7
-    shared-slice-read-t9
-    add-t11
-    shared-slice-read-t13
-    returns-2)
+    tie.close (tie.spec no-connection-requires returns read-connection-requires returns-2)

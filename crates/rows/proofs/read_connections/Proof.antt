@@ -3,11 +3,11 @@
 use Prim.Native.Nat.{_≤_, _-_}
 use mathlib.Core.Path.{_≡_}
 use mathlib.Core.List.{map}
-use borrow.Author.Needs.{needs}
 use lib.ListN.{length, take}
 use Rattle.server.specs.Lists.{numbers}
 use Rattle.server.specs.Layout.{connectionIn}
 use Rattle.rows.proofs.Reading.{fill-more, connections-read}
+use borrow.Author.Needs.{needs}
 use Rattle.rows.proofs.read_connections.Statement.{statement}
 use Rattle.rows.proofs.read_connections.Tie as tie
 
@@ -17,26 +17,14 @@ Inv-loop table connections₀ i₀ connections i = (i ≤ 16) × (length connect
 abbrev μ-loop : tie.MeasureT-loop
 μ-loop table connections₀ i₀ connections i = 16 - i
 
+no-connection-requires : tie.Need-no-connection-requires Inv-loop μ-loop
+no-connection-requires c κs = search needs
+
 loop-holds : tie.Need-loop-holds Inv-loop μ-loop
 loop-holds c = search needs
 
-add-t6 : tie.Need-add-t6 Inv-loop μ-loop
-add-t6 c = search needs
-
-shared-slice-read-t8 : tie.Need-shared-slice-read-t8 Inv-loop μ-loop
-shared-slice-read-t8 c = search needs
-
-add-t9 : tie.Need-add-t9 Inv-loop μ-loop
-add-t9 c = search needs
-
-shared-slice-read-t11 : tie.Need-shared-slice-read-t11 Inv-loop μ-loop
-shared-slice-read-t11 c = search needs
-
-add-t13 : tie.Need-add-t13 Inv-loop μ-loop
-add-t13 c = search needs
-
-shared-slice-read-t15 : tie.Need-shared-slice-read-t15 Inv-loop μ-loop
-shared-slice-read-t15 c = search needs
+read-connection-requires : tie.Need-read-connection-requires Inv-loop μ-loop
+read-connection-requires c κs = search needs
 
 mul-connections : tie.Need-mul-connections Inv-loop μ-loop
 mul-connections c = search needs
@@ -62,13 +50,9 @@ read-connections-spec =
     (tie.spec
     Inv-loop
     μ-loop
+    no-connection-requires
     loop-holds
-    add-t6
-    shared-slice-read-t8
-    add-t9
-    shared-slice-read-t11
-    add-t13
-    shared-slice-read-t15
+    read-connection-requires
     mul-connections
     array-set-from-connections
     add-i

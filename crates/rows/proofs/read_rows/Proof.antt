@@ -16,6 +16,9 @@ Inv-loop table rows₀ i₀ rows i = (i ≤ 32) × (length rows ≡ 32) × (take
 abbrev μ-loop : tie.MeasureT-loop
 μ-loop table rows₀ i₀ rows i = 32 - i
 
+no-row-requires : tie.Need-no-row-requires Inv-loop μ-loop
+no-row-requires c κs = search needs
+
 loop-holds : tie.Need-loop-holds Inv-loop μ-loop
 loop-holds c = search needs
 
@@ -46,6 +49,7 @@ read-rows-spec =
     (tie.spec
     Inv-loop
     μ-loop
+    no-row-requires
     loop-holds
     read-row-requires
     mul-rows

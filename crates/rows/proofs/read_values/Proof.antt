@@ -4,8 +4,8 @@ use Rattle.rows.proofs.Reading.{values-read}
 use Rattle.rows.proofs.read_values.Statement.{statement}
 use Rattle.rows.proofs.read_values.Tie as tie
 
-number4-requires : tie.Need-number4-requires
-number4-requires c κs = search needs
+last-requires : tie.Need-last-requires
+last-requires c κs = search needs
 
 read-connections-requires : tie.Need-read-connections-requires
 read-connections-requires c κs = search needs
@@ -23,7 +23,7 @@ pub read-values-spec : {M : Type 1} → statement M
 read-values-spec =
     tie.close
     (tie.spec
-    number4-requires
+    last-requires
     read-connections-requires
     read-able-requires
     read-rows-requires

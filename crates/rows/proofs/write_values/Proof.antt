@@ -1,6 +1,6 @@
 -- `rows::write_values` meets its contract: the rows stand right after the head; the connections' flags lie apart. Assumes nothing.
 use borrow.Author.Needs.{needs}
-use Rattle.rows.proofs.Writing.{values-written}
+use Rattle.rows.proofs.Written.{values-written}
 use Rattle.rows.proofs.write_values.Statement.{statement}
 use Rattle.rows.proofs.write_values.Tie as tie
 

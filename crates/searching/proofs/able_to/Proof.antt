@@ -1,12 +1,13 @@
 -- `searching::able_to` meets its contract: inside it reads the place, and beyond the last there is nobody. Assumes nothing.
+use mathlib.Core.Path.{sym}
 use native.Mathlib.Omega.{arith}
-use Rattle.searching.proofs.Greatest.{able-beyond}
+use lib.ListN.{List·getD-eq-default}
 use borrow.Author.Needs.{needs}
 use Rattle.searching.proofs.able_to.Statement.{statement}
 use Rattle.searching.proofs.able_to.Tie as tie
 
 returns : tie.Need-returns
-returns c = able-beyond (c .before .args .t1) (c .before .args .q) (omega arith)
+returns c = sym (List·getD-eq-default (c .before .args .t1) 0 (omega arith))
 
 mul-result : tie.Need-mul-result
 mul-result c = search needs

@@ -1,7 +1,7 @@
 -- `sending::send_option` meets its contract: the one option has one name. Assumes nothing.
-use mathlib.Core.Path.{refl}
-use Rattle.sending.proofs.Answers.{option-given, option-sendable}
-use Rattle.sending.proofs.Laid.{may-send, sent-as}
+use native.Mathlib.Omega.{arith}
+use Rattle.packet.specs.Arguments.{join}
+use Rattle.sending.specs.Messages.{optionArguments}
 use borrow.Author.Needs.{needs}
 use Rattle.sending.proofs.send_option.Statement.{statement}
 use Rattle.sending.proofs.send_option.Tie as tie
@@ -9,36 +9,16 @@ use Rattle.sending.proofs.send_option.Tie as tie
 slice-aggregate-send : tie.Need-slice-aggregate-send
 slice-aggregate-send c = search needs
 
-slice-aggregate-send-2 : tie.Need-slice-aggregate-send-2
-slice-aggregate-send-2 c = search needs
-
-slice-aggregate-send-3 : tie.Need-slice-aggregate-send-3
-slice-aggregate-send-3 c = search needs
-
-slice-aggregate-send-4 : tie.Need-slice-aggregate-send-4
-slice-aggregate-send-4 c = search needs
-
-slice-aggregate-send-5 : tie.Need-slice-aggregate-send-5
-slice-aggregate-send-5 c = search needs
-
 send-requires : tie.Need-send-requires
-send-requires c κs = may-send _ _ option-given _ refl _ _ refl _ _ _ option-sendable (c .before .before .before .before .before .before .before .pre)
+unfolding join optionArguments
+send-requires c κs = (omega arith, c .before .before .before .pre)
 
 same-length : tie.Need-same-length
 same-length c = search needs
 
 returns : tie.Need-returns
-returns c = sent-as _ _ option-given _ refl _ _ refl _ _ _ _ _ (c .before .before .send .ensures)
+unfolding join optionArguments
+returns c = c .before .before .send .ensures
 
 pub send-option-spec : {M : Type 1} → statement M
-send-option-spec =
-    tie.close
-    (tie.spec
-    slice-aggregate-send
-    slice-aggregate-send-2
-    slice-aggregate-send-3
-    slice-aggregate-send-4
-    slice-aggregate-send-5
-    send-requires
-    same-length
-    returns)
+send-option-spec = tie.close (tie.spec slice-aggregate-send send-requires same-length returns)

@@ -2,7 +2,7 @@
 use mathlib.Core.Path.{sym}
 use lib.Seq.{length-take-le}
 use Rattle.handle.proofs.Printing.{printed-fits, printed-front}
-use Rattle.naming.proofs.Runs.{laid-as, room-as}
+use Rattle.octets.proofs.Runs.{laid-as, room-as}
 use borrow.Author.Needs.{needs}
 use Rattle.standing.proofs.put_handle.Statement.{statement}
 use Rattle.standing.proofs.put_handle.Tie as tie

@@ -3,7 +3,7 @@ use Prim.Native.Nat.{_-_}
 use mathlib.Core.List.{_++_}
 use Rattle.handle.specs.Handle.{decimal}
 use Rattle.naming.specs.Names.{space}
-use Rattle.naming.proofs.Runs.{laid-as, laid-then, room-as, room-first, room-then}
+use Rattle.octets.proofs.Runs.{laid-as, laid-then, room-as, room-first, room-then}
 use Rattle.standing.specs.Standing.{holderWord, noneWord}
 use Rattle.standing.proofs.Jobs.{holder-none, holder-some}
 use borrow.Author.Needs.{needs}

@@ -4,7 +4,7 @@ use Rattle.octets.specs.Bytes.{Bytes}
 use Rattle.sets.specs.Sets.{has}
 use Rattle.handle.specs.Handle.{handle, lap}
 use Rattle.server.specs.declared.JobRow.{JobRow}
-use Rattle.naming.proofs.Runs.{laid-then, laid-third, room-first, room-second, room-then, room-third}
+use Rattle.octets.proofs.Runs.{laid-then, laid-third, room-first, room-second, room-then, room-third}
 use Rattle.standing.specs.Standing.{below, connectionsText, holderText, holderWord, jobText, jobWord, listenersWord}
 use borrow.Author.Needs.{needs}
 use Rattle.standing.proofs.put_job.Statement.{statement}

@@ -1,7 +1,7 @@
 -- `standing::put_job_of` meets its contract: the search answers the place of the serial's job, or that there is none.
 -- Assumes nothing.
 use mathlib.Core.Path.{sym, _∙_}
-use Rattle.naming.proofs.Runs.{laid-as, room-as}
+use Rattle.octets.proofs.Runs.{laid-as, room-as}
 use Rattle.standing.proofs.Jobs.{serial-found, serial-unfound}
 use borrow.Author.Needs.{needs}
 use Rattle.standing.proofs.put_job_of.Statement.{statement}

@@ -1,6 +1,6 @@
 -- `standing::put_listeners` meets its contract: the word, the members, and ` none` if there is none. Assumes nothing.
 use Rattle.sets.specs.Sets.{has}
-use Rattle.naming.proofs.Runs.{room-first}
+use Rattle.octets.proofs.Runs.{room-first}
 use Rattle.standing.specs.Standing.{connectionsText, listenersWord}
 use Rattle.standing.proofs.Connections.{list-laid, list-room, none-room}
 use borrow.Author.Needs.{needs}

@@ -1,7 +1,7 @@
 -- `standing::put_no_job` meets its contract: the words, and the handle. Assumes nothing.
 use mathlib.Core.List.{_++_}
 use Rattle.handle.specs.Handle.{handle, lap}
-use Rattle.naming.proofs.Runs.{laid-then, room-first, room-then}
+use Rattle.octets.proofs.Runs.{laid-then, room-first, room-then}
 use Rattle.standing.specs.Standing.{below, noJobText, noJobWord}
 use borrow.Author.Needs.{needs}
 use Rattle.standing.proofs.put_no_job.Statement.{statement}

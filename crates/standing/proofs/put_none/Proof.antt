@@ -1,5 +1,5 @@
 -- `standing::put_none` meets its contract: the word, or nothing. Assumes nothing.
-use Rattle.naming.proofs.Runs.{laid-as, laid-none, room-as}
+use Rattle.octets.proofs.Runs.{laid-as, laid-none, room-as}
 use Rattle.standing.specs.Standing.{noneWord}
 use Rattle.standing.proofs.Connections.{if-not, if-so}
 use borrow.Author.Needs.{needs}

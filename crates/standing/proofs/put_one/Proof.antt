@@ -1,7 +1,7 @@
 -- `standing::put_one` meets its contract: a space and the number, or nothing. Assumes nothing.
 use Rattle.handle.specs.Handle.{decimal}
 use Rattle.naming.specs.Names.{space}
-use Rattle.naming.proofs.Runs.{laid-as, laid-none, laid-then, room-as, room-first, room-then}
+use Rattle.octets.proofs.Runs.{laid-as, laid-none, laid-then, room-as, room-first, room-then}
 use Rattle.standing.proofs.Connections.{if-not, if-so}
 use borrow.Author.Needs.{needs}
 use Rattle.standing.proofs.put_one.Statement.{statement}

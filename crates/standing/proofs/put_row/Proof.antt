@@ -1,6 +1,6 @@
 -- `standing::put_row` meets its contract: the row's job, or nothing for a free row. Assumes nothing.
 use mathlib.Core.Path.{sym, _∙_}
-use Rattle.naming.proofs.Runs.{laid-as, laid-none, room-as}
+use Rattle.octets.proofs.Runs.{laid-as, laid-none, room-as}
 use Rattle.standing.specs.Standing.{jobText}
 use Rattle.standing.proofs.Connections.{if-not, if-so}
 use borrow.Author.Needs.{needs}

@@ -1,6 +1,6 @@
 -- `standing::put_sleepers` meets its contract: the word, the sleepers, and ` none` if there is none. Assumes nothing.
 use mathlib.Core.List.{_++_}
-use Rattle.naming.proofs.Runs.{room-first}
+use Rattle.octets.proofs.Runs.{room-first}
 use Rattle.standing.specs.Standing.{asleepWord, below, connectionsText, sleepersText}
 use Rattle.standing.proofs.Connections.{list-laid, list-room, none-room, sleeps}
 use borrow.Author.Needs.{needs}

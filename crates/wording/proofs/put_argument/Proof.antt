@@ -11,7 +11,7 @@ use Rattle.packet.specs.declared.Shape.{Shape}
 use Rattle.packet.specs.Layout.{rulesOf}
 use Rattle.wording.specs.Lines.{argumentText, labelBefore, valueOf}
 use Rattle.naming.specs.Names.{space}
-use Rattle.naming.proofs.Runs.{laid-as, laid-third, room-as, room-first, room-second, room-third}
+use Rattle.octets.proofs.Runs.{laid-as, laid-third, room-as, room-first, room-second, room-third}
 use borrow.Author.Needs.{needs}
 use Rattle.wording.proofs.put_argument.Statement.{statement}
 use Rattle.wording.proofs.put_argument.Tie as tie

@@ -1,6 +1,6 @@
 -- `wording::put_label_before` meets its contract: nothing before an only argument, else the label and a space. Assumes nothing.
 use Rattle.naming.specs.Names.{labelOf, space}
-use Rattle.naming.proofs.Runs.{laid-as, laid-none, laid-then, room-as, room-first, room-then}
+use Rattle.octets.proofs.Runs.{laid-as, laid-none, laid-then, room-as, room-first, room-then}
 use Rattle.wording.proofs.Seen.{label-none, label-some}
 use borrow.Author.Needs.{needs}
 use Rattle.wording.proofs.put_label_before.Statement.{statement}

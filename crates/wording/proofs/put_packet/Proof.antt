@@ -5,7 +5,7 @@ use Rattle.packet.specs.Layout.{rulesOf}
 use Rattle.packet.specs.Answers.{argumentAt}
 use Rattle.naming.specs.Names.{nameOf}
 use Rattle.wording.specs.Lines.{argumentTexts, packetText}
-use Rattle.naming.proofs.Runs.{laid-then, room-first, room-then}
+use Rattle.octets.proofs.Runs.{laid-then, room-first, room-then}
 use borrow.Author.Needs.{needs}
 use Rattle.wording.proofs.put_packet.Statement.{statement}
 use Rattle.wording.proofs.put_packet.Tie as tie

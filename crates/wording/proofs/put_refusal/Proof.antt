@@ -3,7 +3,7 @@ use mathlib.Core.List.{_++_}
 use Rattle.handle.specs.Handle.{decimal}
 use Rattle.naming.specs.Names.{reasonOf, space}
 use Rattle.wording.specs.Lines.{refusalText, refusedWord}
-use Rattle.naming.proofs.Runs.{laid-then, laid-third, room-first, room-second, room-then, room-third}
+use Rattle.octets.proofs.Runs.{laid-then, laid-third, room-first, room-second, room-then, room-third}
 use borrow.Author.Needs.{needs}
 use Rattle.wording.proofs.put_refusal.Statement.{statement}
 use Rattle.wording.proofs.put_refusal.Tie as tie

@@ -5,7 +5,7 @@ use denote.Ref.{now}
 use Rattle.octets.specs.Bytes.{numberAt}
 use Rattle.naming.specs.Names.{nameOf, space}
 use Rattle.wording.specs.Lines.{refusalText}
-use Rattle.naming.proofs.Runs.{laid-as, laid-third, room-as, room-first, room-second, room-third}
+use Rattle.octets.proofs.Runs.{laid-as, laid-third, room-as, room-first, room-second, room-third}
 use Rattle.wording.proofs.Seen.{refused-header, refused-packet}
 use borrow.Author.Needs.{needs}
 use Rattle.wording.proofs.put_refused.Statement.{statement}

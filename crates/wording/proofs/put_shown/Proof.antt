@@ -1,6 +1,6 @@
 -- `wording::put_shown` meets its contract: two quotes for an empty argument, else its bytes. Assumes nothing.
 use Rattle.wording.specs.Lines.{quotes}
-use Rattle.naming.proofs.Runs.{laid-as, room-as}
+use Rattle.octets.proofs.Runs.{laid-as, room-as}
 use Rattle.wording.proofs.Seen.{shown-none, shown-some}
 use borrow.Author.Needs.{needs}
 use Rattle.wording.proofs.put_shown.Statement.{statement}

@@ -1,7 +1,7 @@
 -- `wording::put_size` meets its contract: the digits, and the word after them. Assumes nothing.
 use Rattle.handle.specs.Handle.{decimal}
 use Rattle.wording.specs.Lines.{bytesWord, sized}
-use Rattle.naming.proofs.Runs.{laid-then, room-first, room-then}
+use Rattle.octets.proofs.Runs.{laid-then, room-first, room-then}
 use borrow.Author.Needs.{needs}
 use Rattle.wording.proofs.put_size.Statement.{statement}
 use Rattle.wording.proofs.put_size.Tie as tie

@@ -1,6 +1,6 @@
 -- `wording::put_value` meets its contract: the length of an opaque argument, and the bytes of any other. Assumes nothing.
 use denote.Ref.{now}
-use Rattle.naming.proofs.Runs.{laid-as, room-as}
+use Rattle.octets.proofs.Runs.{laid-as, room-as}
 use Rattle.wording.proofs.Seen.{value-opaque, value-visible}
 use borrow.Author.Needs.{needs}
 use Rattle.wording.proofs.put_value.Statement.{statement}

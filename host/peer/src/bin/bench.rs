@@ -1,151 +1,147 @@
 //! Nanoseconds an event for submit, grab and complete: the core's archive beside the ordinary server, in one run.
-//! usage: bench [--rounds N]. The sides take turns in each round; only numbers of one run should be compared.
+//! usage: bench [--rounds N] [--events N]. The sides take turns; only numbers of one run should be compared. With the
+//! feature `before` an older archive takes its turn as well (host/bench.sh).
 #![forbid(unsafe_code)]
 
 use peer::archive;
-use peer::handle;
-use peer::histories::request;
-use peer::layout::{OUTPUT, TABLE};
-use peer::outbox::Outbox;
-use peer::server::{Server, CONNECTIONS, WORKLOADS};
+use peer::load::{self, Case, COMPLETE, GRAB, SUBMIT};
+use peer::options;
+use peer::sides::{clears, Archive, Plain, Side};
 use std::hint::black_box;
 use std::process::ExitCode;
 use std::time::Instant;
 
-/// About so many events are timed in one go.
-const EVENTS_OF_A_ROUND: usize = 1_200;
-const SUBMIT: usize = 0;
-const GRAB: usize = 1;
-const COMPLETE: usize = 2;
+const ROUNDS: u64 = 20;
+/// Document 02 wants 100,000; the cases with three events a job then end with whole jobs.
+const EVENTS: u64 = 100_002;
 const KINDS: [&str; 4] = ["submit", "grab", "complete", "all three"];
 const ALL: usize = 3;
 
-/// A packet from a connection, and what is counted for it.
-struct Step {
-    kind: usize,
-    connection: u32,
-    packet: Vec<u8>,
+/// The sides in the order of the columns.
+struct Sides {
+    archive: Archive,
+    before: Option<Archive>,
+    plain: Plain,
 }
 
-/// What is measured: packets that lead to the state, then packets that return to it again and again.
-struct Case {
-    name: &'static str,
-    before: Vec<Step>,
-    steps: Vec<Step>,
-}
+/// The times of one side: those of each round, for each kind.
+type Times = [Vec<f64>; 4];
 
-/// The archive with its lent buffers, or the ordinary server with its outbox.
-trait Side {
-    /// A fresh server with all connections open.
-    fn reset(&mut self);
-    /// Runs a packet; gives the number and how many bytes were written.
-    fn run(&mut self, step: &Step) -> (u32, usize);
-    fn output(&self, length: usize) -> &[u8];
-}
+impl Sides {
+    fn new() -> Self {
+        #[cfg(feature = "before")]
+        let before = Some(Archive::new(&archive::BEFORE));
+        #[cfg(not(feature = "before"))]
+        let before = None;
+        Sides { archive: Archive::new(&archive::ARCHIVE), before, plain: Plain::new() }
+    }
 
-struct Archive {
-    table: Vec<u8>,
-    workloads: Vec<u8>,
-    output: Vec<u8>,
-}
-
-impl Side for Archive {
-    fn reset(&mut self) {
-        archive::fresh(&mut self.table, &mut self.workloads);
-        for connection in 0..CONNECTIONS {
-            archive::open(&mut self.table, &mut self.workloads, &mut self.output, connection as u32);
+    fn names(&self) -> Vec<&'static str> {
+        match self.before {
+            Some(_) => vec!["archive", "before", "plain"],
+            None => vec!["archive", "plain"],
         }
     }
-    fn run(&mut self, step: &Step) -> (u32, usize) {
-        let (table, workloads, output) = (&mut self.table, &mut self.workloads, &mut self.output);
-        let (number, length) = archive::packet(table, workloads, output, step.connection, &step.packet);
-        (number, length as usize)
-    }
-    fn output(&self, length: usize) -> &[u8] {
-        &self.output[..length]
-    }
-}
 
-struct Plain {
-    server: Server,
-    out: Outbox,
-}
-
-impl Side for Plain {
-    fn reset(&mut self) {
-        self.server = Server::new();
-        for connection in 0..CONNECTIONS {
-            self.server.open(connection as u32);
+    /// One round of one side, by its column.
+    fn measure(&mut self, column: usize, case: &Case, clock: f64) -> [f64; 4] {
+        match (column, &mut self.before) {
+            (0, _) => measure(case, &mut self.archive, clock),
+            (1, Some(before)) => measure(case, before, clock),
+            _ => measure(case, &mut self.plain, clock),
         }
-    }
-    fn run(&mut self, step: &Step) -> (u32, usize) {
-        self.out.clear();
-        let number = self.server.packet_into(step.connection, &step.packet, &mut self.out);
-        (number, self.out.bytes().len())
-    }
-    fn output(&self, length: usize) -> &[u8] {
-        &self.out.bytes()[..length]
     }
 }
 
 fn main() -> ExitCode {
-    let given: Vec<String> = std::env::args().skip(1).collect();
-    let rounds = match &given[..] {
-        [] => Some(400),
-        [name, value] if name == "--rounds" => value.parse().ok().filter(|&rounds: &usize| rounds > 0),
-        _ => None,
-    };
-    let Some(rounds) = rounds else {
-        eprintln!("usage: bench [--rounds N]");
-        return ExitCode::from(2);
-    };
-    let mut archive = Archive { table: vec![0; TABLE], workloads: vec![0; WORKLOADS], output: vec![0; OUTPUT] };
-    let mut plain = Plain { server: Server::new(), out: Outbox::default() };
-    let clock = clock_cost();
-    println!("nanoseconds an event, minimum and median of {rounds} rounds; ratio: archive to plain server");
-    println!("{:<44} {:<10} {:>15} {:>15} {:>13}", "case", "event", "archive", "plain", "ratio");
-    for case in [one_job(), waiting(), listeners()] {
-        if let Err(text) = same(&case, &mut archive, &mut plain) {
-            println!("{}: {text}", case.name);
-            return ExitCode::from(1);
+    let usage = "usage: bench [--rounds N] [--events N]";
+    let [rounds, events] = match options::numbers(["--rounds", "--events"], [ROUNDS, EVENTS]) {
+        // With fewer events some case would lack a kind.
+        Ok([rounds, events]) if rounds > 0 && events >= 17 => [rounds as usize, events as usize],
+        Ok(_) => {
+            eprintln!("at least 1 round and 17 events\n{usage}");
+            return ExitCode::from(2);
         }
-        let mut times: [[Vec<f64>; 4]; 2] = Default::default();
+        Err(text) => {
+            eprintln!("{text}\n{usage}");
+            return ExitCode::from(2);
+        }
+    };
+    match bench(rounds, events) {
+        Ok(()) => ExitCode::SUCCESS,
+        Err(text) => {
+            println!("{text}");
+            ExitCode::from(1)
+        }
+    }
+}
+
+fn bench(rounds: usize, events: usize) -> Result<(), String> {
+    let mut sides = Sides::new();
+    let clock = clock_cost();
+    println!(
+        "nanoseconds an event, minimum and median of {rounds} rounds of {events} events; ratios to the plain server"
+    );
+    println!("{}", memory(&mut sides));
+    heading(&sides);
+    for case in load::cases(events) {
+        same(&case, &mut sides.archive, &mut sides.plain).map_err(|text| format!("{}: {text}", case.name))?;
+        if let Some(before) = &mut sides.before {
+            same(&case, before, &mut sides.plain).map_err(|text| format!("{}, before: {text}", case.name))?;
+        }
+        let columns = sides.names().len();
+        let mut times: Vec<Times> = vec![Times::default(); columns];
         for round in 0..rounds {
             // The side that goes first changes from round to round.
-            for turn in 0..2 {
-                let side = (round + turn) % 2;
-                let measured = match side {
-                    0 => measure(&case, &mut archive, clock),
-                    _ => measure(&case, &mut plain, clock),
-                };
+            for turn in 0..columns {
+                let column = (round + turn) % columns;
+                let measured = sides.measure(column, &case, clock);
                 for (kind, time) in measured.into_iter().enumerate() {
-                    times[side][kind].push(time);
+                    times[column][kind].push(time);
                 }
             }
         }
         report(&case, &mut times);
     }
-    ExitCode::SUCCESS
+    Ok(())
 }
 
-fn report(case: &Case, times: &mut [[Vec<f64>; 4]; 2]) {
+/// What each side does with memory that is not needed any more, as a trial found it.
+fn memory(sides: &mut Sides) -> String {
+    let word = |clears: bool| if clears { "yes" } else { "NO" };
+    let mut found = vec![format!("archive {}", word(clears(&mut sides.archive)))];
+    if let Some(before) = &mut sides.before {
+        found.push(format!("before {}", word(clears(before))));
+    }
+    found.push(format!("plain {}", word(clears(&mut sides.plain))));
+    format!(
+        "memory cleared (zeros after a new workload to the end of its 1,024 bytes, all of them zero at an ending): {}",
+        found.join(", ")
+    )
+}
+
+fn heading(sides: &Sides) {
+    let names = sides.names();
+    let mut line = format!("{:<42} {:<10}", "case", "event");
+    names.iter().for_each(|name| line += &format!(" {name:>15}"));
+    names[..names.len() - 1].iter().for_each(|name| line += &format!(" {:>13}", format!("{name}/plain")));
+    println!("{line}");
+}
+
+fn report(case: &Case, times: &mut [Times]) {
     for kind in 0..KINDS.len() {
-        let [archive, plain] = [0, 1].map(|side: usize| {
-            let times = &mut times[side][kind];
-            times.sort_by(f64::total_cmp);
-            (times[0], times[times.len() / 2])
-        });
-        println!(
-            "{:<44} {:<10} {:>7.0} {:>7.0} {:>7.0} {:>7.0} {:>6.2} {:>6.2}",
-            if kind == 0 { case.name } else { "" },
-            KINDS[kind],
-            archive.0,
-            archive.1,
-            plain.0,
-            plain.1,
-            archive.0 / plain.0,
-            archive.1 / plain.1,
-        );
+        let found: Vec<(f64, f64)> = times
+            .iter_mut()
+            .map(|times| {
+                times[kind].sort_by(f64::total_cmp);
+                (times[kind][0], times[kind][times[kind].len() / 2])
+            })
+            .collect();
+        let mut line = format!("{:<42} {:<10}", if kind == 0 { case.name } else { "" }, KINDS[kind]);
+        found.iter().for_each(|(least, median)| line += &format!(" {least:>7.0} {median:>7.0}"));
+        let (plain, archives) = found.split_last().expect("the plain server is there");
+        archives.iter().for_each(|times| line += &format!(" {:>6.2} {:>6.2}", times.0 / plain.0, times.1 / plain.1));
+        println!("{line}");
     }
 }
 
@@ -154,7 +150,8 @@ fn same(case: &Case, archive: &mut Archive, plain: &mut Plain) -> Result<(), Str
     archive.reset();
     plain.reset();
     for (index, step) in case.before.iter().chain(&case.steps).enumerate() {
-        let (left, right) = (archive.run(step), plain.run(step));
+        let (connection, packet) = (u32::from(step.connection), case.packet(step));
+        let (left, right) = (archive.run(connection, packet), plain.run(connection, packet));
         if left != right || left.0 != 0 || archive.output(left.1) != plain.output(right.1) {
             return Err(format!("the sides differ at packet {index}, or it is refused: {left:?} {right:?}"));
         }
@@ -168,17 +165,17 @@ fn measure(case: &Case, side: &mut impl Side, clock: f64) -> [f64; 4] {
     prepare(case, side);
     let start = Instant::now();
     for step in &case.steps {
-        black_box(side.run(black_box(step)));
+        black_box(side.run(u32::from(step.connection), black_box(case.packet(step))));
     }
     times[ALL] = start.elapsed().as_nanos() as f64 / case.steps.len() as f64;
 
     prepare(case, side);
-    let mut counts = [0; 3];
+    let mut counts = [0u32; 3];
     for step in &case.steps {
         let start = Instant::now();
-        black_box(side.run(black_box(step)));
-        times[step.kind] += start.elapsed().as_nanos() as f64 - clock;
-        counts[step.kind] += 1;
+        black_box(side.run(u32::from(step.connection), black_box(case.packet(step))));
+        times[usize::from(step.kind)] += start.elapsed().as_nanos() as f64 - clock;
+        counts[usize::from(step.kind)] += 1;
     }
     for kind in [SUBMIT, GRAB, COMPLETE] {
         times[kind] /= f64::from(counts[kind]);
@@ -189,7 +186,7 @@ fn measure(case: &Case, side: &mut impl Side, clock: f64) -> [f64; 4] {
 fn prepare(case: &Case, side: &mut impl Side) {
     side.reset();
     for step in &case.before {
-        side.run(step);
+        side.run(u32::from(step.connection), case.packet(step));
     }
 }
 
@@ -204,53 +201,4 @@ fn clock_cost() -> f64 {
         .collect();
     costs.sort_by(f64::total_cmp);
     costs[costs.len() / 2]
-}
-
-// ---- The cases. Each starts from a fresh table, so the serials are known.
-
-fn step(kind: usize, connection: u32, number: u32, arguments: &[&[u8]]) -> Step {
-    Step { kind, connection, packet: request(number, arguments) }
-}
-
-fn complete(connection: u32, serial: u32, result: &[u8]) -> Step {
-    step(COMPLETE, connection, 13, &[handle::print(serial).bytes(), result])
-}
-
-/// One job in flight: submitted, grabbed, completed.
-fn one_job() -> Case {
-    let before = vec![step(SUBMIT, 1, 1, &[b"reverse"])];
-    let mut steps = Vec::new();
-    for serial in 1..=EVENTS_OF_A_ROUND as u32 / 3 {
-        steps.push(step(SUBMIT, 0, 7, &[b"reverse", b"", &[b'w'; 32]]));
-        steps.push(step(GRAB, 1, 9, &[]));
-        steps.push(complete(1, serial, &[b'r'; 32]));
-    }
-    Case { name: "one job in flight", before, steps }
-}
-
-/// 31 jobs wait, with 900-byte workloads over 16 functions; a 32nd comes, and the oldest is grabbed and completed.
-fn waiting() -> Case {
-    let function = |number: u32| format!("function-{:02}", number % 16).into_bytes();
-    let submit = |serial: u32| step(SUBMIT, 0, 7, &[&function(serial), b"", &[b'w'; 900]]);
-    let mut before: Vec<Step> = (0..16).map(|number| step(SUBMIT, 1, 1, &[&function(number)])).collect();
-    before.extend((1..=31).map(submit));
-    let mut steps = Vec::new();
-    for serial in 1..=EVENTS_OF_A_ROUND as u32 / 3 {
-        steps.push(submit(serial + 31));
-        steps.push(step(GRAB, 1, 9, &[]));
-        steps.push(complete(1, serial, &[b'r'; 32]));
-    }
-    Case { name: "31 waiting, 900 bytes each, 16 functions", before, steps }
-}
-
-/// 15 connections submit with one unique, so that all of them listen; the result goes to each.
-fn listeners() -> Case {
-    let before = vec![step(SUBMIT, 15, 1, &[b"reverse"])];
-    let mut steps = Vec::new();
-    for serial in 1..=EVENTS_OF_A_ROUND as u32 / 17 {
-        steps.extend((0..15).map(|client| step(SUBMIT, client, 7, &[b"reverse", b"unique", &[b'w'; 32]])));
-        steps.push(step(GRAB, 15, 9, &[]));
-        steps.push(complete(15, serial, &[b'r'; 32]));
-    }
-    Case { name: "15 listeners on one job", before, steps }
 }

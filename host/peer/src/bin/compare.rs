@@ -1,9 +1,11 @@
-//! Compares the core's archive with the ordinary server over fixed and random histories, damaged tables and short
-//! buffers.
+//! Compares the core's archive with the ordinary server over fixed and random histories, damaged and made tables
+//! and short buffers.
 //! usage: compare [--events N] [--seed S]. It stops at the first difference with a full description and exit status 1.
 #![forbid(unsafe_code)]
 
+use peer::counts::Counts;
 use peer::damage;
+use peer::edge_tables::{self, Base};
 use peer::event::Event;
 use peer::hex;
 use peer::histories::History;
@@ -13,56 +15,17 @@ use peer::lent::Host;
 use peer::options;
 use peer::outbox::Outbox;
 use peer::random::Random;
-use peer::rules;
 use peer::scripts::{self, Script};
 use peer::server::{Server, JOBS, WORKLOADS};
+use peer::trials::Trial;
 use std::process::ExitCode;
 
 const EVENTS_OF_A_HISTORY: u64 = 2_000;
 /// How many reached tables are damaged at every byte, and how often each has several fields damaged.
 const DAMAGED_TABLES: usize = 10;
 const FIELD_DAMAGES: usize = 6_000;
-/// The protocol's types run from 1 to 36.
-const TYPES: usize = 37;
-
-/// What was compared.
-struct Counts {
-    events: u64,
-    fixed: u64,
-    numbers: [u64; 17],
-    done: [u64; TYPES],
-    sent: [u64; TYPES],
-    damaged: u64,
-    obeying: u64,
-    short: u64,
-    fresh: u64,
-}
-
-impl Counts {
-    fn new() -> Self {
-        Counts {
-            events: 0,
-            fixed: 0,
-            numbers: [0; 17],
-            done: [0; TYPES],
-            sent: [0; TYPES],
-            damaged: 0,
-            obeying: 0,
-            short: 0,
-            fresh: 0,
-        }
-    }
-
-    fn add(&mut self, event: &Event, number: u32, out: &Outbox) {
-        self.numbers[number as usize] += 1;
-        if let (Event::Packet(_, packet), 0) = (event, number) {
-            self.done[packet[7] as usize] += 1;
-        }
-        for packet in out.addressed() {
-            self.sent[packet[8] as usize] += 1;
-        }
-    }
-}
+/// How many events are tried on each state that tables are made from.
+const EVENTS_OF_A_BASE: usize = 100;
 
 /// A state that a history reached, to be damaged later.
 struct Reached {
@@ -79,10 +42,10 @@ fn main() -> ExitCode {
             return ExitCode::from(2);
         }
     };
-    let mut counts = Counts::new();
+    let mut counts = Counts::default();
     match compare(events, seed, &mut counts) {
         Ok(()) => {
-            summary(&counts);
+            println!("same: {counts}");
             ExitCode::SUCCESS
         }
         Err(text) => {
@@ -96,6 +59,9 @@ fn compare(events: u64, first_seed: u64, counts: &mut Counts) -> Result<(), Stri
     fresh_tables(first_seed, counts)?;
     for script in scripts::all() {
         fixed_history(&script, counts)?;
+    }
+    for base in edge_tables::all() {
+        made_tables(&base, counts)?;
     }
     let mut reached = Vec::new();
     let mut seed = first_seed;
@@ -180,19 +146,34 @@ fn richness(server: &Server) -> usize {
     jobs + held.min(10) + functions.min(14) + 2 * asleep.min(5) + options.min(5)
 }
 
+/// A state with telling events, then the tables that are made from it on purpose.
+fn made_tables(base: &Base, counts: &mut Counts) -> Result<(), String> {
+    let mut trial = Trial::new(&base.server, 1);
+    let table = trial.table().to_vec();
+    let same = (0..EVENTS_OF_A_BASE).map(|_| (table.clone(), String::new()));
+    let changed = base.changes.iter().map(|change| (change.table(&table), change.to_string()));
+    for (index, (bytes, what)) in same.chain(changed).enumerate() {
+        let choose = (index % 2 == 0).then_some(edge_tables::event_about as fn(&Server, &mut Random) -> Event);
+        let obeys = trial
+            .compare(&bytes, choose, counts)
+            .map_err(|text| format!("made table {index} '{}' {what}\n{text}", base.name))?;
+        counts.made.add(obeys);
+    }
+    Ok(())
+}
+
 /// Each byte of a reached table set to several values.
 fn damaged_bytes(reached: &Reached, counts: &mut Counts) -> Result<(), String> {
-    let table = image::image(&reached.server);
-    let mut damage = Damage::new(reached);
+    let mut trial = Trial::new(&reached.server, reached.seed ^ 0xda);
+    let table = trial.table().to_vec();
     for at in 0..TABLE {
         for value in damage::values(table[at]) {
             let mut bytes = table.clone();
             bytes[at] = value;
-            damage.host.set_byte(at, value);
-            damage.compare(&bytes, counts).map_err(|text| {
+            let obeys = trial.compare(&bytes, None, counts).map_err(|text| {
                 format!("{}, byte {at} set to {value:02x} from {:02x}\n{text}", reached.name(), table[at])
             })?;
-            damage.host.set_byte(at, table[at]);
+            counts.damaged.add(obeys);
         }
     }
     Ok(())
@@ -200,62 +181,18 @@ fn damaged_bytes(reached: &Reached, counts: &mut Counts) -> Result<(), String> {
 
 /// One to three fields of a reached table changed.
 fn damaged_fields(reached: &Reached, counts: &mut Counts) -> Result<(), String> {
-    let table = image::image(&reached.server);
-    let mut damage = Damage::new(reached);
+    let mut trial = Trial::new(&reached.server, reached.seed ^ 0xda);
     for _ in 0..FIELD_DAMAGES {
-        let mut bytes = table.clone();
-        for _ in 0..1 + damage.random.below(3) {
-            damage::field(&mut bytes, &mut damage.random);
+        let mut bytes = trial.table().to_vec();
+        for _ in 0..1 + trial.random.below(3) {
+            damage::field(&mut bytes, &mut trial.random);
         }
-        damage.host.set(&bytes, &[]);
-        damage.compare(&bytes, counts).map_err(|text| {
+        let obeys = trial.compare(&bytes, None, counts).map_err(|text| {
             format!("{}, fields changed, the table is\n{}\n{text}", reached.name(), hex::write(&bytes))
         })?;
-        damage.host.set(&table, &[]);
+        counts.damaged.add(obeys);
     }
     Ok(())
-}
-
-/// What is needed to try many damaged tables from one state.
-struct Damage<'a> {
-    reached: &'a Reached,
-    host: Host,
-    history: History,
-    random: Random,
-    out: Outbox,
-}
-
-impl<'a> Damage<'a> {
-    fn new(reached: &'a Reached) -> Self {
-        let mut random = Random::new(reached.seed ^ 0xda);
-        let mut host = Host::new(&mut random);
-        host.set(&image::image(&reached.server), &reached.server.workloads);
-        Damage { reached, host, history: History::new(reached.seed ^ 0xda), random, out: Outbox::default() }
-    }
-
-    /// The archive must refuse by 1 exactly if a rule is broken; otherwise it must go on from what the bytes say.
-    fn compare(&mut self, bytes: &[u8], counts: &mut Counts) -> Result<(), String> {
-        counts.damaged += 1;
-        let reached = &self.reached.server;
-        if !image::obeys(bytes) {
-            let event = self.history.next(reached);
-            counts.numbers[1] += 1;
-            return self
-                .host
-                .refused(&event)
-                .map_err(|text| format!("broken: {:?}\n{event}\n{text}", rules::broken(bytes)));
-        }
-        counts.obeying += 1;
-        let mut server = image::read(bytes, &reached.workloads);
-        let event = self.history.next(&server);
-        let number = event.run(&mut server, &mut self.out);
-        counts.add(&event, number, &self.out);
-        self.host
-            .step(&event, &server, number, self.out.bytes())
-            .map_err(|text| format!("no rule is broken\n{event}\n{text}"))?;
-        self.host.set(&image::image(reached), &reached.workloads);
-        Ok(())
-    }
 }
 
 /// Every event is refused by 1 if one lent buffer is too short, whatever it would be otherwise; none is if each has
@@ -303,26 +240,4 @@ impl Reached {
 fn describe(index: usize, event: &Event, number: u32, out: &Outbox, text: &str) -> String {
     let packets: Vec<String> = out.addressed().map(hex::write).collect();
     format!("event {index}: {event}\nright: number {number}, packets {packets:?}\n{text}")
-}
-
-fn summary(counts: &Counts) {
-    let list = |counts: &[u64]| -> String {
-        let some: Vec<String> =
-            counts.iter().enumerate().filter(|(_, &n)| n > 0).map(|(what, n)| format!("{what}:{n}")).collect();
-        some.join(" ")
-    };
-    println!(
-        "same: {} random and {} fixed events, {} damaged tables ({} still obey), \
-         {} calls on shortest or short buffers, {} fresh tables; numbers {}; \
-         requests done by type {}; packets sent by type {}",
-        counts.events,
-        counts.fixed,
-        counts.damaged,
-        counts.obeying,
-        counts.short,
-        counts.fresh,
-        list(&counts.numbers),
-        list(&counts.done),
-        list(&counts.sent),
-    );
 }

@@ -1,0 +1,226 @@
+//! The packets of random histories: mostly right ones, with arguments from small sets, and damaged ones.
+#![forbid(unsafe_code)]
+
+use super::{abilities, request, History, Mood, NOT_SERVED, SERVED, SUBMISSIONS};
+use crate::handle;
+use crate::packet::Side;
+use crate::server::{Server, CONNECTIONS};
+
+impl History {
+    /// A packet of a served type; its arguments are mostly right.
+    pub(super) fn valid(&mut self, server: &Server, connection: u32, kind: u32) -> Vec<u8> {
+        match kind {
+            1 => {
+                let function = self.function();
+                request(1, &[&function])
+            }
+            2 => {
+                let function = self.given_up(server, connection);
+                request(2, &[&function])
+            }
+            kind if SUBMISSIONS.contains(&kind) => {
+                let function = self.submitted(server);
+                let unique = self.unique();
+                let workload = self.opaque(1_022usize.saturating_sub(function.len() + unique.len()));
+                request(kind, &[&function, &unique, &workload])
+            }
+            12 => {
+                let handle = self.handle(server, connection);
+                let numerator = self.digits();
+                let denominator = self.digits();
+                request(12, &[&handle, &numerator, &denominator])
+            }
+            kind @ (14 | 15) => {
+                let handle = self.handle(server, connection);
+                request(kind, &[&handle])
+            }
+            kind @ (13 | 25 | 28 | 29) => {
+                let handle = self.handle(server, connection);
+                let data = self.opaque(1_023usize.saturating_sub(handle.len()));
+                request(kind, &[&handle, &data])
+            }
+            16 => {
+                let data = self.opaque(1_024);
+                request(16, &[&data])
+            }
+            26 => {
+                const RIGHT: &[u8] = b"exceptions";
+                let options = [RIGHT, RIGHT, RIGHT, RIGHT, b"exception", b"exceptions2", b"", b"Exceptions"];
+                let option = *self.random.pick(&options);
+                request(26, &[option])
+            }
+            kind => request(kind, &[]),
+        }
+    }
+
+    /// The function of a submission: any one, or, while workers are idle, mostly one that a sleeper can do.
+    fn submitted(&mut self, server: &Server) -> Vec<u8> {
+        let sleepers = (0..CONNECTIONS).filter(|&c| server.connections[c].asleep);
+        let wanted: Vec<_> = sleepers.flat_map(|sleeper| abilities(server, sleeper)).collect();
+        if self.mood == Mood::Idle && !wanted.is_empty() && self.random.chance(60) {
+            return self.random.pick(&wanted).bytes().to_vec();
+        }
+        self.function()
+    }
+
+    /// The function that a connection gives up: mostly that of a job which it holds, or one that it can do.
+    fn given_up(&mut self, server: &Server, connection: u32) -> Vec<u8> {
+        let held = server.jobs.iter().flatten().filter(|job| job.holder == Some(connection as usize));
+        let names: Vec<_> = held.filter_map(|job| server.functions[job.function].map(|known| known.name)).collect();
+        let able = if (connection as usize) < CONNECTIONS { abilities(server, connection as usize) } else { vec![] };
+        match self.random.below(10) {
+            0..=3 if !names.is_empty() => self.random.pick(&names).bytes().to_vec(),
+            0..=7 if !able.is_empty() => self.random.pick(&able).bytes().to_vec(),
+            _ => self.function(),
+        }
+    }
+
+    /// A name from the small set: short ones, some that differ in the last byte only, some of 32 bytes. Rarely one of 0
+    /// or 33 bytes.
+    fn function(&mut self) -> Vec<u8> {
+        match self.random.below(120) {
+            0 => return vec![],
+            1 => return vec![b'a'; 33],
+            2 => return vec![self.random.byte(); 1 + self.random.below(40)],
+            _ => {}
+        }
+        let number = self.random.below(self.functions);
+        match number {
+            0 => b"reverse".to_vec(),
+            1 => b"r".to_vec(),
+            2 => vec![b'a'; 32],
+            3 => [&[b'a'; 31][..], b"b"].concat(),
+            4 => vec![b'a'; 31],
+            5 => vec![0xff; 32],
+            6 => b"reversf".to_vec(),
+            7 => b"revers".to_vec(),
+            8 => vec![0x01],
+            9 => b"reverse ".to_vec(),
+            _ => format!("function-{number}").into_bytes(),
+        }
+    }
+
+    fn unique(&mut self) -> Vec<u8> {
+        match self.random.below(100) {
+            0 => return vec![b'x'; 65],
+            1 => return vec![self.random.byte(); self.random.below(70)],
+            2..=14 => return vec![],
+            _ => {}
+        }
+        let number = self.random.below(self.uniques);
+        match number {
+            0 => b"u".to_vec(),
+            1 => vec![b'x'; 64],
+            2 => [&[b'x'; 63][..], b"y"].concat(),
+            3 => vec![b'x'; 63],
+            4 => b"reverse".to_vec(),
+            _ => format!("unique-{number}").into_bytes(),
+        }
+    }
+
+    /// Opaque bytes, many of them zero; sometimes as many as still fit, or one more.
+    fn opaque(&mut self, room: usize) -> Vec<u8> {
+        let length = match self.random.below(40) {
+            0 => room,
+            1 => room + 1,
+            2 => room.saturating_sub(1),
+            3..=5 => self.random.below(room + 1),
+            6..=9 => 0,
+            _ => self.random.below(24).min(room),
+        };
+        (0..length).map(|_| if self.random.chance(20) { 0 } else { self.random.byte() }).collect()
+    }
+
+    /// Mostly a handle of a job that the connection holds, if there is one; else other handles, old ones, and texts
+    /// that are nearly one.
+    fn handle(&mut self, server: &Server, connection: u32) -> Vec<u8> {
+        let jobs: Vec<_> = server.jobs.iter().flatten().collect();
+        let held: Vec<_> = jobs.iter().filter(|job| job.holder == Some(connection as usize)).collect();
+        let some_serial = if jobs.is_empty() { 1 } else { self.random.pick(&jobs).serial };
+        match self.random.below(100) {
+            0..=69 if !held.is_empty() => handle::print(self.random.pick(&held).serial).bytes().to_vec(),
+            70..=71 => server.last_serial.saturating_add(1).to_string().into_bytes(),
+            72..=75 => handle::print(server.last_serial.saturating_sub(self.random.below(40) as u32)).bytes().to_vec(),
+            76 => format!("H:lap:0{some_serial}").into_bytes(),
+            77 => format!("H:lap:{}", u64::from(some_serial) + (1 << 32)).into_bytes(),
+            78 => format!("H:lap:+{some_serial}").into_bytes(),
+            79 => format!("h:lap:{some_serial}").into_bytes(),
+            80 => format!("H:lap:{some_serial} ").into_bytes(),
+            81 => b"H:lap:".to_vec(),
+            82 => b"H:lap:0".to_vec(),
+            83 => vec![],
+            84 => vec![b'H'; 63],
+            85 => vec![b'H'; 64],
+            86 => format!("H:lap:{:057}", some_serial).into_bytes(),
+            87 => vec![self.random.byte(); self.random.below(70)],
+            _ => handle::print(some_serial).bytes().to_vec(),
+        }
+    }
+
+    /// Mostly 1 to 10 digits, leading zeros included; rarely none, eleven, or another byte among them.
+    fn digits(&mut self) -> Vec<u8> {
+        let length = match self.random.below(30) {
+            0 => 0,
+            1 => 11,
+            2..=5 => 10,
+            _ => 1 + self.random.below(9),
+        };
+        let mut digits: Vec<u8> = (0..length).map(|_| b'0' + self.random.below(10) as u8).collect();
+        if length > 0 && self.random.chance(4) {
+            let place = self.random.below(length);
+            digits[place] = *self.random.pick(b" /:-+a");
+        }
+        digits
+    }
+
+    /// The packet truncated, prolonged, with other bytes, or something else altogether.
+    pub(super) fn damaged(&mut self, mut packet: Vec<u8>) -> Vec<u8> {
+        match self.random.below(16) {
+            0 => packet.truncate(self.random.below(packet.len() + 1)),
+            1 => packet.truncate(self.random.below(13)),
+            2 => packet.extend([0; 3].iter().take(1 + self.random.below(3))),
+            3 | 4 => {
+                let place = self.random.below(packet.len());
+                packet[place] ^= 1 << self.random.below(8);
+            }
+            5 => {
+                let place = self.random.below(packet.len());
+                packet[place] = *self.random.pick(&[0, 1, b'0', 0xff]);
+            }
+            6 => packet[..4].copy_from_slice(Side::Response.magic()),
+            7 => {
+                let size = *self.random.pick(&[0, 1, 1_023, 1_024, 1_025, 1_088, 65_536, 0x0100_0000, u32::MAX]);
+                packet[8..12].copy_from_slice(&size.to_be_bytes());
+            }
+            8 => packet[4..8].copy_from_slice(&self.random.pick(&NOT_SERVED).to_be_bytes()),
+            9 => packet[4..8].copy_from_slice(&self.random.pick(&SERVED).to_be_bytes()),
+            10 => packet = (0..self.random.below(60)).map(|_| self.random.byte()).collect(),
+            11 => {
+                // A packet at its limit, or one byte beyond it, with any type.
+                let length = *self.random.pick(&[1_023, 1_024, 1_025, 1_026]);
+                let byte = *self.random.pick(b"a\0");
+                let kind =
+                    if self.random.chance(70) { *self.random.pick(&SERVED) } else { *self.random.pick(&NOT_SERVED) };
+                packet = request(kind, &[&vec![byte; length]]);
+            }
+            12 => {
+                // Some data behind a type that has none, or a zero byte where none may stand.
+                let kind = *self.random.pick(&[1, 2, 3, 4, 9, 14, 15, 26, 30]);
+                packet = request(kind, &[b"exceptions\0"]);
+            }
+            13 => {
+                // Too few separators: the arguments run together.
+                let kind = *self.random.pick(&[7, 12, 13, 18, 25, 28, 34]);
+                packet = request(kind, &[b"reverse"]);
+            }
+            14 => packet.clear(),
+            _ => {
+                let data: Vec<u8> =
+                    (0..self.random.below(30)).map(|_| *self.random.pick(b"\0\0H:lap:1reverse")).collect();
+                let kind = *self.random.pick(&SERVED);
+                packet = request(kind, &[&data]);
+            }
+        }
+        packet
+    }
+}

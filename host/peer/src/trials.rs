@@ -1,0 +1,70 @@
+//! Many tables tried on the archive, each in place of the table of one state.
+#![forbid(unsafe_code)]
+
+use crate::counts::Counts;
+use crate::event::Event;
+use crate::histories::History;
+use crate::image;
+use crate::lent::Host;
+use crate::outbox::Outbox;
+use crate::random::Random;
+use crate::rules;
+use crate::server::Server;
+
+pub struct Trial<'a> {
+    server: &'a Server,
+    table: Vec<u8>,
+    host: Host,
+    history: History,
+    pub random: Random,
+    out: Outbox,
+}
+
+/// What gives the event that follows, from the state that the table says.
+type Choose = fn(&Server, &mut Random) -> Event;
+
+impl<'a> Trial<'a> {
+    pub fn new(server: &'a Server, seed: u64) -> Self {
+        let mut random = Random::new(seed);
+        let mut host = Host::new(&mut random);
+        let table = image::image(server);
+        host.set(&table, &server.workloads);
+        Trial { server, table, host, history: History::new(seed), random, out: Outbox::default() }
+    }
+
+    /// The state's own table.
+    pub fn table(&self) -> &[u8] {
+        &self.table
+    }
+
+    /// The archive must refuse by 1 exactly if a rule is broken; otherwise it must go on from what the bytes say. The
+    /// event is a random one, or the chosen one. Gives back whether the table obeys.
+    pub fn compare(&mut self, bytes: &[u8], choose: Option<Choose>, counts: &mut Counts) -> Result<bool, String> {
+        self.host.set(bytes, &[]);
+        let obeys = image::obeys(bytes);
+        if obeys {
+            self.goes_on(bytes, choose, counts)?;
+        } else {
+            let event = self.history.next(self.server);
+            counts.numbers[1] += 1;
+            self.host.refused(&event).map_err(|text| format!("broken: {:?}\n{event}\n{text}", rules::broken(bytes)))?;
+        }
+        self.host.set(&self.table, &[]);
+        Ok(obeys)
+    }
+
+    fn goes_on(&mut self, bytes: &[u8], choose: Option<Choose>, counts: &mut Counts) -> Result<(), String> {
+        let mut server = image::read(bytes, &self.server.workloads);
+        let event = match choose {
+            Some(choose) => choose(&server, &mut self.random),
+            None => self.history.next(&server),
+        };
+        let number = event.run(&mut server, &mut self.out);
+        counts.add(&event, number, &self.out);
+        self.host
+            .step(&event, &server, number, self.out.bytes())
+            .map_err(|text| format!("no rule is broken\n{event}\n{text}"))?;
+        self.host.set(&[], &self.server.workloads);
+        Ok(())
+    }
+}
