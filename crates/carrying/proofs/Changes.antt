@@ -1,25 +1,24 @@
 -- The texts that an event changes, written over the bytes of the table: the bytes of the changed table. Assumes nothing.
-use Prim.Native.Nat.{ℕ, zero, suc, _+_, _*_, _<_}
+use Prim.Native.Nat.{ℕ, _+_, _*_, _<_}
 use mathlib.Core.Path.{_≡_, refl, sym, ap, ap₂, _∙_}
 use mathlib.Core.Bool.{Bool, true, false, cond}
 use mathlib.Core.List.{List, [], _∷_, _++_, map}
-use lib.ListN.{length, getD, set, length-set, length-map}
-use lib.Seq.{map-set-same}
+use lib.ListN.{length, length-set, length-map}
 use Rattle.octets.specs.Bytes.{Bytes}
 use Rattle.octets.specs.Put.{put}
 use Rattle.server.specs.declared.JobRow.{JobRow}
 use Rattle.server.specs.Lists.{fit}
-use Rattle.server.specs.Table.{Function, Job, Table, noFunction, noJob, functionAt, jobAt, setFunction, setJob, withTexts, heldBy}
+use Rattle.server.specs.Table.{Function, Job, Table, functionAt, jobAt, setFunction, withTexts, heldBy}
 use Rattle.server.specs.Events.{named}
 use Rattle.server.specs.Layout.{column, bytesOf}
-use Rattle.plans.specs.declared.Values.{Values}
 use Rattle.plans.specs.declared.Change.the-variants as CV
-use Rattle.plans.specs.Values.{valuesOf, rowsOf, ablesOf}
+use Rattle.plans.specs.Values.{valuesOf, ablesOf}
 use Rattle.plans.specs.Plans.{changed}
 use Rattle.rows.specs.Columns.{numberBytes, connectionBytes}
 use Rattle.texts.specs.Places.{putWhere, reset}
+use Rattle.places.proofs.Puts.{put-name, put-numbers, put-texts}
 use Rattle.carrying.proofs.Regions.{Marked, none, more}
-use Rattle.carrying.proofs.Runs.{name32, unique64, numerator10, denominator10, wide10, wide10′, runs, bytes-runs, Sized, name-put, unique-put, numerator-put, denominator-put, numerators-marked, denominators-marked}
+use Rattle.carrying.proofs.Runs.{name32, unique64, numerator10, denominator10, wide10, wide10′, runs, bytes-runs, Sized, numerators-marked, denominators-marked}
 
 -- a table of the product's size
 pub record Whole (t : Table) : Type 0 where
@@ -40,92 +39,35 @@ sized t w =
       denominators = w .jobs;
     }
 
--- a column that does not see the change
-pub column-same : {A : Type 0} (f : A → Bytes) (l : List A) (i : ℕ) (y d : A) → f y ≡ f (getD l i d) → column f (set l i y) ≡ column f l
-column-same f [] i y d e = refl
-column-same f (x ∷ l) zero y d e = ap (λ (c : Bytes). c ++ column f l) e
-column-same f (x ∷ l) (suc i) y d e = ap (λ (c : Bytes). f x ++ c) (column-same f l i y d e)
-
 pub column-map-same : {A : Type 0} (f : A → Bytes) (g : A → A) → ((x : A) → f (g x) ≡ f x) → (l : List A) → column f (map g l) ≡ column f l
 column-map-same f g e [] = refl
 column-map-same f g e (x ∷ l) = ap₂ _++_ (e x) (column-map-same f g e l)
 
 module _ (t : Table) (w : Whole t) (b : Bytes) where
-  v : Values
-  v = valuesOf t
-
   -- ---- CAN_DO: the name of the function
-
-  named-values : (q : ℕ) (a : Bytes) → valuesOf (setFunction t q (named a (functionAt t q))) ≡ valuesOf t
-  unfolding valuesOf
-  named-values q a = ap (λ (l : List ℕ). record { last = t .last; connections = t .connections; able = l; rows = rowsOf t }) (map-set-same (λ (x : Function). x .able) (t .functions) q (named a (functionAt t q)) noFunction refl)
 
   pub name-changed : (q : ℕ) (a u d : Bytes) → q < 16 → put (548 + 32 * q) (fit 32 a) (put 0 (bytesOf t) b) ≡ put 0 (bytesOf (changed (CV.Name q) a u d t)) b
   unfolding changed
-  name-changed q a u d h =
-      ap (λ (c : Bytes). put (548 + 32 * q) (fit 32 a) (put 0 c b)) (bytes-runs t)
-      ∙ name-put (valuesOf t) (t .functions) (t .jobs) (t .jobs) (t .jobs) (sized t w) q (named a (functionAt t q)) b h
-      ∙ ap (λ (c : Bytes). put 0 c b)
-      (ap (λ (x : Values). runs x (set (t .functions) q (named a (functionAt t q))) (t .jobs) (t .jobs) (t .jobs)) (sym (named-values q a))
-      ∙ sym (bytes-runs (setFunction t q (named a (functionAt t q)))))
+  name-changed q a u d h = put-name t (record { functions = w .functions; jobs = w .jobs }) b q h a
 
   -- ---- WORK_STATUS: the two texts
 
-  texts-values : (p : ℕ) (n d : Bytes) → valuesOf (setJob t p (withTexts n d (jobAt t p))) ≡ valuesOf t
-  unfolding valuesOf
-  texts-values p n d = ap (λ (l : List JobRow). record { last = t .last; connections = t .connections; able = ablesOf t; rows = l }) (map-set-same (λ (j : Job). j .row) (t .jobs) p (withTexts n d (jobAt t p)) noJob refl)
-
   pub texts-changed : (p : ℕ) (a n d : Bytes) → p < 32
       → put (3428 + 10 * p) (fit 10 d) (put (3108 + 10 * p) (fit 10 n) (put 0 (bytesOf t) b)) ≡ put 0 (bytesOf (changed (CV.Texts p) a n d t)) b
-  unfolding changed runs
-  texts-changed p a n d h =
-      let y : Job = withTexts n d (jobAt t p) in
-      let js : List Job = t .jobs in
-      let z = sized t w in
-      let z′ : Sized (valuesOf t) (t .functions) js (set js p y) js = record { connections = z .connections; able = z .able; rows = z .rows; functions = z .functions; uniques = z .uniques; numerators = length-set js p y ∙ z .numerators; denominators = z .denominators } in
-      let e : runs (valuesOf t) (t .functions) js (set js p y) (set js p y) ≡ runs (valuesOf t) (t .functions) (set js p y) (set js p y) (set js p y) =
-      ap (λ (c : Bytes). runsOver c) (sym (column-same unique64 js p y noJob refl)) in
-      ap (λ (c : Bytes). put (3428 + 10 * p) (fit 10 d) (put (3108 + 10 * p) (fit 10 n) (put 0 c b))) (bytes-runs t)
-      ∙ ap (put (3428 + 10 * p) (fit 10 d)) (numerator-put (valuesOf t) (t .functions) js js js z p y b h)
-      ∙ denominator-put (valuesOf t) (t .functions) js (set js p y) js z′ p y b h
-      ∙ ap (λ (c : Bytes). put 0 c b) (e ∙ ap (λ (x : Values). runs x (t .functions) (set js p y) (set js p y) (set js p y)) (sym (texts-values p n d)) ∙ sym (bytes-runs (setJob t p y)))
-    where
-      runsOver : Bytes → Bytes
-      runsOver c = numberBytes (valuesOf t) ++ (column name32 (t .functions) ++ (c ++ (column numerator10 (set (t .jobs) p (withTexts n d (jobAt t p))) ++ (column denominator10 (set (t .jobs) p (withTexts n d (jobAt t p))) ++ connectionBytes (valuesOf t)))))
+  unfolding changed
+  texts-changed p a n d h = put-numbers t (record { functions = w .functions; jobs = w .jobs }) b p h n d
 
-  -- ---- a new job: the name of its function, its unique, `0` and `0`
-
-  newTexts : ℕ → Bytes → Job
-  newTexts p u = record { row = jobAt t p .row; unique = u; numerator = 48 ∷ []; denominator = 48 ∷ [] }
-
-  job-values : (p q : ℕ) (a u : Bytes) → valuesOf (setJob (setFunction t q (named a (functionAt t q))) p (newTexts p u)) ≡ valuesOf t
-  unfolding valuesOf newTexts
-  job-values p q a u =
-      ap₂ {C = Values} (λ (l : List ℕ) (r : List JobRow). record { last = t .last; connections = t .connections; able = l; rows = r })
-      (map-set-same (λ (x : Function). x .able) (t .functions) q (named a (functionAt t q)) noFunction refl)
-      (map-set-same (λ (j : Job). j .row) (t .jobs) p (newTexts p u) noJob refl)
+  -- ---- a new job: the function's name, its unique, `0` and `0`
 
   pub job-changed : (p q : ℕ) (a u d : Bytes) → p < 32 → q < 16
       → put (3428 + 10 * p) (fit 10 (48 ∷ [])) (put (3108 + 10 * p) (fit 10 (48 ∷ [])) (put (1060 + 64 * p) (fit 64 u) (put (548 + 32 * q) (fit 32 a) (put 0 (bytesOf t) b))))
       ≡ put 0 (bytesOf (changed (CV.Job p q) a u d t)) b
-  unfolding changed newTexts
+  unfolding changed
   job-changed p q a u d h k =
-      let y : Job = newTexts p u in
-      let fs : List Function = set (t .functions) q (named a (functionAt t q)) in
-      let js : List Job = t .jobs in
-      let ks : List Job = set js p y in
-      let z = sized t w in
-      let lf : length fs ≡ 16 = length-set (t .functions) q (named a (functionAt t q)) ∙ w .functions in
-      let lk : length ks ≡ 32 = length-set js p y ∙ w .jobs in
-      let z1 : Sized (valuesOf t) fs js js js = record { connections = z .connections; able = z .able; rows = z .rows; functions = lf; uniques = w .jobs; numerators = w .jobs; denominators = w .jobs } in
-      let z2 : Sized (valuesOf t) fs ks js js = record { connections = z .connections; able = z .able; rows = z .rows; functions = lf; uniques = lk; numerators = w .jobs; denominators = w .jobs } in
-      let z3 : Sized (valuesOf t) fs ks ks js = record { connections = z .connections; able = z .able; rows = z .rows; functions = lf; uniques = lk; numerators = lk; denominators = w .jobs } in
-      ap (λ (c : Bytes). put (3428 + 10 * p) (fit 10 (48 ∷ [])) (put (3108 + 10 * p) (fit 10 (48 ∷ [])) (put (1060 + 64 * p) (fit 64 u) c)))
-      (ap (λ (c : Bytes). put (548 + 32 * q) (fit 32 a) (put 0 c b)) (bytes-runs t) ∙ name-put (valuesOf t) (t .functions) js js js z q (named a (functionAt t q)) b k)
-      ∙ ap (λ (c : Bytes). put (3428 + 10 * p) (fit 10 (48 ∷ [])) (put (3108 + 10 * p) (fit 10 (48 ∷ [])) c)) (unique-put (valuesOf t) fs js js js z1 p y b h)
-      ∙ ap (put (3428 + 10 * p) (fit 10 (48 ∷ []))) (numerator-put (valuesOf t) fs ks js js z2 p y b h)
-      ∙ denominator-put (valuesOf t) fs ks ks js z3 p y b h
-      ∙ ap (λ (c : Bytes). put 0 c b) (ap (λ (x : Values). runs x fs ks ks ks) (sym (job-values p q a u)) ∙ sym (bytes-runs (setJob (setFunction t q (named a (functionAt t q))) p y)))
+      let n : Table = setFunction t q (named a (functionAt t q)) in
+      ap (λ (c : Bytes). put (3428 + 10 * p) (fit 10 (48 ∷ [])) (put (3108 + 10 * p) (fit 10 (48 ∷ [])) (put (1060 + 64 * p) (fit 64 u) c))) (name-changed q a u d k)
+      ∙ put-texts n (record { functions = length-set (t .functions) q (named a (functionAt t q)) ∙ w .functions; jobs = w .jobs }) b p h
+      (record { row = jobAt t p .row; unique = u; numerator = 48 ∷ []; denominator = 48 ∷ [] }) refl
 
   -- ---- close: `0` and `0` for the jobs that the connection held
 

@@ -1,49 +1,19 @@
--- Texts laid over the bytes of a table: a text put at its place, or over each marked place, is that text in its column and changes
--- nothing else. Assumes nothing.
-use Prim.Native.Nat.{ℕ, zero, suc, _+_, _*_, _<_}
+-- Texts laid over the bytes of a table: a text put over each marked place is that text in its column and changes nothing else.
+-- Assumes nothing.
+use Prim.Native.Nat.{ℕ, _+_}
 use mathlib.Core.Path.{_≡_, refl, sym, ap, ap₂, _∙_}
 use mathlib.Core.Bool.{Bool, true, false, cond}
 use mathlib.Core.List.{List, [], _∷_, _++_, append-assoc}
-use native.Mathlib.Nat.{zero-add, mul-zero, mul-suc, le-of-suc-le-suc, add-zero}
-use native.Mathlib.Omega.{arith}
-use lib.ListN.{length, set, length-append}
+use lib.ListN.{length, length-append}
 use Rattle.octets.specs.Bytes.{Bytes}
 use Rattle.octets.specs.Put.{put}
-use Rattle.octets.proofs.Laying.{put-next}
 use Rattle.server.specs.Lists.{fit}
 use Rattle.server.specs.Layout.{column}
 use Rattle.server.proofs.Lists.{length-fit}
 use Rattle.texts.specs.Places.{putWhere}
-use Rattle.rows.proofs.Bytes.{put-front}
-
--- a run laid over one of its own length, in the middle of a longer run
-pub put-middle : (p s r q b : Bytes) (at : ℕ) → length p ≡ at → length s ≡ length r → put at s (put 0 (p ++ (r ++ q)) b) ≡ put 0 (p ++ (s ++ q)) b
-put-middle p s r q b at l e =
-    let start : (x : Bytes) → put 0 (p ++ x) b ≡ put at x (put 0 p b) = λ x. sym (ap (λ (m : ℕ). put m x (put 0 p b)) (sym (zero-add at)) ∙ put-next 0 p x b at l) in
-    ap (put at s) (start (r ++ q)) ∙ put-front at s r q (put 0 p b) e ∙ sym (start (s ++ q))
+use Rattle.places.proofs.Columns.{put-middle}
 
 module _ {A : Type 0} (f : A → Bytes) (w : ℕ) (wide : (x : A) → length (f x) ≡ w) where
-  -- ---- one place
-
-  -- the text s, which is y's, put at place i of a column
-  pub column-put : (xs : List A) (i : ℕ) (y : A) (p q b : Bytes) (at : ℕ) → i < length xs → length p ≡ at
-      → put (at + w * i) (f y) (put 0 (p ++ (column f xs ++ q)) b) ≡ put 0 (p ++ (column f (set xs i y) ++ q)) b
-  column-put [] i y p q b at h l = absurd (omega arith)
-  column-put (x ∷ xs) zero y p q b at h l =
-      let z : at + w * 0 ≡ at = ap (λ (m : ℕ). at + m) (mul-zero w) ∙ add-zero at in
-      ap₂ (λ (m : ℕ) (c : Bytes). put m (f y) (put 0 (p ++ c) b)) z (append-assoc (f x) (column f xs) q)
-      ∙ put-middle p (f y) (f x) (column f xs ++ q) b at l (wide y ∙ sym (wide x))
-      ∙ ap (λ (c : Bytes). put 0 (p ++ c) b) (sym (append-assoc (f y) (column f xs) q))
-  column-put (x ∷ xs) (suc i) y p q b at h l =
-      let z : at + w * suc i ≡ at + w + w * i = ap (λ (m : ℕ). at + m) (mul-suc w i) ∙ omega arith in
-      let m : length (p ++ f x) ≡ at + w = length-append p (f x) ∙ ap₂ _+_ l (wide x) in
-      let shift : (c : Bytes) → p ++ ((f x ++ c) ++ q) ≡ (p ++ f x) ++ (c ++ q) = λ c. simp append-assoc in
-      ap₂ (λ (k : ℕ) (c : Bytes). put k (f y) (put 0 c b)) z (shift (column f xs))
-      ∙ column-put xs i y (p ++ f x) q b (at + w) (le-of-suc-le-suc h) m
-      ∙ ap (λ (c : Bytes). put 0 c b) (sym (shift (column f (set xs i y))))
-
-  -- ---- each marked place
-
   -- ys is xs with the text s in each marked place
   pub data Marked (s : Bytes) : List Bool → List A → List A → Type 0 where
     none : Marked s [] [] []

@@ -1,10 +1,10 @@
 -- The bytes of a table as six runs: its numbers, its four columns of texts, and its connections. Each write of the code changes one
 -- run. Assumes nothing.
-use Prim.Native.Nat.{ℕ, _+_, _*_, _<_}
+use Prim.Native.Nat.{ℕ, _+_, _*_}
 use mathlib.Core.Path.{_≡_, sym, ap, ap₂, _∙_}
 use mathlib.Core.Bool.{Bool}
 use mathlib.Core.List.{List, _++_, append-assoc}
-use lib.ListN.{length, set, length-append}
+use lib.ListN.{length, length-append}
 use Rattle.octets.specs.Bytes.{Bytes}
 use Rattle.octets.specs.Put.{put}
 use Rattle.server.specs.Lists.{fit}
@@ -17,7 +17,7 @@ use Rattle.plans.specs.declared.Values.{Values}
 use Rattle.plans.specs.Values.{valuesOf}
 use Rattle.rows.specs.Columns.{numberBytes, textBytes, connectionBytes}
 use Rattle.rows.proofs.Bytes.{numbers-bytes, length-number-bytes, length-connection-bytes, put-front, put-end}
-use Rattle.carrying.proofs.Regions.{Marked, column-put, column-marked}
+use Rattle.carrying.proofs.Regions.{Marked, column-marked}
 
 abbrev pub name32 : Function → Bytes
 name32 x = fit 32 (x .name)
@@ -92,11 +92,7 @@ module _ (v : Values) (fs : List Function) (us ns ds : List Job) (z : Sized v fs
           ≡ (numberBytes v ++ (column name32 fs ++ (column unique64 us ++ column numerator10 ns))) ++ column denominator10 ds
       shift = simp append-assoc
 
-  -- ---- one text
-
-  pub name-put : (q : ℕ) (y : Function) (b : Bytes) → q < 16 → put (548 + 32 * q) (name32 y) (put 0 (runs v fs us ns ds) b) ≡ put 0 (runs v (set fs q y) us ns ds) b
-  unfolding runs
-  name-put q y b h = column-put name32 32 wide32 fs q y (numberBytes v) (column unique64 us ++ (column numerator10 ns ++ (column denominator10 ds ++ connectionBytes v))) b 548 (rw (z .functions) h) to-names
+  -- ---- marked texts
 
   numerators-at : (n : List Job) → runs v fs us n ds ≡ (numberBytes v ++ (column name32 fs ++ column unique64 us)) ++ (column numerator10 n ++ (column denominator10 ds ++ connectionBytes v))
   unfolding runs
@@ -109,26 +105,6 @@ module _ (v : Values) (fs : List Function) (us ns ds : List Job) (z : Sized v fs
   uniques-at : (u : List Job) → runs v fs u ns ds ≡ (numberBytes v ++ column name32 fs) ++ (column unique64 u ++ (column numerator10 ns ++ (column denominator10 ds ++ connectionBytes v)))
   unfolding runs
   uniques-at u = simp append-assoc
-
-  pub unique-put : (p : ℕ) (y : Job) (b : Bytes) → p < 32 → put (1060 + 64 * p) (unique64 y) (put 0 (runs v fs us ns ds) b) ≡ put 0 (runs v fs (set us p y) ns ds) b
-  unique-put p y b h =
-      ap (λ (c : Bytes). put (1060 + 64 * p) (unique64 y) (put 0 c b)) (uniques-at us)
-      ∙ column-put unique64 64 wide64 us p y (numberBytes v ++ column name32 fs) (column numerator10 ns ++ (column denominator10 ds ++ connectionBytes v)) b 1060 (rw (z .uniques) h) to-uniques
-      ∙ ap (λ (c : Bytes). put 0 c b) (sym (uniques-at (set us p y)))
-
-  pub numerator-put : (p : ℕ) (y : Job) (b : Bytes) → p < 32 → put (3108 + 10 * p) (numerator10 y) (put 0 (runs v fs us ns ds) b) ≡ put 0 (runs v fs us (set ns p y) ds) b
-  numerator-put p y b h =
-      ap (λ (c : Bytes). put (3108 + 10 * p) (numerator10 y) (put 0 c b)) (numerators-at ns)
-      ∙ column-put numerator10 10 wide10 ns p y (numberBytes v ++ (column name32 fs ++ column unique64 us)) (column denominator10 ds ++ connectionBytes v) b 3108 (rw (z .numerators) h) to-numerators
-      ∙ ap (λ (c : Bytes). put 0 c b) (sym (numerators-at (set ns p y)))
-
-  pub denominator-put : (p : ℕ) (y : Job) (b : Bytes) → p < 32 → put (3428 + 10 * p) (denominator10 y) (put 0 (runs v fs us ns ds) b) ≡ put 0 (runs v fs us ns (set ds p y)) b
-  denominator-put p y b h =
-      ap (λ (c : Bytes). put (3428 + 10 * p) (denominator10 y) (put 0 c b)) (denominators-at ds)
-      ∙ column-put denominator10 10 wide10′ ds p y (numberBytes v ++ (column name32 fs ++ (column unique64 us ++ column numerator10 ns))) (connectionBytes v) b 3428 (rw (z .denominators) h) to-denominators
-      ∙ ap (λ (c : Bytes). put 0 c b) (sym (denominators-at (set ds p y)))
-
-  -- ---- marked texts
 
   pub names-marked : (s : Bytes) {ms : List Bool} {gs : List Function} → Marked name32 32 wide32 s ms fs gs → (b : Bytes) → putWhere 548 32 s ms (put 0 (runs v fs us ns ds) b) ≡ put 0 (runs v gs us ns ds) b
   unfolding runs

@@ -1,7 +1,7 @@
--- How a loop finds whether some entry passes a test, and how long the lists of a table's numbers are. Assumes nothing.
+-- How a loop finds whether some entry passes a test, and what is read of the rows when one job is over. Assumes nothing.
 use Prim.Native.Nat.{ℕ, _+_, _<_, _≤_}
 use mathlib.Core.Path.{_≡_, refl, ap, sym, _∙_}
-use mathlib.Core.Bool.{Bool, true, false, cond, _&&_, _||_}
+use mathlib.Core.Bool.{Bool, false, cond, _&&_, _||_}
 use mathlib.Core.List.{List, _∷_}
 use native.Mathlib.Numerals.{add-one}
 use native.Mathlib.Omega.{arith}
@@ -17,6 +17,8 @@ use Rattle.outcomes.proofs.Cases.{cond-both}
 use Rattle.plans.specs.declared.Values.{Values}
 use Rattle.plans.specs.Values.{valuesOf, canGrab}
 use Rattle.plans.specs.Plans.{rowIn}
+use Rattle.settling.proofs.Sleepers.{or-assoc, or-none}
+use Rattle.steps.proofs.Sizes.{rows-long}
 
 -- ---- some entry: what was found before place i, or some entry from i on
 
@@ -25,37 +27,19 @@ module _ {A : Type 0} (f : A → Bool) (l : List A) (n i : ℕ) (r : Bool) (long
   any-turn d v h q =
       let c : drop i l ≡ getD l i d ∷ drop (i + 1) l = rw add-one (drop-cons l i d (omega arith)) in
       e ∙ ap (λ (x : List A). r || any f x) c ∙ ap (λ (b : Bool). r || (b || any f (drop (i + 1) l))) (sym q) ∙ sym (or-assoc r v (any f (drop (i + 1) l)))
-    where
-      or-assoc : (a b c : Bool) → (a || b) || c ≡ a || (b || c)
-      or-assoc true b c = refl
-      or-assoc false b c = refl
 
   pub any-end : n ≤ i → r ≡ any f l
   any-end h = sym (e ∙ ap (λ (x : List A). r || any f x) (drop-of-length-le l {i = i} (omega arith)) ∙ or-none r)
-    where
-      or-none : (a : Bool) → a || false ≡ a
-      or-none true = refl
-      or-none false = refl
 
--- ---- the numbers of a table
+-- ---- the rows of a table, with one over
 
 module _ (b : Bytes) where
-  pub connections-long : length (valuesOf (tableOf 16 b) .connections) ≡ 16
-  unfolding valuesOf tableOf
-  connections-long = refl
-
-  pub rows-long : length (valuesOf (tableOf 16 b) .rows) ≡ 32
-  unfolding valuesOf tableOf
-  rows-long = refl
-
   pub left-long : (p : ℕ) → length (set (valuesOf (tableOf 16 b) .rows) p noRow) ≡ 32
-  left-long p = length-set (valuesOf (tableOf 16 b) .rows) p noRow ∙ rows-long
+  left-long p = length-set (valuesOf (tableOf 16 b) .rows) p noRow ∙ rows-long b
 
   -- place 32 is none
   pub none-over : set (valuesOf (tableOf 16 b) .rows) 32 noRow ≡ valuesOf (tableOf 16 b) .rows
-  none-over = set-out (valuesOf (tableOf 16 b) .rows) 32 noRow (omega (arith, rows-long))
-
--- ---- the rows but one
+  none-over = set-out (valuesOf (tableOf 16 b) .rows) 32 noRow (omega (arith, rows-long b))
 
 module _ (rs : List JobRow) (q over i : ℕ) where
   pub names-none : i < length rs → i ≡ over → false ≡ names q (getD (set rs over noRow) i noRow)

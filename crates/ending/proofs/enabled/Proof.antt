@@ -1,11 +1,11 @@
 -- `ending::enabled` meets its contract: without a sleeper nobody wakes, whether a job waits or not. Assumes nothing.
-use Rattle.steps.specs.Steps.{waits}
-use Rattle.plans.specs.Values.{valuesOf}
+use mathlib.Core.Path.{sym, _∙_}
+use borrow.Author.Needs.{needs}
 use Rattle.server.specs.Layout.{tableOf}
 use Rattle.server.specs.Lists.{any}
-use mathlib.Core.Path.{sym, _∙_}
+use Rattle.plans.specs.Values.{valuesOf}
+use Rattle.steps.specs.Steps.{waits}
 use Rattle.ending.proofs.Walks.{none-to-choose}
-use borrow.Author.Needs.{needs}
 use Rattle.ending.proofs.enabled.Statement.{statement}
 use Rattle.ending.proofs.enabled.Tie as tie
 

@@ -1,6 +1,6 @@
 -- `ending::forgotten` meets its contract: nothing where somebody is able or a job is left. Assumes nothing.
-use borrow.Author.Tests.{ne-eqb}
 use mathlib.Core.Path.{sym, _∙_}
+use borrow.Author.Tests.{ne-eqb}
 use borrow.Author.Needs.{needs}
 use Rattle.ending.proofs.forgotten.Statement.{statement}
 use Rattle.ending.proofs.forgotten.Tie as tie

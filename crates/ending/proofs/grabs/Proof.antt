@@ -1,8 +1,8 @@
 -- `ending::grabs` meets its contract: the row that stands there, and the set of its function. Assumes nothing.
-use Rattle.plans.specs.Values.{valuesOf}
-use Rattle.server.specs.Layout.{tableOf}
-use Rattle.ending.proofs.Walks.{grab-read}
 use borrow.Author.Needs.{needs}
+use Rattle.server.specs.Layout.{tableOf}
+use Rattle.plans.specs.Values.{valuesOf}
+use Rattle.ending.proofs.Walks.{grab-read}
 use Rattle.ending.proofs.grabs.Statement.{statement}
 use Rattle.ending.proofs.grabs.Tie as tie
 

@@ -1,10 +1,11 @@
 -- `ending::names_still` meets its contract: a job that is over names nothing, and the others are as they stand. Assumes nothing.
-use Rattle.plans.specs.Values.{valuesOf}
-use Rattle.server.specs.Layout.{tableOf}
-use Rattle.ending.proofs.Walks.{rows-long, names-none, names-other}
-use Rattle.server.specs.Table.{names}
 use mathlib.Core.Path.{_∙_, ap}
 use borrow.Author.Needs.{needs}
+use Rattle.server.specs.Layout.{tableOf}
+use Rattle.server.specs.Table.{names}
+use Rattle.plans.specs.Values.{valuesOf}
+use Rattle.steps.proofs.Sizes.{rows-long}
+use Rattle.ending.proofs.Walks.{names-none, names-other}
 use Rattle.ending.proofs.names_still.Statement.{statement}
 use Rattle.ending.proofs.names_still.Tie as tie
 

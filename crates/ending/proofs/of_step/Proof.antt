@@ -1,8 +1,8 @@
 -- `ending::of_step` meets its contract, by the cases of the step. Place 32, beyond the last, is no job that is over. Assumes nothing.
-use Rattle.ending.proofs.Walks.{none-over}
-use Rattle.steps.specs.Steps.{ending}
 use mathlib.Core.Path.{_∙_}
 use borrow.Author.Needs.{needs}
+use Rattle.steps.specs.Steps.{ending}
+use Rattle.ending.proofs.Walks.{none-over}
 use Rattle.ending.proofs.of_step.Statement.{statement}
 use Rattle.ending.proofs.of_step.Tie as tie
 

@@ -1,16 +1,16 @@
 -- `ending::sleepers` meets its contract. The invariant: the union over all connections is that of s and those from connection c on.
 -- Assumes nothing.
-use Rattle.ending.proofs.Walks.{connections-long}
-use Rattle.settling.proofs.Turns.{union-turn, union-end}
-use Rattle.settling.specs.Busy.{unions, wakesNow, toWakeSet}
-use Rattle.plans.specs.Values.{valuesOf}
-use Rattle.server.specs.Layout.{tableOf}
-use Rattle.server.specs.Table.{closed}
+use Prim.Native.Nat.{_≤_, _-_}
+use mathlib.Core.Path.{_≡_, refl, ap, _∙_}
+use native.Mathlib.Omega.{arith}
 use borrow.Author.Needs.{needs}
 use lib.ListN.{drop}
-use native.Mathlib.Omega.{arith}
-use mathlib.Core.Path.{_≡_, refl, ap, _∙_}
-use Prim.Native.Nat.{_≤_, _-_}
+use Rattle.server.specs.Layout.{tableOf}
+use Rattle.server.specs.Table.{closed}
+use Rattle.plans.specs.Values.{valuesOf}
+use Rattle.settling.specs.Busy.{unions, wakesNow, toWakeSet}
+use Rattle.settling.proofs.Turns.{union-turn, union-end}
+use Rattle.steps.proofs.Sizes.{connections-long}
 use Rattle.ending.proofs.sleepers.Statement.{statement}
 use Rattle.ending.proofs.sleepers.Tie as tie
 

@@ -1,16 +1,17 @@
 -- `ending::some_grab` meets its contract. The invariant: the connection can grab some job if one was found before place i, or one is
 -- from place i on. Assumes nothing.
-use Rattle.ending.proofs.Walks.{any-turn, any-end, rows-long}
-use Rattle.plans.specs.Values.{canGrab, valuesOf}
+use Prim.Native.Nat.{_≤_, _-_}
+use mathlib.Core.Bool.{_||_}
+use mathlib.Core.Path.{_≡_, refl}
+use native.Mathlib.Omega.{arith}
+use borrow.Author.Needs.{needs}
+use lib.ListN.{drop}
 use Rattle.server.specs.Layout.{tableOf}
 use Rattle.server.specs.Table.{noRow}
 use Rattle.server.specs.Lists.{any}
-use borrow.Author.Needs.{needs}
-use lib.ListN.{drop}
-use native.Mathlib.Omega.{arith}
-use mathlib.Core.Bool.{_||_}
-use mathlib.Core.Path.{_≡_, refl}
-use Prim.Native.Nat.{_≤_, _-_}
+use Rattle.plans.specs.Values.{canGrab, valuesOf}
+use Rattle.steps.proofs.Sizes.{rows-long}
+use Rattle.ending.proofs.Walks.{any-turn, any-end}
 use Rattle.ending.proofs.some_grab.Statement.{statement}
 use Rattle.ending.proofs.some_grab.Tie as tie
 

@@ -1,16 +1,16 @@
 -- `ending::some_name` meets its contract. The invariant: some job that is left names the function if one was found before place i, or
 -- one is from place i on. Assumes nothing.
-use Rattle.ending.proofs.Walks.{any-turn, any-end, left-long}
-use Rattle.plans.specs.Values.{valuesOf}
+use Prim.Native.Nat.{_≤_, _-_}
+use mathlib.Core.Bool.{_||_}
+use mathlib.Core.Path.{_≡_, refl}
+use native.Mathlib.Omega.{arith}
+use borrow.Author.Needs.{needs}
+use lib.ListN.{set, drop}
 use Rattle.server.specs.Layout.{tableOf}
 use Rattle.server.specs.Table.{noRow, names}
 use Rattle.server.specs.Lists.{any}
-use borrow.Author.Needs.{needs}
-use lib.ListN.{set, drop}
-use native.Mathlib.Omega.{arith}
-use mathlib.Core.Bool.{_||_}
-use mathlib.Core.Path.{_≡_, refl}
-use Prim.Native.Nat.{_≤_, _-_}
+use Rattle.plans.specs.Values.{valuesOf}
+use Rattle.ending.proofs.Walks.{any-turn, any-end, left-long}
 use Rattle.ending.proofs.some_name.Statement.{statement}
 use Rattle.ending.proofs.some_name.Tie as tie
 

@@ -1,17 +1,18 @@
 -- `ending::some_wait` meets its contract. The invariant: some queued job names the function if one was found before place i, or one is
 -- from place i on. Assumes nothing.
-use Rattle.ending.proofs.Walks.{any-turn, any-end, rows-long}
-use Rattle.steps.specs.Steps.{waits}
-use Rattle.plans.specs.Values.{valuesOf}
+use Prim.Native.Nat.{_≤_, _-_}
+use mathlib.Core.Bool.{_||_}
+use mathlib.Core.Path.{_≡_, refl, ap, _∙_}
+use native.Mathlib.Omega.{arith}
+use borrow.Author.Needs.{needs}
+use lib.ListN.{drop}
 use Rattle.server.specs.Layout.{tableOf}
 use Rattle.server.specs.Table.{noRow}
 use Rattle.server.specs.Lists.{any}
-use borrow.Author.Needs.{needs}
-use lib.ListN.{drop}
-use native.Mathlib.Omega.{arith}
-use mathlib.Core.Bool.{_||_}
-use mathlib.Core.Path.{_≡_, refl, ap, _∙_}
-use Prim.Native.Nat.{_≤_, _-_}
+use Rattle.plans.specs.Values.{valuesOf}
+use Rattle.steps.specs.Steps.{waits}
+use Rattle.steps.proofs.Sizes.{rows-long}
+use Rattle.ending.proofs.Walks.{any-turn, any-end}
 use Rattle.ending.proofs.some_wait.Statement.{statement}
 use Rattle.ending.proofs.some_wait.Tie as tie
 

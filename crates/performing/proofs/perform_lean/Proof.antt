@@ -1,12 +1,12 @@
 -- `performing::perform_lean` meets its contract: the order's packets and the NOOPs of the ending, from the table and the workloads before
 -- the event; then the workloads and the table that the step leaves. Assumes nothing.
-use Rattle.performing.proofs.Steps.{opaque-taken, done-concluded, lean-wakes, lean-workloads}
-use Rattle.steps.specs.Steps.{stepped}
-use Rattle.answering.proofs.Orders.{order-room, noop-room, answered}
+use borrow.Author.Needs.{needs}
+use Rattle.server.specs.Layout.{tableOf}
 use Rattle.plans.specs.Values.{valuesOf}
 use Rattle.plans.specs.declared.Values.{Values}
-use Rattle.server.specs.Layout.{tableOf}
-use borrow.Author.Needs.{needs}
+use Rattle.steps.specs.Steps.{stepped}
+use Rattle.answering.proofs.Orders.{order-room, noop-room, answered}
+use Rattle.performing.proofs.Steps.{opaque-taken, done-concluded, lean-wakes, lean-workloads}
 use Rattle.performing.proofs.perform_lean.Statement.{statement}
 use Rattle.performing.proofs.perform_lean.Tie as tie
 

@@ -1,6 +1,6 @@
 -- `performing::perform_whole` meets its contract: each part is laid from the table and the workloads before the event. Assumes nothing.
-use Rattle.performing.proofs.Steps.{opaque-taken, done-concluded, rows-are}
 use borrow.Author.Needs.{needs}
+use Rattle.performing.proofs.Steps.{opaque-taken, done-concluded, rows-are}
 use Rattle.performing.proofs.perform_whole.Statement.{statement}
 use Rattle.performing.proofs.perform_whole.Tie as tie
 

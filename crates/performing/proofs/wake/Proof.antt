@@ -1,6 +1,6 @@
 -- `performing::wake` meets its contract: the empty set has no packet. Assumes nothing.
-use Rattle.performing.proofs.Steps.{none-woken}
 use borrow.Author.Needs.{needs}
+use Rattle.performing.proofs.Steps.{none-woken}
 use Rattle.performing.proofs.wake.Statement.{statement}
 use Rattle.performing.proofs.wake.Tie as tie
 

@@ -1,11 +1,11 @@
 -- `serving::open_or_close` meets its contract: refused at once, or the plan of the event concluded. Assumes nothing.
-use Rattle.serving.proofs.Leaning.{event-of, event-asks, event-concludes, event-inside, event-leans}
-use Rattle.called.proofs.Admitted.{is-admitted, refused-call}
-use Rattle.called.proofs.Conclusion.{sound}
-use Rattle.server.specs.Asked.{opens, closes}
 use mathlib.Core.Bool.{cond}
 use mathlib.Core.Path.{_∙_}
 use borrow.Author.Needs.{needs}
+use Rattle.server.specs.Asked.{opens, closes}
+use Rattle.called.proofs.Admitted.{is-admitted, refused-call}
+use Rattle.called.proofs.Conclusion.{sound}
+use Rattle.serving.proofs.Leaning.{event-of, event-asks, event-concludes, event-inside, event-leans}
 use Rattle.serving.proofs.open_or_close.Statement.{statement}
 use Rattle.serving.proofs.open_or_close.Tie as tie
 

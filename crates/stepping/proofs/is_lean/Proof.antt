@@ -1,6 +1,6 @@
 -- `stepping::is_lean` meets its contract, by the cases of the step. Assumes nothing.
-use Rattle.steps.specs.Steps.{isLean}
 use borrow.Author.Needs.{needs}
+use Rattle.steps.specs.Steps.{isLean}
 use Rattle.stepping.proofs.is_lean.Statement.{statement}
 use Rattle.stepping.proofs.is_lean.Tie as tie
 

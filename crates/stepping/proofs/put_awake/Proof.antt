@@ -1,11 +1,11 @@
 -- `stepping::put_awake` meets its contract. The invariant: the flags of the connections from c on are left to lay. Assumes nothing.
-use Rattle.stepping.proofs.Laid.{awake-turn, awake-end, none-awake}
-use Rattle.stepping.specs.Laying.{laidAwake}
+use Prim.Native.Nat.{_≤_, _-_}
+use mathlib.Core.Path.{_≡_, refl, sym}
+use native.Mathlib.Omega.{arith}
 use borrow.Author.Needs.{needs}
 use lib.ListN.{length}
-use native.Mathlib.Omega.{arith}
-use mathlib.Core.Path.{_≡_, refl, sym}
-use Prim.Native.Nat.{_≤_, _-_}
+use Rattle.stepping.specs.Laying.{laidAwake}
+use Rattle.stepping.proofs.Laid.{awake-turn, awake-end, none-awake}
 use Rattle.stepping.proofs.put_awake.Statement.{statement}
 use Rattle.stepping.proofs.put_awake.Tie as tie
 

@@ -1,7 +1,7 @@
 -- `stepping::put_ending` meets its contract: the flags of those that wake, and the place of the forgotten function. Assumes nothing.
-use Rattle.stepping.specs.Laying.{laidEnding}
 use mathlib.Core.Path.{_∙_}
 use borrow.Author.Needs.{needs}
+use Rattle.stepping.specs.Laying.{laidEnding}
 use Rattle.stepping.proofs.put_ending.Statement.{statement}
 use Rattle.stepping.proofs.put_ending.Tie as tie
 

@@ -1,7 +1,7 @@
 -- `stepping::put_forgotten` meets its contract: the set, and then the name. Assumes nothing.
-use Rattle.stepping.specs.Laying.{laidForgotten}
 use mathlib.Core.Path.{_∙_}
 use borrow.Author.Needs.{needs}
+use Rattle.stepping.specs.Laying.{laidForgotten}
 use Rattle.stepping.proofs.put_forgotten.Statement.{statement}
 use Rattle.stepping.proofs.put_forgotten.Tie as tie
 
