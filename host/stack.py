@@ -2,21 +2,24 @@
 """How much stack one call of the archive can need at the most, from its machine code. usage: stack.py ARCHIVE
 
 It adds up what each function pushes and takes from the stack pointer, and looks for the deepest chain of calls, return addresses
-included. The one function that calls itself prints the digits of a number of 32 bits: at most 10 times. memcpy and memset are the C
+included. The one function that calls itself splits a packet's data into arguments: at most 5 times. memcpy and memset are the C
 library's and not counted.
 """
+import platform
 import re
 import subprocess
 import sys
 
 WORD = 8
-MOST_DIGITS = 10
+MOST_ARGUMENTS = 5
 OUTSIDE = ("memcpy", "memset")
+# The archive is x86-64 code; another machine reads it with the cross tools of host/x86_64.sh.
+OBJDUMP = "objdump" if platform.machine() == "x86_64" else "x86_64-linux-gnu-objdump"
 
 
 def instructions(archive):
     """For each function its instructions: a word, its operands, and the function that it calls or jumps to, if any."""
-    command = ["objdump", "-dr", "--no-show-raw-insn", archive]
+    command = [OBJDUMP, "-dr", "--no-show-raw-insn", archive]
     found = {}
     for line in subprocess.run(command, check=True, capture_output=True, text=True).stdout.split("\n"):
         if start := re.match(r"[0-9a-f]+ <(.+)>:$", line):
@@ -57,7 +60,7 @@ def deepest(found, name, chain=()):
     """The deepest chain of calls from here."""
     most, calls = found[name]
     best = (most, (name,))
-    if chain.count(name) + 1 == MOST_DIGITS:
+    if chain.count(name) + 1 == MOST_ARGUMENTS:
         return best
     for callee, depth in calls:
         if callee not in OUTSIDE:

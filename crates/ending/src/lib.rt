@@ -16,7 +16,7 @@ ghost use Rattle.plans.specs.declared.Place.the-variants as PV;
 ghost use Rattle.plans.specs.Values.{canGrab, valuesOf};
 ghost use Rattle.plans.specs.Plans.{rowIn};
 ghost use Rattle.settling.specs.Busy.{toWakeSet};
-ghost use Rattle.steps.specs.Steps.{Inside, unwanted};
+ghost use Rattle.steps.specs.Steps.{Inside, isLean, unwanted};
 ghost use Rattle.steps.specs.Steps as S;
 
 // The sleepers of a set.
@@ -153,6 +153,28 @@ fn enabled(table: &[u8], q: usize, able: u32) -> u32
         return s;
     }
     0
+}
+
+// Whether the end of an event with this step is known beforehand.
+pub fn is_lean(step: Step) -> bool
+    ensures { λ r. ⌜ r ≡ isLean step ⌝ }
+{
+    match step {
+        Step::Nothing => true,
+        Step::Row { place, row } => true,
+        Step::End { place } => true,
+        Step::Grab {
+            place,
+            row,
+            connection,
+            flags,
+        } => true,
+        Step::New { place, row } => true,
+        Step::Flags { connection, flags } => true,
+        Step::Able { function, set } => true,
+        Step::Reset { connection } => false,
+        Step::Leave { connection } => false,
+    }
 }
 
 // The end of an event with this step.

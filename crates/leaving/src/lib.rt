@@ -1,12 +1,18 @@
-// What a connection leaves behind when it closes or gives up its abilities: loops over the rows by value. An inner crate: its callers
-// name connections below 16.
+// All numbers of a table after a step that is not lean: a connection gives up its abilities, or it leaves. Loops over the rows by
+// value. An inner crate: its callers name connections below 16.
+use plans::Values;
+use server::Connection;
 use server::JobRow;
+use steps::Step;
 ghost use mathlib.Core.Path.{_≡_};
+ghost use mathlib.Core.Bool.{false};
 ghost use mathlib.Core.List.{map};
 ghost use Prim.Native.Nat.{_<_};
 ghost use Rattle.sets.specs.Sets as S;
 ghost use Rattle.server.specs.Events.{deafTo};
 ghost use Rattle.plans.specs.Plans as P;
+ghost use Rattle.plans.specs.Plans.{closedIn, withAble};
+ghost use Rattle.steps.specs.Steps.{Inside, isLean, stepped};
 
 // The row without the connection among its listeners.
 fn deaf(row: JobRow, c: usize) -> JobRow
@@ -25,7 +31,7 @@ fn deaf(row: JobRow, c: usize) -> JobRow
 }
 
 // The row that the connection leaves: without it among the listeners, and back in the queue if it was the holder.
-pub fn left_row(row: JobRow, c: usize) -> JobRow
+fn left_row(row: JobRow, c: usize) -> JobRow
     requires { ⌜ c < 16 ⌝ }
     ensures { λ r. ⌜ r ≡ P.leftRow c row ⌝ }
 {
@@ -38,7 +44,7 @@ pub fn left_row(row: JobRow, c: usize) -> JobRow
 }
 
 // Each row as the connection leaves it.
-pub fn left_rows(rows: [JobRow; 32], c: usize) -> [JobRow; 32]
+fn left_rows(rows: [JobRow; 32], c: usize) -> [JobRow; 32]
     requires { ⌜ c < 16 ⌝ }
     ensures { λ r. ⌜ r ≡ map (P.leftRow c) rows ⌝ }
 {
@@ -53,7 +59,7 @@ pub fn left_rows(rows: [JobRow; 32], c: usize) -> [JobRow; 32]
 }
 
 // The able sets without the connection.
-pub fn unable_all(able: [u32; 16], c: usize) -> [u32; 16]
+fn unable_all(able: [u32; 16], c: usize) -> [u32; 16]
     requires { ⌜ c < 16 ⌝ }
     ensures { λ r. ⌜ r ≡ map (λ s. S.remove s c) able ⌝ }
 {
@@ -65,4 +71,60 @@ pub fn unable_all(able: [u32; 16], c: usize) -> [u32; 16]
         i += 1;
     }
     next
+}
+
+// The numbers without a connection's abilities.
+fn reset(v: Values, c: usize) -> Values
+    requires { ⌜ c < 16 ⌝ }
+    ensures { λ r. ⌜ r ≡ withAble (map (λ s. S.remove s c) (v .able)) v ⌝ }
+{
+    let able = v.able;
+    amending::with_able(v, unable_all(able, c))
+}
+
+// The numbers that a closed connection leaves.
+fn left(v: Values, c: usize) -> Values
+    requires { ⌜ c < 16 ⌝ }
+    ensures { λ r. ⌜ r ≡ closedIn c v ⌝ }
+{
+    let old = v.connections;
+    let able = v.able;
+    let rows = v.rows;
+    let x = Connection {
+        opened: false,
+        asleep: false,
+        exceptions: false,
+    };
+    let connections = amending::set_connection(old, c, x);
+    let next = unable_all(able, c);
+    let after = left_rows(rows, c);
+    Values {
+        last: v.last,
+        connections,
+        able: next,
+        rows: after,
+    }
+}
+
+// All numbers after a step that is not lean.
+pub fn stepped(step: Step, v: Values) -> Values
+    requires { ⌜ Inside step × (isLean step ≡ false) ⌝ }
+    ensures { λ r. ⌜ r ≡ stepped step v ⌝ }
+{
+    match step {
+        Step::Nothing => v,
+        Step::Row { place, row } => v,
+        Step::End { place } => v,
+        Step::Grab {
+            place,
+            row,
+            connection,
+            flags,
+        } => v,
+        Step::New { place, row } => v,
+        Step::Flags { connection, flags } => v,
+        Step::Able { function, set } => v,
+        Step::Reset { connection } => reset(v, connection),
+        Step::Leave { connection } => left(v, connection),
+    }
 }

@@ -1,8 +1,8 @@
--- `stepping::is_lean` meets its contract, by the cases of the step. Assumes nothing.
+-- `ending::is_lean` meets its contract, by the cases of the step. Assumes nothing.
 use borrow.Author.Needs.{needs}
 use Rattle.steps.specs.Steps.{isLean}
-use Rattle.stepping.proofs.is_lean.Statement.{statement}
-use Rattle.stepping.proofs.is_lean.Tie as tie
+use Rattle.ending.proofs.is_lean.Statement.{statement}
+use Rattle.ending.proofs.is_lean.Tie as tie
 
 enum-told : tie.Need-enum-told
 enum-told c = search needs
