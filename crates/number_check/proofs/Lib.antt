@@ -1,0 +1,4 @@
+pub mod Walk
+pub mod Serials
+pub mod Functions
+pub mod Connections

@@ -1,0 +1,60 @@
+-- The tests of serials are the rules: below the last one, and distinct. Assumes nothing.
+use Prim.Native.Nat.{ℕ, _+_, _*_, _<_, _≤_}
+use mathlib.Core.Path.{_≡_, refl, sym, ap, _∙_}
+use mathlib.Core.Bool.{Bool, true, false, not, _||_, true≢false}
+use mathlib.Core.List.{List}
+use native.Mathlib.Omega.{arith}
+use borrow.Author.Tests.{eqb-true, eq-eqb, not-true}
+use lib.ListN.{getD}
+use lib.Dec.{eqb, leb}
+use Rattle.octets.specs.Bytes.{Bytes}
+use Rattle.server.specs.Lists.{all, pairwise, numbers}
+use Rattle.server.specs.Table.{Job, live}
+use Rattle.server.specs.Layout.{littleAt, rowIn, jobIn, tableOf}
+use Rattle.server.specs.Rules.{serialsBelow, serialsApart, serialsDistinct}
+use Rattle.passes.proofs.Tests.{iff}
+use Rattle.passes.proofs.Rows.{jobs-all, jobs-pairs}
+use Rattle.passes.proofs.Pairs.{pairs-at, pairs-by, apart-all, apart-by}
+use Rattle.number_check.specs.declared.Survey as S
+use Rattle.number_check.specs.Surveyed.{Surveyed}
+use Rattle.number_check.specs.Numbers.{serialBelow, Twice, apartAt}
+
+module _ (b : Bytes) where
+  last-is : tableOf 16 b .last ≡ littleAt 4 b 0
+  unfolding tableOf
+  last-is = refl
+
+  pub below-is : (last : ℕ) → last ≡ littleAt 4 b 0 → all (serialBelow b last) (numbers 0 32) ≡ serialsBelow (tableOf 16 b)
+  below-is last e =
+      sym (jobs-all 16 b (λ j. leb (j .row .serial) (tableOf 16 b .last)) ∙ ap (λ (x : ℕ). all (λ k. leb (rowIn b k .serial) x) (numbers 0 32)) (last-is ∙ sym e))
+
+  -- two rows, by cases
+  two-apart : (x y : ℕ) → (live (rowIn b x) ≡ true → rowIn b x .serial ≡ rowIn b y .serial → ⊥) → serialsApart (jobIn b x) (jobIn b y) ≡ true
+  two-apart x y f = go (live (rowIn b x)) (eqb (rowIn b x .serial) (rowIn b y .serial)) refl refl
+    where
+      go : (s t : Bool) → live (rowIn b x) ≡ s → eqb (rowIn b x .serial) (rowIn b y .serial) ≡ t → not s || not t ≡ true
+      go false t p q = refl
+      go true false p q = refl
+      go true true p q = absurd (f p (eqb-true (rowIn b x .serial) (rowIn b y .serial) q))
+
+  pub residues-distinct : (v : S.Survey) → Surveyed b 32 v → v .residues ≡ v .sum → true ≡ serialsDistinct (tableOf 16 b)
+  residues-distinct v s e =
+      sym (jobs-pairs 16 b serialsApart ∙ pairs-by (λ i k. serialsApart (jobIn b i) (jobIn b k)) 32 (λ x y h g. two-apart x y (λ l q. s .distinct e x y h g l q)))
+
+  pub apart-is : (w : List ℕ) → Twice b w → all (λ d. all (apartAt w (d + 1)) (numbers 0 32)) (numbers 0 16) ≡ serialsDistinct (tableOf 16 b)
+  apart-is w t =
+      iff (all (λ d. all (apartAt w (d + 1)) (numbers 0 32)) (numbers 0 16)) (pairwise (λ i k. serialsApart (jobIn b i) (jobIn b k)) (numbers 0 32)) to from
+      ∙ sym (jobs-pairs 16 b serialsApart)
+    where
+      to : all (λ d. all (apartAt w (d + 1)) (numbers 0 32)) (numbers 0 16) ≡ true → pairwise (λ i k. serialsApart (jobIn b i) (jobIn b k)) (numbers 0 32) ≡ true
+      to e =
+          pairs-by (λ i k. serialsApart (jobIn b i) (jobIn b k)) 32
+          (λ x y h g. two-apart x y (λ l q. apart-all (λ x. eqb x 0) 16 32 w (λ k. rowIn b k .serial) refl (t .0) (t .1) e x y h g (not-true (eqb (rowIn b x .serial) 0) l) q))
+
+      from : pairwise (λ i k. serialsApart (jobIn b i) (jobIn b k)) (numbers 0 32) ≡ true → all (λ d. all (apartAt w (d + 1)) (numbers 0 32)) (numbers 0 16) ≡ true
+      from e =
+          apart-by (λ x. eqb x 0) 16 32 w (λ k. rowIn b k .serial) refl (t .0) (t .1)
+          (λ x y h g o q. clash x y o q (pairs-at (λ i k. serialsApart (jobIn b i) (jobIn b k)) 32 x y e h g))
+        where
+          clash : (x y : ℕ) → eqb (rowIn b x .serial) 0 ≡ false → rowIn b x .serial ≡ rowIn b y .serial → serialsApart (jobIn b x) (jobIn b y) ≡ true → ⊥
+          clash x y o q f = true≢false (sym f ∙ rw (o, eq-eqb (rowIn b x .serial) (rowIn b y .serial) q))

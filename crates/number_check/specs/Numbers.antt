@@ -1,0 +1,60 @@
+-- The rules of numbers that belong together, and the tests that show them. Assumes nothing.
+use Prim.Native.Nat.{ℕ, _+_, _*_, _<_}
+use mathlib.Core.Path.{_≡_}
+use mathlib.Core.Bool.{Bool, not, cond, _&&_, _||_}
+use mathlib.Core.List.{List}
+use lib.ListN.{getD}
+use lib.Dec.{eqb, leb}
+use Rattle.octets.specs.Bytes.{Bytes}
+use Rattle.sets.specs.Sets.{has}
+use Rattle.server.specs.Lists.{any, all, numbers}
+use Rattle.server.specs.Layout.{functionIn, rowIn, tableOf}
+use Rattle.server.specs.Rules.{serialsBelow, serialsDistinct, functionsAsDefined, abilitiesOpen, listenersOpen, holdersOpen, closedClear, sleepersIdle}
+use Rattle.number_check.specs.Surveyed.{freeOrJob}
+
+-- ---- the rules
+
+unfoldable pub connectionRules : Bytes → Bool
+connectionRules b =
+    let t = tableOf 16 b in
+    abilitiesOpen t && (listenersOpen t && (holdersOpen t && (closedClear t && sleepersIdle t)))
+
+-- free rows have no unique, and the rules of serials, connections and functions
+unfoldable pub numberRules : Bytes → Bool
+numberRules b =
+    let t = tableOf 16 b in
+    all (freeOrJob b) (numbers 0 32) && ((serialsBelow t && serialsDistinct t) && (connectionRules b && functionsAsDefined t))
+
+-- ---- serials
+
+abbrev pub serialBelow : Bytes → ℕ → ℕ → Bool
+serialBelow b last k = leb (rowIn b k .serial) last
+
+-- w has the serials twice, one after the other
+abbrev pub Twice : Bytes → List ℕ → Type 0
+Twice b w = ((k : ℕ) → k < 32 → getD w k 0 ≡ rowIn b k .serial) × ((k : ℕ) → k < 32 → getD w (32 + k) 0 ≡ rowIn b k .serial)
+
+-- entry k is no serial, or not the one d places further on
+abbrev pub apartAt : List ℕ → ℕ → ℕ → Bool
+apartAt w d k = eqb (getD w k 0) 0 || not (eqb (getD w k 0) (getD w (k + d) 0))
+
+-- ---- sets
+
+-- s is the union of f 0 .. f (n - 1)
+abbrev pub Joined : (ℕ → ℕ) → ℕ → ℕ → Type 0
+Joined f n s = (c : ℕ) → has s c ≡ any (λ k. has (f k) c) (numbers 0 n)
+
+abbrev pub ableIf : Bytes → ℕ → ℕ → ℕ
+ableIf b queued q = cond (has queued q) (functionIn b q .able) 0
+
+-- connection c is open, or it is not used, awake and without the option; and it is awake or has nothing to do
+abbrev pub connectionHolds : Bytes → ℕ → ℕ → ℕ → Bool
+connectionHolds b used busy c =
+    (not (eqb (getD b (3748 + c) 0) 0) || ((eqb (getD b (3764 + c) 0) 0 && eqb (getD b (3780 + c) 0) 0) && not (has used c)))
+    && (eqb (getD b (3764 + c) 0) 0 || not (has busy c))
+
+abbrev pub agrees : Bool → Bool → Bool
+agrees x y = (x && y) || (not x && not y)
+
+abbrev pub isDefined : Bytes → ℕ → ℕ → Bool
+isDefined b named q = agrees (not (eqb (getD b (548 + 32 * q) 0) 0)) (not (eqb (functionIn b q .able) 0) || has named q)

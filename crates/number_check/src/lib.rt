@@ -1,0 +1,294 @@
+// What refusal 1 asks of numbers that belong together: serials below the last one and distinct, functions known exactly if they are wanted,
+// abilities, listeners, holders, options and sleep only on open connections, and no sleeper with a grabbable job. One walk over the rows that
+// passes over free ones gathers the sets that these rules speak of; a rule of all jobs is then one of a set.
+ghost use mathlib.Core.Path.{_≡_};
+ghost use mathlib.Core.Bool.{cond, true, _&&_};
+ghost use Prim.Native.Nat.{ℕ, _+_, _*_, _<_, _≤_};
+ghost use lib.ListN.{length, getD};
+ghost use lib.Dec.{ltb};
+ghost use Rattle.sets.specs.Sets.{has};
+ghost use Rattle.server.specs.Lists.{all, numbers};
+ghost use Rattle.server.specs.Layout.{functionIn, littleAt, rowIn, tableOf};
+ghost use Rattle.server.specs.Rules.{functionsAsDefined, serialsBelow, serialsDistinct};
+ghost use Rattle.table_bytes.specs.Tests.{areFlags};
+ghost use Rattle.row_check.specs.Rows.{rowsMean};
+ghost use Rattle.number_check.specs.Surveyed.{Surveyed, withFree, withJob};
+ghost use Rattle.number_check.specs.Numbers.{Joined, Twice, ableIf, agrees, apartAt, connectionHolds, connectionRules, isDefined, numberRules, serialBelow};
+
+// ---- one walk over the rows
+
+// What the rows passed say: the serials' residues modulo 32, as a set and as the sum of their bits; the functions of queued jobs and of held
+// ones; the connections that hold one; and whether no free row has a unique.
+struct Survey {
+    residues: u32,
+    sum: u64,
+    queued: u32,
+    grabbed: u32,
+    holding: u32,
+    clear: bool,
+}
+
+// The survey with a job.
+fn with_job(v: Survey, serial: u32, function: u8, holder: u16) -> Survey
+    requires { ⌜ v .sum < 137438953472 ⌝ }
+    ensures { λ r. ⌜ r ≡ withJob v serial function holder ⌝ }
+{
+    let residue = sets::insert(0, (serial % 32) as usize);
+    let named = sets::insert(0, (function % 32) as usize);
+    let residues = sets::union(v.residues, residue);
+    let sum = v.sum + residue as u64;
+    if holder == 0 {
+        let queued = sets::union(v.queued, named);
+        return Survey { residues: residues, sum: sum, queued: queued, grabbed: v.grabbed, holding: v.holding, clear: v.clear };
+    }
+    let grabbed = sets::union(v.grabbed, named);
+    let holding = sets::union(v.holding, sets::insert(0, ((holder - 1) % 32) as usize));
+    Survey { residues: residues, sum: sum, queued: v.queued, grabbed: grabbed, holding: holding, clear: v.clear }
+}
+
+// The survey with free rows, which have no unique or have one.
+fn with_free(v: Survey, clear: bool) -> Survey
+    ensures { λ r. ⌜ r ≡ withFree v clear ⌝ }
+{
+    Survey { residues: v.residues, sum: v.sum, queued: v.queued, grabbed: v.grabbed, holding: v.holding, clear: v.clear & clear }
+}
+
+// The survey with the row at place `i`.
+fn next_row(v: Survey, table: &[u8], i: usize) -> Survey
+    requires { ⌜ (3796 ≤ length (now table)) × (i < 32) × Surveyed (now table) i v ⌝ }
+    ensures { λ r. ⌜ Surveyed (now (table .entry)) (i + 1) r ⌝ }
+{
+    let serial = fields::serial(table, i);
+    if serial == 0 {
+        return with_free(v, table[1060 + 64 * i] == 0);
+    }
+    with_job(v, serial, table[516 + i], fields::holder(table, i))
+}
+
+// The survey with the eight rows from place `p` on.
+fn next_rows(start: Survey, table: &[u8], p: usize) -> Survey
+    requires { ⌜ (3796 ≤ length (now table)) × (p + 8 ≤ 32) × Surveyed (now table) p start ⌝ }
+    ensures { λ r. ⌜ Surveyed (now (table .entry)) (p + 8) r ⌝ }
+{
+    let mut v = start;
+    let mut i = p;
+    while i < p + 8 {
+        v = next_row(v, table, i);
+        i += 1;
+    }
+    v
+}
+
+// The same; eight free rows are passed at once.
+fn next_group(v: Survey, table: &[u8], p: usize) -> Survey
+    requires { ⌜ (3796 ≤ length (now table)) × (p + 8 ≤ 32) × Surveyed (now table) p v ⌝ }
+    ensures { λ r. ⌜ Surveyed (now (table .entry)) (p + 8) r ⌝ }
+{
+    if image_check::zeros(table, 68 + 4 * p, 32) {
+        return with_free(v, image_check::all_empty(table, 1060 + 64 * p, 64, 8));
+    }
+    next_rows(v, table, p)
+}
+
+// The survey of all rows.
+fn all_surveyed(table: &[u8]) -> Survey
+    requires { ⌜ 3796 ≤ length (now table) ⌝ }
+    ensures { λ r. ⌜ Surveyed (now (table .entry)) 32 r ⌝ }
+{
+    let mut v = Survey { residues: 0, sum: 0, queued: 0, grabbed: 0, holding: 0, clear: true };
+    let mut p = 0;
+    while p < 32 {
+        v = next_group(v, table, p);
+        p += 8;
+    }
+    v
+}
+
+// ---- serials
+
+// Whether no serial is above the last one given out.
+fn serials_below(table: &[u8], last: u32) -> bool
+    requires { ⌜ 3796 ≤ length (now table) ⌝ }
+    ensures { λ r. ⌜ r ≡ all (serialBelow (now (table .entry)) last) (numbers 0 32) ⌝ }
+{
+    let mut ok = true;
+    let mut i = 0;
+    while i < 32 {
+        ok = ok & (fields::serial(table, i) <= last);
+        i += 1;
+    }
+    ok
+}
+
+// The serials twice, one after the other.
+fn serials_twice(table: &[u8]) -> [u32; 64]
+    requires { ⌜ 3796 ≤ length (now table) ⌝ }
+    ensures { λ r. ⌜ Twice (now (table .entry)) r ⌝ }
+{
+    let mut w = [0u32; 64];
+    let mut i = 0;
+    while i < 32 {
+        let serial = fields::serial(table, i);
+        w[i] = serial;
+        w[32 + i] = serial;
+        i += 1;
+    }
+    w
+}
+
+// Whether no serial stands `d` places further on once more.
+fn apart_by(w: &[u32; 64], d: usize) -> bool
+    requires { ⌜ d ≤ 32 ⌝ }
+    ensures { λ r. ⌜ r ≡ all (apartAt (now (w .entry)) d) (numbers 0 32) ⌝ }
+{
+    let mut ok = true;
+    let mut i = 0;
+    while i < 32 {
+        ok = ok & ((w[i] == 0) | (w[i] != w[i + d]));
+        i += 1;
+    }
+    ok
+}
+
+// The same at each distance up to 16, around.
+fn all_apart(w: &[u32; 64]) -> bool
+    ensures { λ r. ⌜ r ≡ all (λ d. all (apartAt (now (w .entry)) (d + 1)) (numbers 0 32)) (numbers 0 16) ⌝ }
+{
+    let mut ok = true;
+    let mut d = 0;
+    while d < 16 {
+        ok = ok & apart_by(w, d + 1);
+        d += 1;
+    }
+    ok
+}
+
+// Whether no two jobs have one serial. Where the residues are distinct, so are the serials: the bits of distinct residues add up to their set.
+fn serials_distinct(table: &[u8], v: Survey) -> bool
+    requires { ⌜ (3796 ≤ length (now table)) × Surveyed (now table) 32 v ⌝ }
+    ensures { λ r. ⌜ r ≡ serialsDistinct (tableOf 16 (now (table .entry))) ⌝ }
+{
+    if v.residues as u64 == v.sum {
+        return true;
+    }
+    let w = serials_twice(table);
+    all_apart(&w)
+}
+
+// Whether the serials are at most the last one, and distinct.
+fn serials_hold(table: &[u8], v: Survey) -> bool
+    requires { ⌜ (3796 ≤ length (now table)) × Surveyed (now table) 32 v ⌝ }
+    ensures { λ r. ⌜ r ≡ serialsBelow (tableOf 16 (now (table .entry))) && serialsDistinct (tableOf 16 (now (table .entry))) ⌝ }
+{
+    if serials_below(table, little::number4(table, 0)) {
+        return serials_distinct(table, v);
+    }
+    false
+}
+
+// ---- connections and functions
+
+// The union of the `n` sets from `at` on.
+fn joined(table: &[u8], at: usize, n: usize) -> u32
+    requires { ⌜ at + 4 * n ≤ length (now table) ⌝ }
+    ensures { λ r. ⌜ Joined (λ k. littleAt 4 (now (table .entry)) (at + 4 * k)) n r ⌝ }
+{
+    let mut s = 0;
+    let mut i = 0;
+    while i < n {
+        s = sets::union(s, little::number4(table, at + 4 * i));
+        i += 1;
+    }
+    s
+}
+
+// The set, if the function is one of a queued job.
+fn able_if(queued: bool, able: u32) -> u32
+    ensures { λ r. ⌜ r ≡ cond queued able 0 ⌝ }
+{
+    if queued {
+        return able;
+    }
+    0
+}
+
+// The connections able to do the function of a queued job.
+fn busy(table: &[u8], queued: u32) -> u32
+    requires { ⌜ 3796 ≤ length (now table) ⌝ }
+    ensures { λ r. ⌜ Joined (ableIf (now (table .entry)) queued) 16 r ⌝ }
+{
+    let mut s = 0;
+    let mut q = 0;
+    while q < 16 {
+        s = sets::union(s, able_if(sets::has(queued, q), fields::able(table, q)));
+        q += 1;
+    }
+    s
+}
+
+// Whether each connection that is used, sleeps or has the option is open, and no sleeper is one of the busy ones.
+fn connections_hold(table: &[u8], used: u32, busy: u32) -> bool
+    requires { ⌜ 3796 ≤ length (now table) ⌝ }
+    ensures { λ r. ⌜ r ≡ ltb used 65536 && all (connectionHolds (now (table .entry)) used busy) (numbers 0 16) ⌝ }
+{
+    let mut ok = true;
+    let mut c = 0;
+    while c < 16 {
+        let awake = table[3764 + c] == 0;
+        let unused = (awake & (table[3780 + c] == 0)) & !sets::has(used, c);
+        ok = ok & (((table[3748 + c] != 0) | unused) & (awake | !sets::has(busy, c)));
+        c += 1;
+    }
+    (used < 65536) & ok
+}
+
+// Whether both hold or neither.
+fn agree(x: bool, y: bool) -> bool
+    ensures { λ r. ⌜ r ≡ agrees x y ⌝ }
+{
+    (x & y) | (!x & !y)
+}
+
+// Whether a place has a name exactly if some connection can do its function or a job names it.
+fn functions_defined(table: &[u8], named: u32) -> bool
+    requires { ⌜ 3796 ≤ length (now table) ⌝ }
+    ensures { λ r. ⌜ r ≡ all (isDefined (now (table .entry)) named) (numbers 0 16) ⌝ }
+{
+    let mut ok = true;
+    let mut q = 0;
+    while q < 16 {
+        let wanted = (fields::able(table, q) != 0) | sets::has(named, q);
+        ok = ok & agree(table[548 + 32 * q] != 0, wanted);
+        q += 1;
+    }
+    ok
+}
+
+// Whether the rules of connections and functions hold, where those of each row do.
+fn sets_hold(table: &[u8], v: Survey) -> bool
+    requires { ⌜ (3796 ≤ length (now table)) × (areFlags 48 (now table) 3748 ≡ true) × (rowsMean (now table) ≡ true) × Surveyed (now table) 32 v ⌝ }
+    ensures { λ r. ⌜ r ≡ connectionRules (now (table .entry)) && functionsAsDefined (tableOf 16 (now (table .entry))) ⌝ }
+{
+    let listening = joined(table, 196, 32);
+    let able = joined(table, 4, 16);
+    let used = sets::union(sets::union(listening, able), v.holding);
+    let busy_ones = busy(table, v.queued);
+    if connections_hold(table, used, busy_ones) {
+        return functions_defined(table, sets::union(v.queued, v.grabbed));
+    }
+    false
+}
+
+// Whether free rows have no unique, and the rules of serials, connections and functions hold, where those of each row do.
+pub fn numbers_hold(table: &[u8]) -> bool
+    requires { ⌜ (3796 ≤ length (now table)) × (areFlags 48 (now table) 3748 ≡ true) × (rowsMean (now table) ≡ true) ⌝ }
+    ensures { λ r. ⌜ r ≡ numberRules (now (table .entry)) ⌝ }
+{
+    let v = all_surveyed(table);
+    if v.clear {
+        if serials_hold(table, v) {
+            return sets_hold(table, v);
+        }
+    }
+    false
+}

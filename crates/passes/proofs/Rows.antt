@@ -1,0 +1,100 @@
+-- Tests of the rows, functions and connections of a table that bytes hold, place by place. Assumes nothing.
+use Prim.Native.Nat.{ℕ, zero, suc, _<_, _≤_}
+use mathlib.Core.Path.{_≡_, refl, ap, ap₂, _∙_}
+use mathlib.Core.Bool.{Bool, not, cond, _&&_, _||_}
+use mathlib.Core.List.{List, [], _∷_, map}
+use lib.ListN.{length, List·getD-eq-default}
+use Rattle.octets.specs.Bytes.{Bytes}
+use Rattle.server.specs.declared.Connection.{Connection}
+use Rattle.server.specs.Lists.{any, all, pairwise, numbers}
+use Rattle.server.specs.Table.{Function, Job, closed, noFunction, connectionAt, functionAt, wanted}
+use Rattle.server.specs.Layout.{connectionIn, functionIn, jobIn, tableOf}
+use Rattle.server.specs.Rules.{isKnown, asDefined, functionsAsDefined, sleeperIdle, sleepersIdleFrom, sleepersIdle}
+use Rattle.table_bytes.proofs.Columns.{length-places, places-at}
+
+module _ {A : Type 0} {B : Type 0} (f : A → B) where
+  all-read : (p : B → Bool) (l : List A) → all p (map f l) ≡ all (λ x. p (f x)) l
+  all-read p [] = refl
+  all-read p (x ∷ l) = ap (λ (b : Bool). p (f x) && b) (all-read p l)
+
+  any-read : (p : B → Bool) (l : List A) → any p (map f l) ≡ any (λ x. p (f x)) l
+  any-read p [] = refl
+  any-read p (x ∷ l) = ap (λ (b : Bool). p (f x) || b) (any-read p l)
+
+  pairs-read : (apart : B → B → Bool) (l : List A) → pairwise apart (map f l) ≡ pairwise (λ x y. apart (f x) (f y)) l
+  pairs-read apart [] = refl
+  pairs-read apart (x ∷ l) = ap₂ _&&_ (all-read (apart (f x)) l) (pairs-read apart l)
+
+module _ (n : ℕ) (b : Bytes) where
+  -- ---- every place
+
+  pub jobs-all : (p : Job → Bool) → all p (tableOf n b .jobs) ≡ all (λ k. p (jobIn b k)) (numbers 0 32)
+  unfolding tableOf
+  jobs-all p = all-read (jobIn b) p (numbers 0 32)
+
+  pub jobs-any : (p : Job → Bool) → any p (tableOf n b .jobs) ≡ any (λ k. p (jobIn b k)) (numbers 0 32)
+  unfolding tableOf
+  jobs-any p = any-read (jobIn b) p (numbers 0 32)
+
+  pub jobs-pairs : (apart : Job → Job → Bool) → pairwise apart (tableOf n b .jobs) ≡ pairwise (λ i k. apart (jobIn b i) (jobIn b k)) (numbers 0 32)
+  unfolding tableOf
+  jobs-pairs apart = pairs-read (jobIn b) apart (numbers 0 32)
+
+  pub functions-all : (p : Function → Bool) → all p (tableOf n b .functions) ≡ all (λ q. p (functionIn b q)) (numbers 0 16)
+  unfolding tableOf
+  functions-all p = all-read (functionIn b) p (numbers 0 16)
+
+  pub functions-pairs : (apart : Function → Function → Bool) → pairwise apart (tableOf n b .functions) ≡ pairwise (λ i k. apart (functionIn b i) (functionIn b k)) (numbers 0 16)
+  unfolding tableOf
+  functions-pairs apart = pairs-read (functionIn b) apart (numbers 0 16)
+
+  pub connections-all : (p : Connection → Bool) → all p (tableOf n b .connections) ≡ all (λ c. p (connectionIn n b c)) (numbers 0 n)
+  unfolding tableOf
+  connections-all p = all-read (connectionIn n b) p (numbers 0 n)
+
+  -- ---- one place
+
+  pub connections-length : length (tableOf n b .connections) ≡ n
+  unfolding tableOf
+  connections-length = length-places (connectionIn n b) 0 n
+
+  pub functions-length : length (tableOf n b .functions) ≡ 16
+  unfolding tableOf
+  functions-length = length-places (functionIn b) 0 16
+
+  pub connection-at : (c : ℕ) → c < n → connectionAt (tableOf n b) c ≡ connectionIn n b c
+  unfolding tableOf
+  connection-at c h = places-at (connectionIn n b) closed n c h
+
+  pub function-at : (q : ℕ) → q < 16 → functionAt (tableOf n b) q ≡ functionIn b q
+  unfolding tableOf
+  function-at q h = places-at (functionIn b) noFunction 16 q h
+
+  -- past the last function there is none
+  pub no-function : (q : ℕ) → 16 ≤ q → functionAt (tableOf n b) q ≡ noFunction
+  unfolding tableOf
+  no-function q h = List·getD-eq-default (map (functionIn b) (numbers 0 16)) noFunction {n = q} (rw (length-places (functionIn b) 0 16) h)
+
+  -- ---- functions as defined, and sleepers
+
+  defined-from : (js : List Job) (q m : ℕ)
+      → asDefined js q (map (functionIn b) (numbers q m)) ≡ all (λ k. cond (isKnown (functionIn b k)) (wanted js k (functionIn b k)) (not (wanted js k (functionIn b k)))) (numbers q m)
+  defined-from js q zero = refl
+  defined-from js q (suc m) =
+      ap (λ (x : Bool). cond (isKnown (functionIn b q)) (wanted js q (functionIn b q)) (not (wanted js q (functionIn b q))) && x) (defined-from js (suc q) m)
+
+  pub defined-all : functionsAsDefined (tableOf n b)
+      ≡ all (λ q. cond (isKnown (functionIn b q)) (wanted (tableOf n b .jobs) q (functionIn b q)) (not (wanted (tableOf n b .jobs) q (functionIn b q)))) (numbers 0 16)
+  unfolding tableOf
+  defined-all = defined-from (map (jobIn b) (numbers 0 32)) 0 16
+
+  sleepers-from : (c m : ℕ) → sleepersIdleFrom (tableOf n b) c (map (connectionIn n b) (numbers c m)) ≡ all (λ x. sleeperIdle (tableOf n b) x (connectionIn n b x)) (numbers c m)
+  sleepers-from c zero = refl
+  sleepers-from c (suc m) = ap (λ (x : Bool). sleeperIdle (tableOf n b) c (connectionIn n b c) && x) (sleepers-from (suc c) m)
+
+  connections-are : tableOf n b .connections ≡ map (connectionIn n b) (numbers 0 n)
+  unfolding tableOf
+  connections-are = refl
+
+  pub sleepers-all : sleepersIdle (tableOf n b) ≡ all (λ c. sleeperIdle (tableOf n b) c (connectionIn n b c)) (numbers 0 n)
+  sleepers-all = ap (sleepersIdleFrom (tableOf n b) 0) connections-are ∙ sleepers-from 0 n
