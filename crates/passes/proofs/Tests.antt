@@ -56,6 +56,10 @@ split {a} {b} e = (and-left a b e, and-right a b e)
 pub and-same : {a b c d : Bool} → a ≡ c → b ≡ d → a && b ≡ c && d
 and-same e f = ap₂ _&&_ e f
 
+-- where the first test fails, so do both
+pub and-fails : {a : Bool} (b : Bool) → false ≡ a → false ≡ a && b
+and-fails b e = ap (λ (x : Bool). x && b) e
+
 -- ---- one number more
 
 module _ (p : ℕ → Bool) where

@@ -1,61 +1,55 @@
+-- `number_check::apart_by` meets its contract. The invariant: the flag says what the entries passed say. Assumes nothing.
+use Prim.Native.Nat.{_≤_, _-_}
+use mathlib.Core.Path.{_≡_, refl}
+use native.Mathlib.Omega.{arith}
+use Rattle.server.specs.Lists.{all, numbers}
+use Rattle.passes.proofs.Tests.{each-on, each-end}
+use Rattle.number_check.specs.Numbers.{apartAt}
+use borrow.Author.Needs.{needs}
 use Rattle.number_check.proofs.apart_by.Statement.{statement}
 use Rattle.number_check.proofs.apart_by.Tie as tie
-use Rattle.number_check.proofs.apart_by.Reads as reads
-use Rattle.number_check.proofs.apart_by.Lts as lts
 
 abbrev Inv-loop : tie.InvT-loop
-Inv-loop w d ok₀ i₀ ok i = ?
+Inv-loop w d ok₀ i₀ ok i = (i ≤ 32) × (ok ≡ all (apartAt w d) (numbers 0 i))
 
 abbrev μ-loop : tie.MeasureT-loop
-μ-loop w d ok₀ i₀ ok i = ?
+μ-loop w d ok₀ i₀ ok i = 32 - i
 
--- src/lib.rt:146:5
 loop-holds : tie.Need-loop-holds Inv-loop μ-loop
-loop-holds c = ?
+loop-holds c = (omega arith, refl)
 
--- src/lib.rt:147:21
 mul-ok : tie.Need-mul-ok Inv-loop μ-loop
-mul-ok c = ?
+mul-ok c = search needs
 
--- src/lib.rt:147:21
 element-copy-out-ok : tie.Need-element-copy-out-ok Inv-loop μ-loop
-element-copy-out-ok c = ?
+element-copy-out-ok c = search needs
 
--- src/lib.rt:147:35
 mul-ok-2 : tie.Need-mul-ok-2 Inv-loop μ-loop
-mul-ok-2 c = ?
+mul-ok-2 c = search needs
 
--- src/lib.rt:147:35
 element-copy-out-ok-2 : tie.Need-element-copy-out-ok-2 Inv-loop μ-loop
-element-copy-out-ok-2 c = ?
+element-copy-out-ok-2 c = search needs
 
--- src/lib.rt:147:45
 add-ok : tie.Need-add-ok Inv-loop μ-loop
-add-ok c = ?
+add-ok c = search needs
 
--- src/lib.rt:147:43
 mul-ok-3 : tie.Need-mul-ok-3 Inv-loop μ-loop
-mul-ok-3 c = ?
+mul-ok-3 c = search needs
 
--- src/lib.rt:147:43
 element-copy-out-ok-3 : tie.Need-element-copy-out-ok-3 Inv-loop μ-loop
-element-copy-out-ok-3 c = ?
+element-copy-out-ok-3 c = search needs
 
--- src/lib.rt:148:9
 add-i : tie.Need-add-i Inv-loop μ-loop
-add-i c = ?
+add-i c = search needs
 
--- src/lib.rt:146:5
 loop-less : tie.Need-loop-less Inv-loop μ-loop
-loop-less c = ?
+loop-less c = search needs
 
--- src/lib.rt:146:5
 loop-again : tie.Need-loop-again Inv-loop μ-loop
-loop-again c = ?
+loop-again c = search (needs, each-on)
 
--- src/lib.rt:140:1
 returns : tie.Need-returns Inv-loop μ-loop
-returns c = ?
+returns c = search (needs, each-end)
 
 pub apart-by-spec : {M : Type 1} → statement M
 apart-by-spec =

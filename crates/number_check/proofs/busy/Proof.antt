@@ -1,53 +1,54 @@
+-- `number_check::busy` meets its contract. The invariant: the set is the union of what the functions passed add. Assumes nothing.
+use Rattle.sets.specs.Sets.{has}
+use mathlib.Core.Bool.{Bool, cond}
+use denote.Ref.{now}
+use Prim.Native.Nat.{_≤_, _-_, ℕ}
+use mathlib.Core.Path.{_≡_, refl, ap, ap₂, _∙_}
+use native.Mathlib.Omega.{arith}
+use Rattle.sets.proofs.Laws.{zero-has}
+use Rattle.passes.proofs.Unions.{joins-on, joins-end}
+use Rattle.number_check.specs.Numbers.{Joined, ableIf}
+use borrow.Author.Needs.{needs}
 use Rattle.number_check.proofs.busy.Statement.{statement}
 use Rattle.number_check.proofs.busy.Tie as tie
-use Rattle.number_check.proofs.busy.Reads as reads
-use Rattle.number_check.proofs.busy.Lts as lts
-use Rattle.fields.proofs.able.Reads as able-reads
-use Rattle.number_check.proofs.able_if.Reads as able-if-reads
-use Rattle.sets.proofs.has.Reads as has-reads
-use Rattle.sets.proofs.union.Reads as union-reads
 
 abbrev Inv-loop : tie.InvT-loop
-Inv-loop table queued s₀ q₀ s q = ?
+Inv-loop table queued s₀ q₀ s q = (q ≤ 16) × Joined (ableIf table queued) q s
 
 abbrev μ-loop : tie.MeasureT-loop
-μ-loop table queued s₀ q₀ s q = ?
+μ-loop table queued s₀ q₀ s q = 16 - q
 
--- src/lib.rt:222:5
 loop-holds : tie.Need-loop-holds Inv-loop μ-loop
-loop-holds c = ?
+loop-holds c = (omega arith, zero-has)
 
--- src/lib.rt:223:36
 has-requires : tie.Need-has-requires Inv-loop μ-loop
-has-requires c κs = ?
+has-requires c κs = search needs
 
--- src/lib.rt:223:58
 able-requires : tie.Need-able-requires Inv-loop μ-loop
-able-requires c κs = ?
+able-requires c κs = search needs
 
--- src/lib.rt:223:28
 able-if-requires : tie.Need-able-if-requires Inv-loop μ-loop
-able-if-requires c κs = ?
+able-if-requires c κs = search needs
 
--- src/lib.rt:223:9
 union-requires : tie.Need-union-requires Inv-loop μ-loop
-union-requires c κs = ?
+union-requires c κs = search needs
 
--- src/lib.rt:224:9
 add-q : tie.Need-add-q Inv-loop μ-loop
-add-q c = ?
+add-q c = search needs
 
--- src/lib.rt:222:5
 loop-less : tie.Need-loop-less Inv-loop μ-loop
-loop-less c = ?
+loop-less c = search needs
 
--- src/lib.rt:222:5
 loop-again : tie.Need-loop-again Inv-loop μ-loop
-loop-again c = ?
+loop-again c = let l = c .before .before .before .before .before .loop in
+    let a = c .before .before .before .before .before .before .before .args in
+    let e = c .before .able-if .ensures ∙ ap₂ (λ (t : Bool) (y : ℕ). cond t y 0) (c .before .before .before .has .ensures) (c .before .before .able .ensures) in
+    (omega arith, λ x. ap (λ (y : ℕ). has y x) (c .union .ensures) ∙ joins-on (ableIf (now (a .table)) (a .queued)) 16 (l .q) (l .s) (l .inv .1) (c .before .able-if .result) e x)
 
--- src/lib.rt:216:1
 returns : tie.Need-returns Inv-loop μ-loop
-returns c = ?
+returns c = let l = c .before .loop in
+    let a = c .before .before .before .args in
+    joins-end (ableIf (now (a .table)) (a .queued)) 16 (l .q) (l .s) (l .inv .1) (l .inv .0) (omega arith)
 
 pub busy-spec : {M : Type 1} → statement M
 busy-spec =

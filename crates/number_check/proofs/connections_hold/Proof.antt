@@ -1,66 +1,65 @@
+-- `number_check::connections_hold` meets its contract. The invariant: the flag says what the connections passed say. Assumes nothing.
+use lib.Dec.{ltb}
+use mathlib.Core.Bool.{Bool, _&&_}
+use denote.Ref.{now}
+use Prim.Native.Nat.{_≤_, _-_}
+use mathlib.Core.Path.{_≡_, refl, ap}
+use native.Mathlib.Omega.{arith}
+use Rattle.server.specs.Lists.{all, numbers}
+use Rattle.passes.proofs.Tests.{each-on, each-end}
+use Rattle.number_check.specs.Numbers.{connectionHolds}
+use borrow.Author.Needs.{needs}
 use Rattle.number_check.proofs.connections_hold.Statement.{statement}
 use Rattle.number_check.proofs.connections_hold.Tie as tie
-use Rattle.number_check.proofs.connections_hold.Reads as reads
-use Rattle.number_check.proofs.connections_hold.Lts as lts
-use Rattle.sets.proofs.has.Reads as has-reads
 
 abbrev Inv-loop : tie.InvT-loop
-Inv-loop table used busy ok₀ c₀ ok c = ?
+Inv-loop table used busy ok₀ c₀ ok c = (c ≤ 16) × (ok ≡ all (connectionHolds table used busy) (numbers 0 c))
 
 abbrev μ-loop : tie.MeasureT-loop
-μ-loop table used busy ok₀ c₀ ok c = ?
+μ-loop table used busy ok₀ c₀ ok c = 16 - c
 
--- src/lib.rt:236:5
 loop-holds : tie.Need-loop-holds Inv-loop μ-loop
-loop-holds c = ?
+loop-holds c = (omega arith, refl)
 
--- src/lib.rt:237:27
 add-awake : tie.Need-add-awake Inv-loop μ-loop
-add-awake c = ?
+add-awake c = search needs
 
--- src/lib.rt:237:21
 shared-slice-read-awake : tie.Need-shared-slice-read-awake Inv-loop μ-loop
-shared-slice-read-awake c = ?
+shared-slice-read-awake c = search needs
 
--- src/lib.rt:238:38
 add-unused : tie.Need-add-unused Inv-loop μ-loop
-add-unused c = ?
+add-unused c = search needs
 
--- src/lib.rt:238:32
 shared-slice-read-unused : tie.Need-shared-slice-read-unused Inv-loop μ-loop
-shared-slice-read-unused c = ?
+shared-slice-read-unused c = search needs
 
--- src/lib.rt:238:58
 has-requires : tie.Need-has-requires Inv-loop μ-loop
-has-requires c κs = ?
+has-requires c κs = search needs
 
--- src/lib.rt:239:28
 add-ok : tie.Need-add-ok Inv-loop μ-loop
-add-ok c = ?
+add-ok c = search needs
 
--- src/lib.rt:239:22
 shared-slice-read-ok : tie.Need-shared-slice-read-ok Inv-loop μ-loop
-shared-slice-read-ok c = ?
+shared-slice-read-ok c = search needs
 
--- src/lib.rt:239:66
 has-requires-2 : tie.Need-has-requires-2 Inv-loop μ-loop
-has-requires-2 c κs = ?
+has-requires-2 c κs = search needs
 
--- src/lib.rt:240:9
 add-c : tie.Need-add-c Inv-loop μ-loop
-add-c c = ?
+add-c c = search needs
 
--- src/lib.rt:236:5
 loop-less : tie.Need-loop-less Inv-loop μ-loop
-loop-less c = ?
+loop-less c = search needs
 
--- src/lib.rt:236:5
 loop-again : tie.Need-loop-again Inv-loop μ-loop
-loop-again c = ?
+loop-again c = let l = c .before .before .before .before .before .before .loop in
+    let a = c .before .before .before .before .before .before .before .before .args in
+    (omega arith, each-on (connectionHolds (now (a .table)) (a .used) (a .busy)) 16 (l .c) (l .ok) _ (l .inv .1) (rw (c .has2 .ensures, c .before .before .has .ensures)))
 
--- src/lib.rt:230:1
 returns : tie.Need-returns Inv-loop μ-loop
-returns c = ?
+returns c = let l = c .before .loop in
+    let a = c .before .before .before .args in
+    ap (λ (t : Bool). ltb (a .used) 65536 && t) (each-end (connectionHolds (now (a .table)) (a .used) (a .busy)) 16 (l .c) (l .ok) (l .inv .1) (l .inv .0) (omega arith))
 
 pub connections-hold-spec : {M : Type 1} → statement M
 connections-hold-spec =

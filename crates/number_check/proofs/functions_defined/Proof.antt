@@ -1,60 +1,55 @@
+-- `number_check::functions_defined` meets its contract. The invariant: the flag says what the functions passed say. Assumes nothing.
+use denote.Ref.{now}
+use Prim.Native.Nat.{_≤_, _-_}
+use mathlib.Core.Path.{_≡_, refl}
+use native.Mathlib.Omega.{arith}
+use Rattle.server.specs.Lists.{all, numbers}
+use Rattle.passes.proofs.Tests.{each-on, each-end}
+use Rattle.number_check.specs.Numbers.{isDefined}
+use borrow.Author.Needs.{needs}
 use Rattle.number_check.proofs.functions_defined.Statement.{statement}
 use Rattle.number_check.proofs.functions_defined.Tie as tie
-use Rattle.number_check.proofs.functions_defined.Reads as reads
-use Rattle.number_check.proofs.functions_defined.Lts as lts
-use Rattle.fields.proofs.able.Reads as able-reads
-use Rattle.number_check.proofs.agree.Reads as agree-reads
-use Rattle.sets.proofs.has.Reads as has-reads
 
 abbrev Inv-loop : tie.InvT-loop
-Inv-loop table named ok₀ q₀ ok q = ?
+Inv-loop table named ok₀ q₀ ok q = (q ≤ 16) × (ok ≡ all (isDefined table named) (numbers 0 q))
 
 abbrev μ-loop : tie.MeasureT-loop
-μ-loop table named ok₀ q₀ ok q = ?
+μ-loop table named ok₀ q₀ ok q = 16 - q
 
--- src/lib.rt:259:5
 loop-holds : tie.Need-loop-holds Inv-loop μ-loop
-loop-holds c = ?
+loop-holds c = (omega arith, refl)
 
--- src/lib.rt:260:23
 able-requires : tie.Need-able-requires Inv-loop μ-loop
-able-requires c κs = ?
+able-requires c κs = search needs
 
--- src/lib.rt:260:54
 has-requires : tie.Need-has-requires Inv-loop μ-loop
-has-requires c κs = ?
+has-requires c κs = search needs
 
--- src/lib.rt:261:37
 mul-agree : tie.Need-mul-agree Inv-loop μ-loop
-mul-agree c = ?
+mul-agree c = search needs
 
--- src/lib.rt:261:31
 add-agree : tie.Need-add-agree Inv-loop μ-loop
-add-agree c = ?
+add-agree c = search needs
 
--- src/lib.rt:261:25
 shared-slice-read-agree : tie.Need-shared-slice-read-agree Inv-loop μ-loop
-shared-slice-read-agree c = ?
+shared-slice-read-agree c = search needs
 
--- src/lib.rt:261:19
 agree-requires : tie.Need-agree-requires Inv-loop μ-loop
-agree-requires c κs = ?
+agree-requires c κs = search needs
 
--- src/lib.rt:262:9
 add-q : tie.Need-add-q Inv-loop μ-loop
-add-q c = ?
+add-q c = search needs
 
--- src/lib.rt:259:5
 loop-less : tie.Need-loop-less Inv-loop μ-loop
-loop-less c = ?
+loop-less c = search needs
 
--- src/lib.rt:259:5
 loop-again : tie.Need-loop-again Inv-loop μ-loop
-loop-again c = ?
+loop-again c = let l = c .before .before .before .before .before .loop in
+    let a = c .before .before .before .before .before .before .before .args in
+    (omega arith, each-on (isDefined (now (a .table)) (a .named)) 16 (l .q) (l .ok) (c .agree .result) (l .inv .1) (rw (c .agree .ensures, c .before .before .has .ensures, c .before .before .before .able .ensures)))
 
--- src/lib.rt:253:1
 returns : tie.Need-returns Inv-loop μ-loop
-returns c = ?
+returns c = search (needs, each-end)
 
 pub functions-defined-spec : {M : Type 1} → statement M
 functions-defined-spec =

@@ -1,51 +1,53 @@
+-- `number_check::joined` meets its contract. The invariant: the set is the union of the sets passed. Assumes nothing.
+use Rattle.sets.specs.Sets.{has}
+use denote.Ref.{now}
+use Prim.Native.Nat.{_≤_, _+_, _-_, _*_, ℕ}
+use mathlib.Core.Path.{_≡_, refl, ap, _∙_}
+use native.Mathlib.Omega.{arith}
+use Rattle.sets.proofs.Laws.{zero-has}
+use Rattle.server.specs.Layout.{littleAt}
+use Rattle.passes.proofs.Unions.{joins-on, joins-end}
+use Rattle.number_check.specs.Numbers.{Joined}
+use borrow.Author.Needs.{needs}
 use Rattle.number_check.proofs.joined.Statement.{statement}
 use Rattle.number_check.proofs.joined.Tie as tie
-use Rattle.number_check.proofs.joined.Reads as reads
-use Rattle.number_check.proofs.joined.Lts as lts
-use Rattle.little.proofs.number4.Reads as number4-reads
-use Rattle.sets.proofs.union.Reads as union-reads
 
 abbrev Inv-loop : tie.InvT-loop
-Inv-loop table at n s₀ i₀ s i = ?
+Inv-loop table at n s₀ i₀ s i = (i ≤ n) × Joined (λ k. littleAt 4 table (at + 4 * k)) i s
 
 abbrev μ-loop : tie.MeasureT-loop
-μ-loop table at n s₀ i₀ s i = ?
+μ-loop table at n s₀ i₀ s i = n - i
 
--- src/lib.rt:198:5
 loop-holds : tie.Need-loop-holds Inv-loop μ-loop
-loop-holds c = ?
+loop-holds c = (omega arith, zero-has)
 
--- src/lib.rt:199:56
 mul-number4 : tie.Need-mul-number4 Inv-loop μ-loop
-mul-number4 c = ?
+mul-number4 c = search needs
 
--- src/lib.rt:199:51
 add-number4 : tie.Need-add-number4 Inv-loop μ-loop
-add-number4 c = ?
+add-number4 c = search needs
 
--- src/lib.rt:199:28
 number4-requires : tie.Need-number4-requires Inv-loop μ-loop
-number4-requires c κs = ?
+number4-requires c κs = search needs
 
--- src/lib.rt:199:9
 union-requires : tie.Need-union-requires Inv-loop μ-loop
-union-requires c κs = ?
+union-requires c κs = search needs
 
--- src/lib.rt:200:9
 add-i : tie.Need-add-i Inv-loop μ-loop
-add-i c = ?
+add-i c = search needs
 
--- src/lib.rt:198:5
 loop-less : tie.Need-loop-less Inv-loop μ-loop
-loop-less c = ?
+loop-less c = search needs
 
--- src/lib.rt:198:5
 loop-again : tie.Need-loop-again Inv-loop μ-loop
-loop-again c = ?
+loop-again c = let l = c .before .before .before .loop in
+    let a = c .before .before .before .before .before .args in
+    (omega arith, λ x. ap (λ (y : ℕ). has y x) (c .union .ensures) ∙ joins-on (λ k. littleAt 4 (now (a .table)) (a .at + 4 * k)) (a .n) (l .i) (l .s) (l .inv .1) (c .before .number4 .result) (c .before .number4 .ensures) x)
 
--- src/lib.rt:192:1
 returns : tie.Need-returns Inv-loop μ-loop
-returns c = ?
+returns c = let l = c .before .loop in
+    let a = c .before .before .before .args in
+    joins-end (λ k. littleAt 4 (now (a .table)) (a .at + 4 * k)) (a .n) (l .i) (l .s) (l .inv .1) (l .inv .0) (omega arith)
 
 pub joined-spec : {M : Type 1} → statement M
 joined-spec =

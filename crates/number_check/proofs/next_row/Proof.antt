@@ -1,56 +1,41 @@
+-- `number_check::next_row` meets its contract. A free row adds nothing but its unique; a job adds what it is. Assumes nothing.
+use Rattle.number_check.proofs.Walk.{row-free, row-job}
 use borrow.Author.Needs.{needs}
 use Rattle.number_check.proofs.next_row.Statement.{statement}
 use Rattle.number_check.proofs.next_row.Tie as tie
-use Rattle.number_check.proofs.next_row.Reads as reads
-use Rattle.number_check.proofs.next_row.Lts as lts
-use Rattle.fields.proofs.holder.Reads as holder-reads
-use Rattle.fields.proofs.serial.Reads as serial-reads
-use Rattle.number_check.proofs.with_free.Reads as with-free-reads
-use Rattle.number_check.proofs.with_job.Reads as with-job-reads
 
--- src/lib.rt:61:9
 serial-requires : tie.Need-serial-requires
 serial-requires c κs = search needs
 
--- src/lib.rt:63:42
 mul-with-free : tie.Need-mul-with-free
 mul-with-free c = search needs
 
--- src/lib.rt:63:35
 add-with-free : tie.Need-add-with-free
 add-with-free c = search needs
 
--- src/lib.rt:63:29
 shared-slice-read-with-free : tie.Need-shared-slice-read-with-free
 shared-slice-read-with-free c = search needs
 
--- src/lib.rt:63:9
 with-free-requires : tie.Need-with-free-requires
 with-free-requires c κs = search needs
 
--- src/lib.rt:63:9
 returns : tie.Need-returns
-returns c = ?
+returns c = search (needs, row-free)
 
--- src/lib.rt:65:31
 add-with-job : tie.Need-add-with-job
 add-with-job c = search needs
 
--- src/lib.rt:65:25
 shared-slice-read-with-job : tie.Need-shared-slice-read-with-job
 shared-slice-read-with-job c = search needs
 
--- src/lib.rt:65:41
 holder-requires : tie.Need-holder-requires
 holder-requires c κs = search needs
 
--- src/lib.rt:65:5
 with-job-requires : tie.Need-with-job-requires
 with-job-requires c κs = search needs
 
--- src/lib.rt:57:1
 returns-2 : tie.Need-returns-2
-returns-2 c = ?
+returns-2 c = search (needs, row-job)
 
 pub next-row-spec : {M : Type 1} → statement M
 next-row-spec =

@@ -1,42 +1,41 @@
+-- `number_check::next_rows` meets its contract. The invariant: the survey says what the rows before this one say. Assumes nothing.
+use Prim.Native.Nat.{_≤_, _+_, _-_}
+use mathlib.Core.Path.{_≡_, refl}
+use native.Mathlib.Omega.{arith}
+use Rattle.number_check.specs.Surveyed.{Surveyed}
+use borrow.Author.Needs.{needs}
 use Rattle.number_check.proofs.next_rows.Statement.{statement}
 use Rattle.number_check.proofs.next_rows.Tie as tie
-use Rattle.number_check.proofs.next_rows.Reads as reads
-use Rattle.number_check.proofs.next_rows.Lts as lts
-use Rattle.number_check.proofs.next_row.Reads as next-row-reads
 
 abbrev Inv-loop : tie.InvT-loop
-Inv-loop table p v₀ i₀ v i = ?
+Inv-loop table p v₀ i₀ v i = (p ≤ i) × (i ≤ p + 8) × Surveyed table i v
 
 abbrev μ-loop : tie.MeasureT-loop
-μ-loop table p v₀ i₀ v i = ?
+μ-loop table p v₀ i₀ v i = p + 8 - i
 
--- src/lib.rt:75:5
 loop-holds : tie.Need-loop-holds Inv-loop μ-loop
-loop-holds c = ?
+loop-holds c = search needs
 
--- src/lib.rt:75:15
 add-loop : tie.Need-add-loop Inv-loop μ-loop
-add-loop c = ?
+add-loop c = search needs
 
--- src/lib.rt:76:9
 next-row-requires : tie.Need-next-row-requires Inv-loop μ-loop
-next-row-requires c κs = ?
+next-row-requires c κs = search needs
 
--- src/lib.rt:77:9
 add-i : tie.Need-add-i Inv-loop μ-loop
-add-i c = ?
+add-i c = search needs
 
--- src/lib.rt:75:5
 loop-less : tie.Need-loop-less Inv-loop μ-loop
-loop-less c = ?
+loop-less c = search needs
 
--- src/lib.rt:75:5
 loop-again : tie.Need-loop-again Inv-loop μ-loop
-loop-again c = ?
+loop-again c = (omega arith, omega arith, c .next-row .ensures)
 
--- src/lib.rt:69:1
 returns : tie.Need-returns Inv-loop μ-loop
-returns c = ?
+returns c = let l = c .before .loop in
+    let a = c .before .before .before .args in
+    let e : l .i ≡ a .p + 8 = omega arith in
+    rw e at (l .inv .2)
 
 pub next-rows-spec : {M : Type 1} → statement M
 next-rows-spec =

@@ -1,38 +1,41 @@
+-- `number_check::serials_below` meets its contract. The invariant: the flag says what the rows passed say. Assumes nothing.
+use lib.Dec.{leb}
+use denote.Ref.{now}
+use Prim.Native.Nat.{_≤_, _-_, ℕ}
+use mathlib.Core.Path.{_≡_, refl, ap, _∙_}
+use native.Mathlib.Omega.{arith}
+use Rattle.server.specs.Lists.{all, numbers}
+use Rattle.passes.proofs.Tests.{each-on, each-end}
+use Rattle.number_check.specs.Numbers.{serialBelow}
+use borrow.Author.Needs.{needs}
 use Rattle.number_check.proofs.serials_below.Statement.{statement}
 use Rattle.number_check.proofs.serials_below.Tie as tie
-use Rattle.number_check.proofs.serials_below.Reads as reads
-use Rattle.number_check.proofs.serials_below.Lts as lts
-use Rattle.fields.proofs.serial.Reads as serial-reads
 
 abbrev Inv-loop : tie.InvT-loop
-Inv-loop table last ok₀ i₀ ok i = ?
+Inv-loop table last ok₀ i₀ ok i = (i ≤ 32) × (ok ≡ all (serialBelow table last) (numbers 0 i))
 
 abbrev μ-loop : tie.MeasureT-loop
-μ-loop table last ok₀ i₀ ok i = ?
+μ-loop table last ok₀ i₀ ok i = 32 - i
 
--- src/lib.rt:116:5
 loop-holds : tie.Need-loop-holds Inv-loop μ-loop
-loop-holds c = ?
+loop-holds c = (omega arith, refl)
 
--- src/lib.rt:117:20
 serial-requires : tie.Need-serial-requires Inv-loop μ-loop
-serial-requires c κs = ?
+serial-requires c κs = search needs
 
--- src/lib.rt:118:9
 add-i : tie.Need-add-i Inv-loop μ-loop
-add-i c = ?
+add-i c = search needs
 
--- src/lib.rt:116:5
 loop-less : tie.Need-loop-less Inv-loop μ-loop
-loop-less c = ?
+loop-less c = search needs
 
--- src/lib.rt:116:5
 loop-again : tie.Need-loop-again Inv-loop μ-loop
-loop-again c = ?
+loop-again c = let l = c .before .before .loop in
+    let a = c .before .before .before .before .args in
+    (omega arith, each-on (serialBelow (now (a .table)) (a .last)) 32 (l .i) (l .ok) (leb (c .serial .result) (a .last)) (l .inv .1) (ap (λ (x : ℕ). leb x (a .last)) (c .serial .ensures)))
 
--- src/lib.rt:110:1
 returns : tie.Need-returns Inv-loop μ-loop
-returns c = ?
+returns c = search (needs, each-end)
 
 pub serials-below-spec : {M : Type 1} → statement M
 serials-below-spec =

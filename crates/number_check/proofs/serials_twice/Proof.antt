@@ -1,58 +1,57 @@
+-- `number_check::serials_twice` meets its contract. The invariant: the serials passed stand in both runs. Assumes nothing.
+use Prim.Native.Nat.{_≤_, _-_, _+_}
+use mathlib.Core.Path.{_≡_, refl, _∙_}
+use native.Mathlib.Omega.{arith}
+use denote.Ref.{now}
+use lib.ListN.{length, length-set, set}
+use Rattle.server.specs.Layout.{rowIn}
+use Rattle.passes.proofs.Arrays.{Twice, put-twice}
+use borrow.Author.Needs.{needs}
 use Rattle.number_check.proofs.serials_twice.Statement.{statement}
 use Rattle.number_check.proofs.serials_twice.Tie as tie
-use Rattle.number_check.proofs.serials_twice.Reads as reads
-use Rattle.number_check.proofs.serials_twice.Lts as lts
-use Rattle.fields.proofs.serial.Reads as serial-reads
 
 abbrev Inv-loop : tie.InvT-loop
-Inv-loop table w₀ i₀ w i = ?
+Inv-loop table w₀ i₀ w i = (i ≤ 32) × (length w ≡ 64) × Twice (λ k. rowIn table k .serial) 32 i w
 
 abbrev μ-loop : tie.MeasureT-loop
-μ-loop table w₀ i₀ w i = ?
+μ-loop table w₀ i₀ w i = 32 - i
 
--- src/lib.rt:130:5
 loop-holds : tie.Need-loop-holds Inv-loop μ-loop
-loop-holds c = ?
+loop-holds c = (omega arith, refl, ((λ k h. absurd (omega arith)), (λ k h. absurd (omega arith))))
 
--- src/lib.rt:131:13
 serial-requires : tie.Need-serial-requires Inv-loop μ-loop
-serial-requires c κs = ?
+serial-requires c κs = search needs
 
--- src/lib.rt:132:9
 mul-w : tie.Need-mul-w Inv-loop μ-loop
-mul-w c = ?
+mul-w c = search needs
 
--- src/lib.rt:132:9
 array-write-w : tie.Need-array-write-w Inv-loop μ-loop
-array-write-w c = ?
+array-write-w c = search needs
 
--- src/lib.rt:133:11
 add-w : tie.Need-add-w Inv-loop μ-loop
-add-w c = ?
+add-w c = search needs
 
--- src/lib.rt:133:9
 mul-w-2 : tie.Need-mul-w-2 Inv-loop μ-loop
-mul-w-2 c = ?
+mul-w-2 c = search needs
 
--- src/lib.rt:133:9
 array-write-w-2 : tie.Need-array-write-w-2 Inv-loop μ-loop
-array-write-w-2 c = ?
+array-write-w-2 c = search needs
 
--- src/lib.rt:134:9
 add-i : tie.Need-add-i Inv-loop μ-loop
-add-i c = ?
+add-i c = search needs
 
--- src/lib.rt:130:5
 loop-less : tie.Need-loop-less Inv-loop μ-loop
-loop-less c = ?
+loop-less c = search needs
 
--- src/lib.rt:130:5
 loop-again : tie.Need-loop-again Inv-loop μ-loop
-loop-again c = ?
+loop-again c = let l = c .before .before .loop in
+    let a = c .before .before .before .before .args in
+    let s = c .serial .result in
+    (omega arith, length-set (set (l .w) (l .i) s) (32 + l .i) s ∙ length-set (l .w) (l .i) s ∙ l .inv .1, put-twice (λ k. rowIn (now (a .table)) k .serial) (l .w) 32 (l .i) s (omega arith) (l .inv .1) (c .serial .ensures) (l .inv .2))
 
--- src/lib.rt:124:1
 returns : tie.Need-returns Inv-loop μ-loop
-returns c = ?
+returns c = let l = c .before .loop in
+    ((λ k h. l .inv .2 .0 k (omega arith)), (λ k h. l .inv .2 .1 k (omega arith)))
 
 pub serials-twice-spec : {M : Type 1} → statement M
 serials-twice-spec =
