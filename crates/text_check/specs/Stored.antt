@@ -1,4 +1,4 @@
--- The rule on stored numbers, and the tests of single bytes that show it. Assumes nothing.
+-- The rule on stored numbers, and the tests of single bytes that show it; the test of small sizes. Assumes nothing.
 use Prim.Native.Nat.{ℕ, _+_, _*_, _<_}
 use mathlib.Core.Path.{_≡_}
 use mathlib.Core.Bool.{Bool, true, not, cond, _&&_, _||_}
@@ -62,3 +62,9 @@ firstsOf10 = column (λ k. 1 ∷ 0 ∷ 0 ∷ 0 ∷ 0 ∷ 0 ∷ 0 ∷ 0 ∷ 0 ∷
 
 abbrev pub lastsOf10 : Bytes
 lastsOf10 = column (λ k. 0 ∷ 0 ∷ 0 ∷ 0 ∷ 0 ∷ 0 ∷ 0 ∷ 0 ∷ 0 ∷ 1 ∷ []) (numbers 0 32)
+
+-- ---- sizes
+
+-- with a name of 32 bytes and a unique of 64, 1,022 together
+abbrev pub sizeSmall : Bytes → ℕ → Bool
+sizeSmall b k = leb (rowIn b k .size) 926

@@ -6,8 +6,10 @@ ghost use mathlib.Core.Bool.{_&&_};
 ghost use Prim.Native.Nat.{_+_, _≤_};
 ghost use lib.ListN.{length, getD};
 ghost use Rattle.server.specs.Lists.{all, numbers};
+ghost use Rattle.server.specs.Layout.{tableOf};
+ghost use Rattle.server.specs.Rules.{sizesWithin};
 ghost use Rattle.row_check.specs.Rows.{Marked};
-ghost use Rattle.text_check.specs.Stored.{Begun, FirstBytes, beginsAt, beginsWith, digitPadded, firstAlone, isDigit, lastsOf10, storedRules};
+ghost use Rattle.text_check.specs.Stored.{Begun, FirstBytes, beginsAt, beginsWith, digitPadded, firstAlone, isDigit, lastsOf10, sizeSmall, storedRules};
 
 // The first byte of each of 32 places of 10 bytes, and the last one.
 const FIRSTS_OF_10: [u8; 320] =
@@ -121,4 +123,31 @@ pub fn stored_hold(table: &[u8], live: &[u8; 32]) -> bool
         }
     }
     false
+}
+
+// ---- sizes
+
+// Whether no workload is above 926 bytes: with the longest name and the longest unique 1,022 together.
+fn sizes_small(table: &[u8]) -> bool
+    requires { ⌜ 3796 ≤ length (now table) ⌝ }
+    ensures { λ r. ⌜ r ≡ all (sizeSmall (now (table .entry))) (numbers 0 32) ⌝ }
+{
+    let mut ok = true;
+    let mut i = 0;
+    while i < 32 {
+        ok = ok & (fields::size(table, i) <= 926);
+        i += 1;
+    }
+    ok
+}
+
+// Whether function, unique and workload of each job are at most 1,022 bytes together. Texts are read only where a workload is above 926.
+pub fn sizes_hold(table: &[u8]) -> bool
+    requires { ⌜ 3796 ≤ length (now table) ⌝ }
+    ensures { λ r. ⌜ r ≡ sizesWithin (tableOf 16 (now (table .entry))) ⌝ }
+{
+    if sizes_small(table) {
+        return true;
+    }
+    text_rules::sizes_within(table)
 }
