@@ -71,10 +71,10 @@ fn one_digit_each(table: &[u8], first: &[u8; 320]) -> bool
     ensures { λ r. ⌜ r ≡ all (firstAlone (now (first .entry)) (now (table .entry))) (numbers 0 320) ⌝ }
 {
     let mut ok = true;
-    let mut k = 0;
-    while k < 320 {
-        ok = ok & ((first[k] != 0) | ((table[3108 + k] == 0) & (table[3428 + k] == 0)));
-        k += 1;
+    let mut i = 0;
+    while i < 320 {
+        ok = ok & ((first[i] != 0) | ((table[3108 + i] == 0) & (table[3428 + i] == 0)));
+        i += 1;
     }
     ok
 }

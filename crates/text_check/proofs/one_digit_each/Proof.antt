@@ -10,10 +10,10 @@ use Rattle.text_check.proofs.one_digit_each.Statement.{statement}
 use Rattle.text_check.proofs.one_digit_each.Tie as tie
 
 abbrev Inv-loop : tie.InvT-loop
-Inv-loop table first ok₀ k₀ ok k = (k ≤ 320) × (ok ≡ all (firstAlone first table) (numbers 0 k))
+Inv-loop table first ok₀ i₀ ok i = (i ≤ 320) × (ok ≡ all (firstAlone first table) (numbers 0 i))
 
 abbrev μ-loop : tie.MeasureT-loop
-μ-loop table first ok₀ k₀ ok k = 320 - k
+μ-loop table first ok₀ i₀ ok i = 320 - i
 
 loop-holds : tie.Need-loop-holds Inv-loop μ-loop
 loop-holds c = (omega arith, refl)
@@ -33,8 +33,8 @@ add-ok-2 c = search needs
 shared-slice-read-ok-2 : tie.Need-shared-slice-read-ok-2 Inv-loop μ-loop
 shared-slice-read-ok-2 c = search needs
 
-add-k : tie.Need-add-k Inv-loop μ-loop
-add-k c = search needs
+add-i : tie.Need-add-i Inv-loop μ-loop
+add-i c = search needs
 
 loop-less : tie.Need-loop-less Inv-loop μ-loop
 loop-less c = search needs
@@ -57,7 +57,7 @@ one-digit-each-spec =
     shared-slice-read-ok
     add-ok-2
     shared-slice-read-ok-2
-    add-k
+    add-i
     loop-less
     loop-again
     returns)
