@@ -1,21 +1,20 @@
 -- One place of 10 bytes: it holds a stored number, or in a free row an empty text, and is padded, exactly if it begins as its row says,
 -- each byte is zero or a digit, and it is padded. Assumes nothing.
-use Prim.Native.Nat.{ℕ, zero, suc, _+_, _*_, _<_, _≤_}
-use mathlib.Core.Path.{_≡_, refl, sym, ap, _∙_}
-use mathlib.Core.Bool.{Bool, true, false, not, cond, _&&_, _||_, true≢false}
-use mathlib.Core.List.{List, [], _∷_}
+use Prim.Native.Nat.{ℕ, zero, suc, _+_, _≤_}
+use mathlib.Core.Path.{_≡_, refl, sym, _∙_}
+use mathlib.Core.Bool.{Bool, true, false, not, cond, _&&_, _||_}
+use mathlib.Core.List.{[], _∷_}
 use native.Mathlib.Omega.{arith}
-use borrow.Author.Tests.{eqb-true, eq-eqb, ne-eqb, le-leb}
+use borrow.Author.Tests.{ne-eqb, le-leb}
 use lib.ListN.{length, getD, take, drop, length-take}
 use lib.Dec.{eqb, leb}
 use Rattle.octets.specs.Bytes.{Bytes, same, firstZero, every}
-use Rattle.octets.proofs.Strings.{and-left, and-right, and-both, and-false}
+use Rattle.octets.proofs.Strings.{and-false}
 use Rattle.server.specs.Layout.{textAt}
 use Rattle.server.specs.Rules.{storedNumber}
 use Rattle.table_bytes.specs.Tests.{part, isZero, isPadded}
-use Rattle.passes.proofs.Tests.{iff, and-same}
 use Rattle.image_check.proofs.Places.{part-cons}
-use Rattle.text_check.specs.Stored.{isDigit, digitOrZero, beginsWith}
+use Rattle.text_check.specs.Stored.{isDigit, digitOrZero}
 
 -- ---- a list of bytes
 
@@ -34,6 +33,7 @@ zeros-pass [] = refl
 zeros-pass (zero ∷ s) = zeros-pass s
 zeros-pass (suc x ∷ s) = rw (ne-eqb (suc x) 0 (λ e. omega arith)) (sym (and-false (isDigit (suc x) && every digitOrZero s)))
 
+-- two tests that agree beside p do so with d before them
 and-apart : (d e f p : Bool) → e && p ≡ f && p → (d && e) && p ≡ (d && f) && p
 and-apart true e f p q = q
 and-apart false e f p q = refl
@@ -56,12 +56,14 @@ twice false e p = refl
 abbrev kept : Bool → Bytes → Bool
 kept free a = cond (not free) ((leb 1 (length a) && leb (length a) 10) && every isDigit a) (same a [])
 
-begins : Bool → ℕ → Bool
+-- what the row asks of the first byte
+abbrev begins : Bool → ℕ → Bool
 begins free x = (not free && isDigit x) || (free && eqb x 0)
 
+-- the place that holds x and then s
 place : (free : Bool) (x : ℕ) (s : Bytes) → length s ≤ 9
     → kept free (text (x ∷ s)) && every isZero (tail (x ∷ s)) ≡ begins free x && (every digitOrZero (x ∷ s) && every isZero (tail (x ∷ s)))
-unfolding every firstZero same begins
+unfolding every firstZero same
 place true zero s h = zeros-pass s
 place false zero s h = refl
 place true (suc x) s h = rw (ne-eqb (suc x) 0 (λ e. omega arith))
@@ -77,5 +79,5 @@ place false (suc x) s h =
 pub stored-place : (free : Bool) (b : Bytes) (at : ℕ) → at + 10 ≤ length b
     → cond (not free) (storedNumber (textAt 10 b at)) (same (textAt 10 b at) []) && isPadded 10 b at
     ≡ ((not free && isDigit (getD b at 0)) || (free && eqb (getD b at 0) 0)) && (every digitOrZero (part 10 b at) && isPadded 10 b at)
-unfolding textAt isPadded begins
+unfolding textAt isPadded
 stored-place free b at h = rw (part-cons 9 b at (omega arith)) (place free (getD b at 0) (part 9 b (suc at)) (omega (arith, length-take 9 (drop (suc at) b))))

@@ -2,7 +2,7 @@
 -- zero. Assumes nothing.
 use Prim.Native.Nat.{ℕ, _+_, _*_, _/_, _%_, _<_, _≤_}
 use mathlib.Core.Path.{_≡_, refl, sym, ap, _∙_}
-use mathlib.Core.Bool.{Bool, true, false, not, cond, _&&_, _||_, true≢false}
+use mathlib.Core.Bool.{Bool, true, false, not, cond, _&&_, _||_}
 use mathlib.Core.List.{List, []}
 use native.Mathlib.Nat.{add-assoc}
 use native.Mathlib.Omega.{arith}
@@ -31,6 +31,7 @@ and-swap true false = refl
 and-swap false true = refl
 and-swap false false = refl
 
+-- a mark is zero exactly if its number is
 mark-none : (x : ℕ) → eqb (markOf x) 0 ≡ eqb x 0
 mark-none x = go (eqb x 0)
   where
@@ -43,17 +44,21 @@ abbrev cleanAt : Bytes → ℕ → ℕ → Bool
 cleanAt b at k = every digitOrZero (part 10 b (at + 10 * k)) && isPadded 10 b (at + 10 * k)
 
 module _ (b : Bytes) (at : ℕ) (h : at + 320 ≤ length b) where
+  -- zeros and digits, byte by byte and place by place
   digits-each : all (λ k. digitOrZero (getD b (at + k) 0)) (numbers 0 320) ≡ all (λ k. every digitOrZero (part 10 b (at + 10 * k))) (numbers 0 32)
   digits-each =
       runs (λ k. digitOrZero (getD b (at + k) 0)) 10 32
       ∙ same-below (λ k. all (λ j. digitOrZero (getD b (at + (10 * k + j)) 0)) (numbers 0 10)) (λ k. every digitOrZero (part 10 b (at + 10 * k))) 32
       (λ k g.
-      same-below (λ j. digitOrZero (getD b (at + (10 * k + j)) 0)) (λ j. digitOrZero (getD b (at + 10 * k + j) 0)) 10 (λ j _. ap (λ (x : ℕ). digitOrZero (getD b x 0)) (sym (add-assoc at (10 * k) j)))
+      same-below (λ j. digitOrZero (getD b (at + (10 * k + j)) 0)) (λ j. digitOrZero (getD b (at + 10 * k + j) 0)) 10
+      (λ j _. ap (λ (x : ℕ). digitOrZero (getD b x 0)) (sym (add-assoc at (10 * k) j)))
       ∙ sym (every-each digitOrZero 10 b (at + 10 * k) (omega arith)))
 
+  -- padded, byte by byte and place by place
   followed-each : all (lastOrFollowed lastsOf10 b at) (numbers 0 320) ≡ all (λ k. isPadded 10 b (at + 10 * k)) (numbers 0 32)
   followed-each = insides-padded 9 b at 0 32 (omega arith)
 
+  -- both
   clean-each : all (digitPadded lastsOf10 b at) (numbers 0 320) ≡ all (cleanAt b at) (numbers 0 32)
   clean-each =
       all-and (lastOrFollowed lastsOf10 b at) (λ k. digitOrZero (getD b (at + k) 0)) (numbers 0 320)
@@ -66,12 +71,14 @@ abbrev keptAt : Bytes → ℕ → ℕ → Bool
 keptAt b at k = cond (live (rowIn b k)) (storedNumber (textAt 10 b (at + 10 * k))) (same (textAt 10 b (at + 10 * k)) [])
 
 module _ (b : Bytes) (marks : List ℕ) (marked : Marked 4 b 68 marks) (at : ℕ) (h : at + 320 ≤ length b) where
+  -- one place by its row
   place-kept : (k : ℕ) → k < 32 → beginsAt marks b at k && cleanAt b at k ≡ keptAt b at k && isPadded 10 b (at + 10 * k)
   place-kept k g =
       let x = getD b (at + 10 * k) 0 in
       ap (λ (t : Bool). ((not t && isDigit x) || (t && eqb x 0)) && cleanAt b at k) (ap (λ (m : ℕ). eqb m 0) (marked k g) ∙ mark-none (rowIn b k .serial))
       ∙ sym (stored-place (eqb (rowIn b k .serial) 0) b (at + 10 * k) (omega arith))
 
+  -- all places of the column
   column-kept : all (beginsAt marks b at) (numbers 0 32) && all (digitPadded lastsOf10 b at) (numbers 0 320) ≡ all (keptAt b at) (numbers 0 32) && arePadded 10 32 b at
   unfolding arePadded
   column-kept =
@@ -86,10 +93,12 @@ cond-and : (t a b c d : Bool) → cond t (a && b) (c && d) ≡ cond t a c && con
 cond-and true a b c d = refl
 cond-and false a b c d = refl
 
+-- the rule on texts, column by column
 kept-both : (b : Bytes) → all (storedAt b) (numbers 0 32) ≡ all (keptAt b 3108) (numbers 0 32) && all (keptAt b 3428) (numbers 0 32)
 kept-both b =
     same-below (storedAt b) (λ k. keptAt b 3108 k && keptAt b 3428 k) 32
-    (λ k _. cond-and (live (rowIn b k)) (storedNumber (textAt 10 b (3108 + 10 * k))) (storedNumber (textAt 10 b (3428 + 10 * k))) (same (textAt 10 b (3108 + 10 * k)) []) (same (textAt 10 b (3428 + 10 * k)) []))
+    (λ k _. cond-and (live (rowIn b k)) (storedNumber (textAt 10 b (3108 + 10 * k))) (storedNumber (textAt 10 b (3428 + 10 * k)))
+    (same (textAt 10 b (3108 + 10 * k)) []) (same (textAt 10 b (3428 + 10 * k)) []))
     ∙ all-and (keptAt b 3108) (keptAt b 3428) (numbers 0 32)
 
 pair-up : (a b c d : Bool) → a && (b && (c && d)) ≡ (a && c) && (b && d)
@@ -123,6 +132,7 @@ stored-hold b marks marked long p q r ep eq er =
 
 -- ---- numbers of one digit
 
+-- a first byte as its row says is a digit or a zero
 begins-right : (m x : ℕ) → beginsWith m x ≡ true → digitOrZero x ≡ true
 begins-right m x e = go (eqb m 0) e
   where
@@ -138,13 +148,16 @@ begins-right m x e = go (eqb m 0) e
 pub begun : (b : Bytes) (marks : List ℕ) (at : ℕ) → all (beginsAt marks b at) (numbers 0 32) ≡ true → Begun b at
 begun b marks at e k g = begins-right (getD marks k 0) (getD b (at + 10 * k) 0) (below-at (beginsAt marks b at) 32 k e g)
 
+-- the masks, by computation: a byte that is not marked as the first is not; the tenth is marked as the last
 first-mask : (k : ℕ) → k < 320 → eqb (k % 10) 0 || eqb (getD firstsOf10 k 0) 0 ≡ true
 first-mask k g = below-at (λ k. eqb (k % 10) 0 || eqb (getD firstsOf10 k 0) 0) 320 k refl g
 
 last-mask : (k : ℕ) → k < 320 → not (eqb (k % 10) 9) || not (eqb (getD lastsOf10 k 0) 0) ≡ true
 last-mask k g = below-at (λ k. not (eqb (k % 10) 9) || not (eqb (getD lastsOf10 k 0) 0)) 320 k refl g
 
+-- a column whose places begin with a digit or a zero and go on with zeros
 module _ (b : Bytes) (at : ℕ) (first : Begun b at) (zero : (k : ℕ) → k < 320 → eqb (k % 10) 0 ≡ false → eqb (getD b (at + k) 0) 0 ≡ true) where
+  -- each byte is a digit or a zero
   right-at : (k : ℕ) → k < 320 → digitOrZero (getD b (at + k) 0) ≡ true
   right-at k g = go (eqb (k % 10) 0) refl
     where
@@ -155,17 +168,22 @@ module _ (b : Bytes) (at : ℕ) (first : Begun b at) (zero : (k : ℕ) → k < 3
           ap (λ (x : ℕ). digitOrZero (getD b (at + x) 0)) (sym r) ∙ first (k / 10) (omega arith)
       go false e = or-left (eqb (getD b (at + k) 0) 0) (isDigit (getD b (at + k) 0)) (zero k g e)
 
+  -- each byte but the last of its place is followed by a zero
   followed-at : (k : ℕ) → k < 320 → lastOrFollowed lastsOf10 b at k ≡ true
   followed-at k g = go (eqb (k % 10) 9) refl
     where
       go : (t : Bool) → eqb (k % 10) 9 ≡ t → lastOrFollowed lastsOf10 b at k ≡ true
-      go true e = or-left (not (eqb (getD lastsOf10 k 0) 0)) (not (eqb (getD b (at + k) 0) 0) || eqb (getD b (at + k + 1) 0) 0) (or-not (not (eqb (k % 10) 9)) (not (eqb (getD lastsOf10 k 0) 0)) (last-mask k g) (ap not e))
+      go true e = or-left (not (eqb (getD lastsOf10 k 0) 0)) (not (eqb (getD b (at + k) 0) 0) || eqb (getD b (at + k + 1) 0) 0)
+          (or-not (not (eqb (k % 10) 9)) (not (eqb (getD lastsOf10 k 0) 0)) (last-mask k g) (ap not e))
       go false e =
           let n : k % 10 ≡ 9 → ⊥ = eqb-false (k % 10) 9 e in
           let r : at + (k + 1) ≡ at + k + 1 = omega arith in
-          let z : eqb (getD b (at + k + 1) 0) 0 ≡ true = ap (λ (x : ℕ). eqb (getD b x 0) 0) (sym r) ∙ zero (k + 1) (omega arith) (ne-eqb ((k + 1) % 10) 0 (λ m. n (omega arith))) in
-          or-right (not (eqb (getD lastsOf10 k 0) 0)) (not (eqb (getD b (at + k) 0) 0) || eqb (getD b (at + k + 1) 0) 0) (or-right (not (eqb (getD b (at + k) 0) 0)) (eqb (getD b (at + k + 1) 0) 0) z)
+          let z : eqb (getD b (at + k + 1) 0) 0 ≡ true =
+          ap (λ (x : ℕ). eqb (getD b x 0) 0) (sym r) ∙ zero (k + 1) (omega arith) (ne-eqb ((k + 1) % 10) 0 (λ m. n (omega arith))) in
+          or-right (not (eqb (getD lastsOf10 k 0) 0)) (not (eqb (getD b (at + k) 0) 0) || eqb (getD b (at + k + 1) 0) 0)
+          (or-right (not (eqb (getD b (at + k) 0) 0)) (eqb (getD b (at + k + 1) 0) 0) z)
 
+  -- so the column passes
   alone-column : all (digitPadded lastsOf10 b at) (numbers 0 320) ≡ true
   alone-column = below-by (digitPadded lastsOf10 b at) 320 (λ k g. and-both (lastOrFollowed lastsOf10 b at k) (digitOrZero (getD b (at + k) 0)) (followed-at k g) (right-at k g))
 

@@ -24,6 +24,7 @@ name-short b q = go (ltb q 16) refl
     go true e = text-within (functionAt (tableOf 16 b) q .name) 32 b (548 + 32 * q) (ap (λ (x : Function). x .name) (function-at 16 b q (ltb-true q 16 e)))
     go false e = omega (arith, no-name b q (ltb-false q 16 e))
 
+-- a name has at most 32 bytes, a unique 64
 pub sizes-small : (b : Bytes) → all (sizeSmall b) (numbers 0 32) ≡ true → true ≡ sizesWithin (tableOf 16 b)
 sizes-small b e =
     sym (jobs-all 16 b (λ (j : Job). leb (together (tableOf 16 b) j) 1022) ∙ below-by (λ k. leb (together (tableOf 16 b) (jobIn b k)) 1022) 32 (λ k g. small k g))

@@ -18,12 +18,15 @@ all-digits-requires : tie.Need-all-digits-requires
 all-digits-requires c κs = let s = c .before .before .before .before .before in
     let b = now (s .args .table) in
     let marks = now (s .args .live) in
-    (s .pre .0, (begun b marks 3108 (sym (c .before .before .before .numbers-begin .ensures) ∙ c .before .before .if1 .taken), begun b marks 3428 (sym (c .before .numbers-begin2 .ensures) ∙ c .if2 .taken)))
+    let e = sym (c .before .before .before .numbers-begin .ensures) ∙ c .before .before .if1 .taken in
+    let f = sym (c .before .numbers-begin2 .ensures) ∙ c .if2 .taken in
+    (s .pre .0, (begun b marks 3108 e, begun b marks 3428 f))
 
 returns : tie.Need-returns
 returns c = let s = c .before .before .before .before .before .before in
     stored-hold (now (s .args .table)) (now (s .args .live)) (s .pre .1) (s .pre .0) true true (c .all-digits .result)
-    (sym (c .before .before .before .if1 .taken) ∙ c .before .before .before .before .numbers-begin .ensures) (sym (c .before .if2 .taken) ∙ c .before .before .numbers-begin2 .ensures) (c .all-digits .ensures)
+    (sym (c .before .before .before .if1 .taken) ∙ c .before .before .before .before .numbers-begin .ensures)
+    (sym (c .before .if2 .taken) ∙ c .before .before .numbers-begin2 .ensures) (c .all-digits .ensures)
 
 returns-2 : tie.Need-returns-2
 returns-2 c = let s = c .before .before .before .before .before in
