@@ -1,45 +1,39 @@
--- Laws of texts in their places: what any text of a place is, and how the code's tests of a text meet the rules' own. Assumes nothing.
-use Prim.Native.Nat.{ℕ, suc, _+_, _-_, _*_, _<_, _≤_}
+-- Laws of texts in their places: how long a text is, and how the code's tests of texts meet the rules' own. Assumes nothing.
+use Prim.Native.Nat.{ℕ, suc, _<_, _≤_}
 use mathlib.Core.Path.{_≡_, refl, sym, ap, _∙_}
-use mathlib.Core.Bool.{Bool, true, false, not, cond, _&&_, _||_, true≢false}
+use mathlib.Core.Bool.{Bool, true, false, not, _&&_, _||_, true≢false}
 use mathlib.Core.List.{[], _∷_}
 use native.Mathlib.Omega.{arith}
-use borrow.Author.Tests.{lt-ltb, le-ltb, eq-eqb, ne-eqb, not-true, not-false}
+use borrow.Author.Tests.{ne-eqb}
 use lib.ListN.{length, take, drop, length-take}
 use lib.Seq.{length-take-le}
 use lib.Dec.{eqb}
-use Rattle.octets.specs.Bytes.{Bytes, same, firstZero, zeroFree}
+use Rattle.octets.specs.Bytes.{Bytes, same, firstZero}
 use Rattle.octets.proofs.Strings.{zero-le-length}
-use Rattle.server.specs.declared.JobRow.{JobRow}
-use Rattle.server.specs.Table.{live}
-use Rattle.server.specs.Layout.{textAt}
-use Rattle.text_rules.specs.TextRules.{nameAt, uniqueAt, nameLength, uniquesApartBy}
+use Rattle.server.specs.Table.{Function, Job, functionAt}
+use Rattle.server.specs.Layout.{textAt, functionIn, tableOf}
+use Rattle.server.specs.Rules.{uniquesApart}
+use Rattle.passes.proofs.Rows.{function-at, no-function}
 
--- ---- what stands before the first zero byte
-
-clean-step : (x : ℕ) (n : ℕ) (s : Bytes) (c : Bool) → eqb x 0 ≡ c → firstZero (take n s) ≡ n → firstZero (take (cond c 0 (suc n)) (x ∷ s)) ≡ cond c 0 (suc n)
-unfolding firstZero
-clean-step x n s true e h = refl
-clean-step x n s false e h = rw e (ap suc h)
-
-clean-front : (s : Bytes) → firstZero (take (firstZero s) s) ≡ firstZero s
-unfolding firstZero
-clean-front [] = refl
-clean-front (x ∷ s) = clean-step x (firstZero s) s (eqb x 0) refl (clean-front s)
+-- ---- lengths
 
 -- the text of a place is as long as its first zero byte says, which is at most the place
 text-long : (k : ℕ) (b : Bytes) (at : ℕ) → length (textAt k b at) ≡ firstZero (take k (drop at b))
 unfolding textAt
 text-long k b at = length-take-le (firstZero (take k (drop at b))) (take k (drop at b)) (zero-le-length (take k (drop at b)))
 
-pub text-within : (k : ℕ) (b : Bytes) (at : ℕ) → length (textAt k b at) ≤ k
-text-within k b at = omega (arith, text-long k b at, zero-le-length (take k (drop at b)), length-take k (drop at b))
+pub text-within : (s : Bytes) (k : ℕ) (b : Bytes) (at : ℕ) → s ≡ textAt k b at → length s ≤ k
+text-within s k b at e =
+    omega (arith, ap length e, text-long k b at, zero-le-length (take k (drop at b)), length-take k (drop at b))
 
-pub text-clean : (k : ℕ) (b : Bytes) (at : ℕ) → zeroFree (textAt k b at) ≡ true
-unfolding textAt
-text-clean k b at = eq-eqb _ _ (clean-front (take k (drop at b)) ∙ sym (text-long k b at))
+-- the length of a function's name; past the last function there is none
+pub name-length : (b s : Bytes) (q : ℕ) → s ≡ functionIn b q .name → q < 16 → length s ≡ length (functionAt (tableOf 16 b) q .name)
+name-length b s q e h = ap length e ∙ ap (λ (x : Function). length (x .name)) (sym (function-at 16 b q h))
 
--- ---- lengths
+pub no-name : (b : Bytes) (q : ℕ) → 16 ≤ q → 0 ≡ length (functionAt (tableOf 16 b) q .name)
+no-name b q h = ap (λ (x : Function). length (x .name)) (sym (no-function 16 b q h))
+
+-- ---- tests of texts
 
 empty-is : (s : Bytes) → eqb (length s) 0 ≡ same s []
 unfolding same
@@ -49,52 +43,40 @@ empty-is (x ∷ s) = ne-eqb (suc (length s)) 0 (λ e. omega arith)
 pub empty-text : (s a : Bytes) → s ≡ a → eqb (length s) 0 ≡ same a []
 empty-text s a e = rw e (empty-is a)
 
-pub name-length : (b s : Bytes) (q : ℕ) → s ≡ nameAt b q → q < 16 → length s ≡ nameLength b q
-unfolding nameLength
-name-length b s q e h = rw (lt-ltb q 16 h, e)
+twice-not : (x y : Bool) → x || y ≡ not (not x) || y
+twice-not true y = refl
+twice-not false y = refl
 
-pub name-within : (b s : Bytes) (q : ℕ) → s ≡ nameAt b q → length s ≤ 32
-unfolding nameAt
-name-within b s q e = rw e (text-within 32 b (548 + 32 * q))
+-- a text that is empty, or is not the other one
+pub apart-texts : (r s t x y : Bytes) (e : Bool) → r ≡ x → s ≡ x → t ≡ y → e ≡ same s t → eqb (length r) 0 || not e ≡ not (not (same x [])) || not (same x y)
+apart-texts r s t x y e i j k q = rw (empty-text r x i, q, j, k) (twice-not (same x []) (not (same x y)))
 
-pub no-name : (b : Bytes) (q : ℕ) → 16 ≤ q → 0 ≡ nameLength b q
-unfolding nameLength
-no-name b q h = rw (le-ltb q 16 h)
-
-pub unique-within : (b s : Bytes) (p : ℕ) → s ≡ uniqueAt b p → length s ≤ 64
-unfolding uniqueAt
-unique-within b s p e = rw e (text-within 64 b (1060 + 64 * p))
-
--- ---- single tests
-
-pub agree-is : (a b : Bool) → (a && b) || (not a && not b) ≡ cond a b (not b)
-agree-is true true = refl
-agree-is true false = refl
-agree-is false b = refl
+-- ---- uniques
 
 -- jobs of which one is free, or whose functions differ, are apart
-apart-before : (a b c d e : Bool) → a && (b && d) ≡ false → not (a && (b && (c && (d && e)))) ≡ true
-apart-before true true true true e h = absurd (true≢false h)
-apart-before true true true false e h = refl
-apart-before true true false d e h = refl
-apart-before true false c d e h = refl
-apart-before false b c d e h = refl
+skip : (a b c d e : Bool) → a || (b || not d) ≡ true → true ≡ not (not a && (not b && (c && (d && e))))
+skip true b c d e h = refl
+skip false true c d e h = refl
+skip false false true false e h = refl
+skip false false true true e h = absurd (true≢false (sym h))
+skip false false false d e h = refl
 
-apart-then : (a b c d e : Bool) → a && (b && d) ≡ true → not (a && (b && (not c && (d && e)))) ≡ c || not e
-apart-then true true true true e h = refl
-apart-then true true false true e h = refl
-apart-then true true c false e h = absurd (true≢false (sym h))
-apart-then true false c d e h = absurd (true≢false (sym h))
-apart-then false b c d e h = absurd (true≢false (sym h))
+compare : (a b c d e : Bool) → a || (b || not d) ≡ false → not (not c) || not e ≡ not (not a && (not b && (not c && (d && e))))
+compare true b c d e h = absurd (true≢false h)
+compare false true c d e h = absurd (true≢false h)
+compare false false c false e h = absurd (true≢false h)
+compare false false true true e h = refl
+compare false false false true e h = refl
 
-pub uniques-skip : (b : Bytes) (row other : JobRow) (p k : ℕ) → not (live row && (live other && eqb (row .function) (other .function))) ≡ true → true ≡ uniquesApartBy b row other p k
-unfolding uniquesApartBy
-uniques-skip b row other p k h =
-    sym (apart-before (live row) (live other) (not (same (uniqueAt b p) [])) (eqb (row .function) (other .function)) (same (uniqueAt b p) (uniqueAt b k)) (not-true _ h))
+module _ (j k : Job) (s t : ℕ) (i : s ≡ j .row .serial) (l : t ≡ k .row .serial) where
+  pub uniques-skip : eqb s 0 || (eqb t 0 || not (eqb (j .row .function) (k .row .function))) ≡ true → true ≡ uniquesApart j k
+  uniques-skip h =
+      skip (eqb (j .row .serial) 0) (eqb (k .row .serial) 0) (not (same (j .unique) [])) (eqb (j .row .function) (k .row .function)) (same (j .unique) (k .unique))
+      (rw (i, l) at h)
 
-pub uniques-compared : (b : Bytes) (row other : JobRow) (p k n : ℕ) (s w : Bytes) (e : Bool) → not (live row && (live other && eqb (row .function) (other .function))) ≡ false
-    → n ≡ length (uniqueAt b p) → s ≡ uniqueAt b p → w ≡ uniqueAt b k → e ≡ same s w → eqb n 0 || not e ≡ uniquesApartBy b row other p k
-unfolding uniquesApartBy
-uniques-compared b row other p k n s w e h l f g q =
-    rw (l, empty-is (uniqueAt b p), q, f, g)
-    (sym (apart-then (live row) (live other) (same (uniqueAt b p) []) (eqb (row .function) (other .function)) (same (uniqueAt b p) (uniqueAt b k)) (not-false _ h)))
+  pub uniques-compared : eqb s 0 || (eqb t 0 || not (eqb (j .row .function) (k .row .function))) ≡ false
+      → (u v w : Bytes) (e : Bool) → u ≡ j .unique → v ≡ j .unique → w ≡ k .unique → e ≡ same v w → eqb (length u) 0 || not e ≡ uniquesApart j k
+  uniques-compared h u v w e f g m q =
+      apart-texts u v w (j .unique) (k .unique) e f g m q
+      ∙ compare (eqb (j .row .serial) 0) (eqb (k .row .serial) 0) (same (j .unique) []) (eqb (j .row .function) (k .row .function)) (same (j .unique) (k .unique))
+      (rw (i, l) at h)

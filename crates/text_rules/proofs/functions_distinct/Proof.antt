@@ -1,25 +1,26 @@
--- `text_rules::functions_distinct` meets its contract. The invariant: the flag and the places left say what all pairs of places say.
--- Assumes nothing.
-use Prim.Native.Nat.{_≤_, _-_}
-use mathlib.Core.Path.{_≡_, refl}
-use mathlib.Core.Bool.{_&&_}
+-- `text_rules::functions_distinct` meets its contract. The invariant: the flag says what the functions passed and those after each say. Assumes nothing.
+use Prim.Native.Nat.{_≤_, _-_, _+_}
+use mathlib.Core.Path.{_≡_, refl, sym, _∙_}
 use native.Mathlib.Omega.{arith}
 use borrow.Author.Needs.{needs}
 use denote.Ref.{now}
-use Rattle.server.specs.Lists.{pairwise, numbers}
-use Rattle.text_rules.specs.TextRules.{namesApartAt, nameApartFrom, functionsDistinctIn}
-use Rattle.number_rules.proofs.Walks.{places-on, places-end}
+use Rattle.server.specs.Lists.{all, numbers}
+use Rattle.server.specs.Layout.{functionIn}
+use Rattle.server.specs.Rules.{namesApart}
+use Rattle.passes.proofs.Tests.{each-on, each-end}
+use Rattle.passes.proofs.Pairs.{pairs-each}
+use Rattle.passes.proofs.Rows.{functions-pairs}
 use Rattle.text_rules.proofs.functions_distinct.Statement.{statement}
 use Rattle.text_rules.proofs.functions_distinct.Tie as tie
 
 abbrev Inv-loop : tie.InvT-loop
-Inv-loop table ok₀ q₀ ok q = (q ≤ 16) × (functionsDistinctIn table ≡ ok && pairwise (namesApartAt table) (numbers q (16 - q)))
+Inv-loop table ok₀ q₀ ok q =
+    (q ≤ 16) × (ok ≡ all (λ i. all (λ k. namesApart (functionIn table i) (functionIn table k)) (numbers (i + 1) (16 - (i + 1)))) (numbers 0 q))
 
 abbrev μ-loop : tie.MeasureT-loop
 μ-loop table ok₀ q₀ ok q = 16 - q
 
 loop-holds : tie.Need-loop-holds Inv-loop μ-loop
-unfolding functionsDistinctIn
 loop-holds c = (omega arith, refl)
 
 name-apart-from-requires : tie.Need-name-apart-from-requires Inv-loop μ-loop
@@ -32,27 +33,19 @@ loop-less : tie.Need-loop-less Inv-loop μ-loop
 loop-less c = search needs
 
 loop-again : tie.Need-loop-again Inv-loop μ-loop
-unfolding nameApartFrom
 loop-again c =
     let l = c .before .before .loop in
-    let a = c .before .before .before .before .args in
-    (omega arith, places-on (namesApartAt (now (a .table))) 16 (l .q) (l .ok) _ (l .inv .1) (omega arith) (c .name-apart-from .ensures))
+    let b = now (c .before .before .before .before .args .table) in
+    (omega arith, each-on (λ i. all (λ k. namesApart (functionIn b i) (functionIn b k)) (numbers (i + 1) (16 - (i + 1)))) 16 (l .q) (l .ok) _ (l .inv .1) (c .name-apart-from .ensures))
 
 returns : tie.Need-returns Inv-loop μ-loop
 returns c =
     let l = c .before .loop in
-    let a = c .before .before .before .args in
-    places-end (namesApartAt (now (a .table))) 16 (l .q) (l .ok) (l .inv .1) (omega arith)
+    let b = now (c .before .before .before .args .table) in
+    each-end (λ i. all (λ k. namesApart (functionIn b i) (functionIn b k)) (numbers (i + 1) (16 - (i + 1)))) 16 (l .q) (l .ok) (l .inv .1) (l .inv .0) (omega arith)
+    ∙ pairs-each (λ i k. namesApart (functionIn b i) (functionIn b k)) 16 ∙ sym (functions-pairs 16 b namesApart)
 
 pub functions-distinct-spec : {M : Type 1} → statement M
 functions-distinct-spec =
     tie.close
-    (tie.spec
-    Inv-loop
-    μ-loop
-    loop-holds
-    name-apart-from-requires
-    add-q
-    loop-less
-    loop-again
-    returns)
+    (tie.spec Inv-loop μ-loop loop-holds name-apart-from-requires add-q loop-less loop-again returns)

@@ -1,19 +1,18 @@
--- `text_rules::name_apart_from` meets its contract. The invariant: the flag and the places left say what all later places say.
--- Assumes nothing.
-use Prim.Native.Nat.{_≤_, _-_}
-use mathlib.Core.Path.{_≡_, refl}
-use mathlib.Core.Bool.{_&&_}
+-- `text_rules::name_apart_from` meets its contract. The invariant: the flag says what the later functions passed say. Assumes nothing.
+use Prim.Native.Nat.{_≤_, _-_, _+_}
+use mathlib.Core.Path.{_≡_}
 use native.Mathlib.Omega.{arith}
 use borrow.Author.Needs.{needs}
 use denote.Ref.{now}
 use Rattle.server.specs.Lists.{all, numbers}
-use Rattle.text_rules.specs.TextRules.{namesApartAt, nameApartFrom}
-use Rattle.number_rules.proofs.Walks.{each-on, each-end}
+use Rattle.server.specs.Layout.{functionIn}
+use Rattle.server.specs.Rules.{namesApart}
+use Rattle.passes.proofs.Pairs.{later-on, later-end}
 use Rattle.text_rules.proofs.name_apart_from.Statement.{statement}
 use Rattle.text_rules.proofs.name_apart_from.Tie as tie
 
 abbrev Inv-loop : tie.InvT-loop
-Inv-loop table q ok₀ k₀ ok k = (k ≤ 16) × (nameApartFrom table q ≡ ok && all (namesApartAt table q) (numbers k (16 - k)))
+Inv-loop table q ok₀ k₀ ok k = (q + 1 ≤ k) × (k ≤ 16) × (ok ≡ all (λ i. namesApart (functionIn table q) (functionIn table i)) (numbers (q + 1) (k - (q + 1))))
 
 abbrev μ-loop : tie.MeasureT-loop
 μ-loop table q ok₀ k₀ ok k = 16 - k
@@ -22,8 +21,10 @@ add-k : tie.Need-add-k Inv-loop μ-loop
 add-k c = search needs
 
 loop-holds : tie.Need-loop-holds Inv-loop μ-loop
-unfolding nameApartFrom
-loop-holds c = (omega arith, refl)
+loop-holds c =
+    let a = c .before .args in
+    let z : a .q + 1 - (a .q + 1) ≡ 0 = omega arith in
+    (omega arith, omega arith, rw z)
 
 names-apart-requires : tie.Need-names-apart-requires Inv-loop μ-loop
 names-apart-requires c κs = search needs
@@ -38,13 +39,15 @@ loop-again : tie.Need-loop-again Inv-loop μ-loop
 loop-again c =
     let l = c .before .before .loop in
     let a = c .before .before .before .before .args in
-    (omega arith, each-on (namesApartAt (now (a .table)) (a .q)) 16 (l .k) (l .ok) _ (l .inv .1) (omega arith) (c .names-apart .ensures))
+    let b = now (a .table) in
+    (omega arith, omega arith, later-on (λ i. namesApart (functionIn b (a .q)) (functionIn b i)) (a .q + 1) 16 (l .k) (l .ok) _ (l .inv .2) (l .inv .0) (c .names-apart .ensures))
 
 returns : tie.Need-returns Inv-loop μ-loop
 returns c =
     let l = c .before .loop in
     let a = c .before .before .before .args in
-    each-end (namesApartAt (now (a .table)) (a .q)) 16 (l .k) (l .ok) (l .inv .1) (omega arith)
+    let b = now (a .table) in
+    later-end (λ i. namesApart (functionIn b (a .q)) (functionIn b i)) (a .q + 1) 16 (l .k) (l .ok) (l .inv .2) (l .inv .1) (omega arith)
 
 pub name-apart-from-spec : {M : Type 1} → statement M
 name-apart-from-spec =

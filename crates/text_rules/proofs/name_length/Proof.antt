@@ -1,7 +1,7 @@
 -- `text_rules::name_length` meets its contract: past the last function there is no name. Assumes nothing.
 use native.Mathlib.Omega.{arith}
 use borrow.Author.Needs.{needs}
-use Rattle.text_rules.proofs.Texts.{name-length, name-within, no-name}
+use Rattle.text_rules.proofs.Texts.{text-within, name-length, no-name}
 use Rattle.text_rules.proofs.name_length.Statement.{statement}
 use Rattle.text_rules.proofs.name_length.Tie as tie
 
@@ -9,7 +9,7 @@ name-requires : tie.Need-name-requires
 name-requires c κs = search needs
 
 returns : tie.Need-returns
-returns c = (name-length _ _ _ (c .name .ensures) (c .before .if1 .taken), name-within _ _ _ (c .name .ensures))
+returns c = (name-length _ _ _ (c .name .ensures) (c .before .if1 .taken), text-within _ 32 _ _ (c .name .ensures))
 
 returns-2 : tie.Need-returns-2
 returns-2 c = (no-name _ _ (c .if1 .left), omega arith)

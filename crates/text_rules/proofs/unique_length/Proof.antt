@@ -2,7 +2,7 @@
 use mathlib.Core.Path.{ap}
 use borrow.Author.Needs.{needs}
 use lib.ListN.{length}
-use Rattle.text_rules.proofs.Texts.{unique-within}
+use Rattle.text_rules.proofs.Texts.{text-within}
 use Rattle.text_rules.proofs.unique_length.Statement.{statement}
 use Rattle.text_rules.proofs.unique_length.Tie as tie
 
@@ -10,7 +10,7 @@ unique-requires : tie.Need-unique-requires
 unique-requires c κs = search needs
 
 returns : tie.Need-returns
-returns c = (ap length (c .unique .ensures), unique-within _ _ _ (c .unique .ensures))
+returns c = (ap length (c .unique .ensures), text-within _ 64 _ _ (c .unique .ensures))
 
 pub unique-length-spec : {M : Type 1} → statement M
 unique-length-spec = tie.close (tie.spec unique-requires returns)
