@@ -118,7 +118,7 @@ module _ (n m : ℕ) (b : Bytes) (at : ℕ) (inside : (k : ℕ) → k < m → at
       places-same (part (suc n) b (at + suc n * i)) (part (suc n) b (at + suc n * k))
       (length-part (suc n) b (at + suc n * i) (inside i h) ∙ sym (length-part (suc n) b (at + suc n * k) (inside k g))) (pads i h) (pads k g) e
 
-  -- two texts that are not empty differ, unless what they fold to does
+  -- where keys are distinct and equal places fold to one number, a text that is not empty is not that of a later place
   pub texts-differ : (fold : ℕ → ℕ) → ((i k : ℕ) → i < k → k < m → placeKey b at (suc n) fold i ≡ placeKey b at (suc n) fold k → ⊥)
       → (i k : ℕ) → i < k → k < m → (part (suc n) b (at + suc n * i) ≡ part (suc n) b (at + suc n * k) → fold i ≡ fold k)
       → same (textAt (suc n) b (at + suc n * i)) [] ≡ false → same (textAt (suc n) b (at + suc n * i)) (textAt (suc n) b (at + suc n * k)) ≡ true → ⊥

@@ -13,9 +13,6 @@ module _ (n : ℕ) (f : ℕ → ℕ) where
   abbrev pub Written : ℕ → List ℕ → Type 0
   Written i w = (length w ≡ n + n) × ((k : ℕ) → k < i → getD w k 0 ≡ f k) × ((k : ℕ) → k < i → getD w (n + k) 0 ≡ f k)
 
-  pub none-written : (w : List ℕ) → length w ≡ n + n → Written 0 w
-  none-written w l = (l, λ k h. absurd (omega arith), λ k h. absurd (omega arith))
-
   pub written-more : (i : ℕ) (w : List ℕ) (x : ℕ) → i < n → x ≡ f i → Written i w → Written (i + 1) (set (set w i x) (n + i) x)
   written-more i w x h e (l, t, u) = (
     length-set (set w i x) (n + i) x ∙ length-set w i x ∙ l,
