@@ -40,7 +40,7 @@ unfolding same
 empty-is [] = refl
 empty-is (x ∷ s) = ne-eqb (suc (length s)) 0 (λ e. omega arith)
 
-pub empty-text : (s a : Bytes) → s ≡ a → eqb (length s) 0 ≡ same a []
+empty-text : (s a : Bytes) → s ≡ a → eqb (length s) 0 ≡ same a []
 empty-text s a e = rw e (empty-is a)
 
 twice-not : (x y : Bool) → x || y ≡ not (not x) || y
