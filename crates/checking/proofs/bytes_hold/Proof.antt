@@ -1,39 +1,39 @@
+-- `checking::bytes_hold` meets its contract. Part by part; where one fails, so do all. Assumes nothing.
+use mathlib.Core.Path.{sym, _∙_}
+use mathlib.Core.Bool.{_&&_}
+use denote.Ref.{now}
+use Rattle.table_bytes.specs.Tests.{arePadded}
+use Rattle.passes.proofs.Tests.{and-same, and-fails}
+use Rattle.checking.specs.Parts.{byteRules}
 use borrow.Author.Needs.{needs}
 use Rattle.checking.proofs.bytes_hold.Statement.{statement}
 use Rattle.checking.proofs.bytes_hold.Tie as tie
-use Rattle.checking.proofs.bytes_hold.Reads as reads
-use Rattle.checking.proofs.bytes_hold.Lts as lts
-use Rattle.image_check.proofs.flags.Reads as flags-reads
-use Rattle.image_check.proofs.names_padded.Reads as names-padded-reads
-use Rattle.image_check.proofs.uniques_padded.Reads as uniques-padded-reads
 
--- src/lib.rt:19:8
 flags-requires : tie.Need-flags-requires
 flags-requires c κs = search needs
 
--- src/lib.rt:19:45
 flags-requires-2 : tie.Need-flags-requires-2
 flags-requires-2 c κs = search needs
 
--- src/lib.rt:20:12
 names-padded-requires : tie.Need-names-padded-requires
 names-padded-requires c κs = search needs
 
--- src/lib.rt:21:13
 uniques-padded-requires : tie.Need-uniques-padded-requires
 uniques-padded-requires c κs = search needs
 
--- src/lib.rt:21:13
 returns : tie.Need-returns
-returns c = ?
+unfolding byteRules
+returns c = and-same (sym (c .before .before .before .if1 .taken) ∙ and-same (c .before .before .before .before .before .flags .ensures) (c .before .before .before .before .flags2 .ensures)) (and-same (sym (c .before .if2 .taken) ∙ c .before .before .names-padded .ensures) (c .uniques-padded .ensures))
 
--- src/lib.rt:15:1
 returns-2 : tie.Need-returns-2
-returns-2 c = ?
+unfolding byteRules
+returns-2 c = let b = now (c .before .before .before .before .before .before .args .table) in
+    and-same (sym (c .before .before .if1 .taken) ∙ and-same (c .before .before .before .before .flags .ensures) (c .before .before .before .flags2 .ensures)) (and-fails (arePadded 64 32 b 1060) (sym (c .if2 .left) ∙ c .before .names-padded .ensures))
 
--- src/lib.rt:15:1
 returns-3 : tie.Need-returns-3
-returns-3 c = ?
+unfolding byteRules
+returns-3 c = let b = now (c .before .before .before .before .args .table) in
+    and-fails (arePadded 32 16 b 548 && arePadded 64 32 b 1060) (sym (c .if1 .left) ∙ and-same (c .before .before .flags .ensures) (c .before .flags2 .ensures))
 
 pub bytes-hold-spec : {M : Type 1} → statement M
 bytes-hold-spec =

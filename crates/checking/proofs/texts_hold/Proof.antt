@@ -1,44 +1,45 @@
+-- `checking::texts_hold` meets its contract. Rule after rule; where one fails, so do all. Assumes nothing.
+use mathlib.Core.Path.{sym, _∙_}
+use mathlib.Core.Bool.{_&&_}
+use denote.Ref.{now}
+use Rattle.server.specs.Layout.{tableOf}
+use Rattle.server.specs.Rules.{sizesWithin, functionsDistinct, uniquesDistinct}
+use Rattle.passes.proofs.Tests.{and-same, and-fails}
+use Rattle.checking.specs.Parts.{textRules}
 use borrow.Author.Needs.{needs}
 use Rattle.checking.proofs.texts_hold.Statement.{statement}
 use Rattle.checking.proofs.texts_hold.Tie as tie
-use Rattle.checking.proofs.texts_hold.Reads as reads
-use Rattle.checking.proofs.texts_hold.Lts as lts
-use Rattle.text_check.proofs.sizes_hold.Reads as sizes-hold-reads
-use Rattle.text_check.proofs.stored_hold.Reads as stored-hold-reads
-use Rattle.text_rules.proofs.functions_distinct.Reads as functions-distinct-reads
-use Rattle.text_rules.proofs.uniques_distinct.Reads as uniques-distinct-reads
 
--- src/lib.rt:43:8
 stored-hold-requires : tie.Need-stored-hold-requires
 stored-hold-requires c κs = search needs
 
--- src/lib.rt:44:12
 sizes-hold-requires : tie.Need-sizes-hold-requires
 sizes-hold-requires c κs = search needs
 
--- src/lib.rt:45:16
-functions-distinct-requires : tie.Need-functions-distinct-requires
-functions-distinct-requires c κs = search needs
+names-hold-requires : tie.Need-names-hold-requires
+names-hold-requires c κs = search needs
 
--- src/lib.rt:46:17
-uniques-distinct-requires : tie.Need-uniques-distinct-requires
-uniques-distinct-requires c κs = search needs
+uniques-hold-requires : tie.Need-uniques-hold-requires
+uniques-hold-requires c κs = search needs
 
--- src/lib.rt:46:17
 returns : tie.Need-returns
-returns c = ?
+unfolding textRules
+returns c = and-same (sym (c .before .before .before .before .before .if1 .taken) ∙ c .before .before .before .before .before .before .stored-hold .ensures) (and-same (sym (c .before .before .before .if2 .taken) ∙ c .before .before .before .before .sizes-hold .ensures) (and-same (sym (c .before .if3 .taken) ∙ c .before .before .names-hold .ensures) (c .uniques-hold .ensures)))
 
--- src/lib.rt:39:1
 returns-2 : tie.Need-returns-2
-returns-2 c = ?
+unfolding textRules
+returns-2 c = let t = tableOf 16 (now (c .before .before .before .before .before .before .before .args .table)) in
+    and-same (sym (c .before .before .before .before .if1 .taken) ∙ c .before .before .before .before .before .stored-hold .ensures) (and-same (sym (c .before .before .if2 .taken) ∙ c .before .before .before .sizes-hold .ensures) (and-fails (uniquesDistinct t) (sym (c .if3 .left) ∙ c .before .names-hold .ensures)))
 
--- src/lib.rt:39:1
 returns-3 : tie.Need-returns-3
-returns-3 c = ?
+unfolding textRules
+returns-3 c = let t = tableOf 16 (now (c .before .before .before .before .before .args .table)) in
+    and-same (sym (c .before .before .if1 .taken) ∙ c .before .before .before .stored-hold .ensures) (and-fails (functionsDistinct t && uniquesDistinct t) (sym (c .if2 .left) ∙ c .before .sizes-hold .ensures))
 
--- src/lib.rt:39:1
 returns-4 : tie.Need-returns-4
-returns-4 c = ?
+unfolding textRules
+returns-4 c = let t = tableOf 16 (now (c .before .before .before .args .table)) in
+    and-fails (sizesWithin t && (functionsDistinct t && uniquesDistinct t)) (sym (c .if1 .left) ∙ c .before .stored-hold .ensures)
 
 pub texts-hold-spec : {M : Type 1} → statement M
 texts-hold-spec =
@@ -46,8 +47,8 @@ texts-hold-spec =
     (tie.spec
     stored-hold-requires
     sizes-hold-requires
-    functions-distinct-requires
-    uniques-distinct-requires
+    names-hold-requires
+    uniques-hold-requires
     returns
     returns-2
     returns-3
