@@ -21,7 +21,8 @@ use Rattle.passes.proofs.Rows.{functions-pairs, jobs-pairs}
 use Rattle.passes.proofs.Pairs.{pairs-by, apart-all}
 use Rattle.image_check.specs.Padded.{emptyAt}
 use Rattle.image_check.proofs.Places.{empty-text}
-use Rattle.key_check.specs.Keys.{Twice, differs, folded, foldedUnique, nameKey, uniqueKey, wordsAt}
+use Rattle.key_check.specs.Keys.{differs, folded, foldedUnique, nameKey, uniqueKey, wordsAt}
+use Rattle.passes.specs.Arrays.{Twice}
 use Rattle.key_check.proofs.Places.{words-same, texts-differ}
 
 module _ (b : Bytes) (long : 3796 ≤ length b) where

@@ -1,3 +1,2 @@
-pub mod Twice
 pub mod Places
 pub mod Distinct

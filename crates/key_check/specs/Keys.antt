@@ -1,6 +1,5 @@
 -- A key for each place of a text, so that equal texts have equal keys, and when keys that stand twice in a row differ. Assumes nothing.
-use Prim.Native.Nat.{ℕ, _+_, _*_, _/_, _%_, _<_}
-use mathlib.Core.Path.{_≡_}
+use Prim.Native.Nat.{ℕ, _+_, _*_, _/_, _%_}
 use mathlib.Core.Bool.{Bool, not, cond}
 use mathlib.Core.List.{List}
 use lib.ListN.{getD}
@@ -38,11 +37,7 @@ nameKey b = placeKey b 548 32 (λ k. folded (wordsAt b (548 + 32 * k)))
 unfoldable pub uniqueKey : Bytes → ℕ → ℕ
 uniqueKey b = placeKey b 1060 64 (foldedUnique b)
 
--- ---- keys that stand twice in a row
-
--- w has the first n values of f twice, one after the other
-abbrev pub Twice : ℕ → (ℕ → ℕ) → List ℕ → Type 0
-Twice n f w = ((k : ℕ) → k < n → getD w k 0 ≡ f k) × ((k : ℕ) → k < n → getD w (n + k) 0 ≡ f k)
+-- ---- keys at a distance
 
 -- what stands at place k does not stand d places further on
 abbrev pub differs : List ℕ → ℕ → ℕ → Bool

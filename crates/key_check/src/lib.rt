@@ -9,7 +9,8 @@ ghost use Rattle.server.specs.Lists.{all, numbers};
 ghost use Rattle.server.specs.Layout.{tableOf};
 ghost use Rattle.server.specs.Rules.{functionsDistinct, uniquesDistinct};
 ghost use Rattle.table_bytes.specs.Tests.{arePadded};
-ghost use Rattle.key_check.specs.Keys.{Twice, differs, folded, nameKey, uniqueKey, wordAt, wordsAt};
+ghost use Rattle.key_check.specs.Keys.{differs, folded, nameKey, uniqueKey, wordAt, wordsAt};
+ghost use Rattle.passes.specs.Arrays.{Twice};
 
 // ---- words
 

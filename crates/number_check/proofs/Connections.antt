@@ -194,7 +194,7 @@ module _ (b : Bytes) (long : 3796 ≤ length b) (small : (i : ℕ) → getD b i 
             let r : d ≡ c = omega arith in
             let g : c < 16 = omega arith in
             let o : holderOpen (tableOf 16 b) (rowIn b k .holder) ≡ true =
-                below-at (λ k. holderOpen (tableOf 16 b) (rowIn b k .holder)) 32 k (sym (jobs-all 16 b (λ j. holderOpen (tableOf 16 b) (j .row .holder))) ∙ hold) h in
+            below-at (λ k. holderOpen (tableOf 16 b) (rowIn b k .holder)) 32 k (sym (jobs-all 16 b (λ j. holderOpen (tableOf 16 b) (j .row .holder))) ∙ hold) h in
             (g, sym (ap (λ (y : Connection). y .opened) (connection-at 16 b c g)) ∙ ap (isOpen (tableOf 16 b)) (sym r) ∙ (rw f at o))
 
     low-used : used < 65536
@@ -208,8 +208,8 @@ module _ (b : Bytes) (long : 3796 ≤ length b) (small : (i : ℕ) → getD b i 
     each-by c h =
         holds-is c h
         ∙ holds-by (connectionIn 16 b c .opened) (connectionIn 16 b c .asleep) (connectionIn 16 b c .exceptions) (has used c) (has busy c) (λ e. used-open c e .1)
-          (below-at (λ c. implies (connectionIn 16 b c .asleep || connectionIn 16 b c .exceptions) (connectionIn 16 b c .opened)) 16 c (sym (connections-all 16 b (λ x. implies (x .asleep || x .exceptions) (x .opened))) ∙ clear) h)
-          (rw (busy-is b rows v s busy jb c) at (below-at (λ c. sleeperIdle (tableOf 16 b) c (connectionIn 16 b c)) 16 c (sym (sleepers-all 16 b) ∙ idle) h))
+        (below-at (λ c. implies (connectionIn 16 b c .asleep || connectionIn 16 b c .exceptions) (connectionIn 16 b c .opened)) 16 c (sym (connections-all 16 b (λ x. implies (x .asleep || x .exceptions) (x .opened))) ∙ clear) h)
+        (rw (busy-is b rows v s busy jb c) at (below-at (λ c. sleeperIdle (tableOf 16 b) c (connectionIn 16 b c)) 16 c (sym (sleepers-all 16 b) ∙ idle) h))
 
   pub connections-are : ltb used 65536 && all (connectionHolds b used busy) (numbers 0 16) ≡ connectionRules b
   unfolding connectionRules

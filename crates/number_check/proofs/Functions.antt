@@ -71,8 +71,8 @@ module _ (b : Bytes) (rows : rowsMean b ≡ true) where
     named-is q =
         has-union (v .queued) (v .grabbed) q ∙ ap₂ _||_ (s .queued q) (s .grabbed q) ∙ any-or (queuedFor b q) (grabbedFor b q) (numbers 0 32)
         ∙ any-below (λ k. queuedFor b q k || grabbedFor b q k) (λ k. names q (rowIn b k)) 32
-          (λ k h. names-one (live (rowIn b k)) (eqb (rowIn b k .holder) 0) (eqb (rowIn b k .function) q) (eqb (rowIn b k .function % 32) q)
-          (λ l. let f = function-small k h l in let m : rowIn b k .function % 32 ≡ rowIn b k .function = omega arith in ap (λ (x : ℕ). eqb x q) m))
+        (λ k h. names-one (live (rowIn b k)) (eqb (rowIn b k .holder) 0) (eqb (rowIn b k .function) q) (eqb (rowIn b k .function % 32) q)
+        (λ l. let f = function-small k h l in let m : rowIn b k .function % 32 ≡ rowIn b k .function = omega arith in ap (λ (x : ℕ). eqb x q) m))
         ∙ sym (jobs-any 16 b (λ j. names q (j .row)))
 
     -- ---- connections able to do what is queued
@@ -92,7 +92,7 @@ module _ (b : Bytes) (rows : rowsMean b ≡ true) where
               let m : rowIn b k .function % 32 ≡ rowIn b k .function = omega arith in
               let can : has (functionIn b (rowIn b k .function) .able) c ≡ true = and-right (queued (rowIn b k)) _ (sym (able-at k h l) ∙ q) in
               let there : has (v .queued) (rowIn b k .function) ≡ true =
-                  s .queued (rowIn b k .function) ∙ some-by (queuedFor b (rowIn b k .function)) 32 k h (and-both _ _ wait (eq-eqb (rowIn b k .function % 32) (rowIn b k .function) m)) in
+              s .queued (rowIn b k .function) ∙ some-by (queuedFor b (rowIn b k .function)) 32 k h (and-both _ _ wait (eq-eqb (rowIn b k .function % 32) (rowIn b k .function) m)) in
               jb c ∙ some-by (λ q. has (ableIf b (v .queued) q) c) 16 (rowIn b k .function) f
               (has-if (has (v .queued) (rowIn b k .function)) (functionIn b (rowIn b k .function) .able) c ∙ and-both _ _ there can)
 

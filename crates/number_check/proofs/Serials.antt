@@ -15,9 +15,10 @@ use Rattle.server.specs.Rules.{serialsBelow, serialsApart, serialsDistinct}
 use Rattle.passes.proofs.Tests.{iff}
 use Rattle.passes.proofs.Rows.{jobs-all, jobs-pairs}
 use Rattle.passes.proofs.Pairs.{pairs-at, pairs-by, apart-all, apart-by}
+use Rattle.passes.specs.Arrays.{Twice}
 use Rattle.number_check.specs.declared.Survey as S
 use Rattle.number_check.specs.Surveyed.{Surveyed}
-use Rattle.number_check.specs.Numbers.{serialBelow, Twice, apartAt}
+use Rattle.number_check.specs.Numbers.{serialIn, serialBelow, apartAt}
 
 module _ (b : Bytes) where
   last-is : tableOf 16 b .last ≡ littleAt 4 b 0
@@ -41,7 +42,7 @@ module _ (b : Bytes) where
   residues-distinct v s e =
       sym (jobs-pairs 16 b serialsApart ∙ pairs-by (λ i k. serialsApart (jobIn b i) (jobIn b k)) 32 (λ x y h g. two-apart x y (λ l q. s .distinct e x y h g l q)))
 
-  pub apart-is : (w : List ℕ) → Twice b w → all (λ d. all (apartAt w (d + 1)) (numbers 0 32)) (numbers 0 16) ≡ serialsDistinct (tableOf 16 b)
+  pub apart-is : (w : List ℕ) → Twice 32 (serialIn b) w → all (λ d. all (apartAt w (d + 1)) (numbers 0 32)) (numbers 0 16) ≡ serialsDistinct (tableOf 16 b)
   apart-is w t =
       iff (all (λ d. all (apartAt w (d + 1)) (numbers 0 32)) (numbers 0 16)) (pairwise (λ i k. serialsApart (jobIn b i) (jobIn b k)) (numbers 0 32)) to from
       ∙ sym (jobs-pairs 16 b serialsApart)

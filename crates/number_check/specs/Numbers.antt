@@ -27,12 +27,11 @@ numberRules b =
 
 -- ---- serials
 
-abbrev pub serialBelow : Bytes → ℕ → ℕ → Bool
-serialBelow b last k = leb (rowIn b k .serial) last
+abbrev pub serialIn : Bytes → ℕ → ℕ
+serialIn b k = rowIn b k .serial
 
--- w has the serials twice, one after the other
-abbrev pub Twice : Bytes → List ℕ → Type 0
-Twice b w = ((k : ℕ) → k < 32 → getD w k 0 ≡ rowIn b k .serial) × ((k : ℕ) → k < 32 → getD w (32 + k) 0 ≡ rowIn b k .serial)
+abbrev pub serialBelow : Bytes → ℕ → ℕ → Bool
+serialBelow b last k = leb (serialIn b k) last
 
 -- entry k is no serial, or not the one d places further on
 abbrev pub apartAt : List ℕ → ℕ → ℕ → Bool

@@ -11,9 +11,10 @@ ghost use Rattle.server.specs.Lists.{all, numbers};
 ghost use Rattle.server.specs.Layout.{functionIn, littleAt, rowIn, tableOf};
 ghost use Rattle.server.specs.Rules.{functionsAsDefined, serialsBelow, serialsDistinct};
 ghost use Rattle.table_bytes.specs.Tests.{areFlags};
+ghost use Rattle.passes.specs.Arrays.{Twice};
 ghost use Rattle.row_check.specs.Rows.{rowsMean};
 ghost use Rattle.number_check.specs.Surveyed.{Surveyed, withFree, withJob};
-ghost use Rattle.number_check.specs.Numbers.{Joined, Twice, ableIf, agrees, apartAt, connectionHolds, connectionRules, isDefined, numberRules, serialBelow};
+ghost use Rattle.number_check.specs.Numbers.{Joined, ableIf, agrees, apartAt, connectionHolds, connectionRules, isDefined, numberRules, serialBelow, serialIn};
 
 // ---- one walk over the rows
 
@@ -39,18 +40,39 @@ fn with_job(v: Survey, serial: u32, function: u8, holder: u16) -> Survey
     let sum = v.sum + residue as u64;
     if holder == 0 {
         let queued = sets::union(v.queued, named);
-        return Survey { residues: residues, sum: sum, queued: queued, grabbed: v.grabbed, holding: v.holding, clear: v.clear };
+        return Survey {
+            residues: residues,
+            sum: sum,
+            queued: queued,
+            grabbed: v.grabbed,
+            holding: v.holding,
+            clear: v.clear,
+        };
     }
     let grabbed = sets::union(v.grabbed, named);
     let holding = sets::union(v.holding, sets::insert(0, ((holder - 1) % 32) as usize));
-    Survey { residues: residues, sum: sum, queued: v.queued, grabbed: grabbed, holding: holding, clear: v.clear }
+    Survey {
+        residues: residues,
+        sum: sum,
+        queued: v.queued,
+        grabbed: grabbed,
+        holding: holding,
+        clear: v.clear,
+    }
 }
 
 // The survey with free rows, which have no unique or have one.
 fn with_free(v: Survey, clear: bool) -> Survey
     ensures { λ r. ⌜ r ≡ withFree v clear ⌝ }
 {
-    Survey { residues: v.residues, sum: v.sum, queued: v.queued, grabbed: v.grabbed, holding: v.holding, clear: v.clear & clear }
+    Survey {
+        residues: v.residues,
+        sum: v.sum,
+        queued: v.queued,
+        grabbed: v.grabbed,
+        holding: v.holding,
+        clear: v.clear & clear,
+    }
 }
 
 // The survey with the row at place `i`.
@@ -95,7 +117,14 @@ fn all_surveyed(table: &[u8]) -> Survey
     requires { ⌜ 3796 ≤ length (now table) ⌝ }
     ensures { λ r. ⌜ Surveyed (now (table .entry)) 32 r ⌝ }
 {
-    let mut v = Survey { residues: 0, sum: 0, queued: 0, grabbed: 0, holding: 0, clear: true };
+    let mut v = Survey {
+        residues: 0,
+        sum: 0,
+        queued: 0,
+        grabbed: 0,
+        holding: 0,
+        clear: true,
+    };
     let mut p = 0;
     while p < 32 {
         v = next_group(v, table, p);
@@ -123,7 +152,7 @@ fn serials_below(table: &[u8], last: u32) -> bool
 // The serials twice, one after the other.
 fn serials_twice(table: &[u8]) -> [u32; 64]
     requires { ⌜ 3796 ≤ length (now table) ⌝ }
-    ensures { λ r. ⌜ Twice (now (table .entry)) r ⌝ }
+    ensures { λ r. ⌜ Twice 32 (serialIn (now (table .entry))) r ⌝ }
 {
     let mut w = [0u32; 64];
     let mut i = 0;

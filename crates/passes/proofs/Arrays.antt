@@ -9,6 +9,7 @@ use borrow.Author.Tests.{eqb-true, eqb-false}
 use lib.ListN.{length, getD, set, length-set}
 use lib.Seq.{getD-set-same, getD-set-other}
 use lib.Dec.{eqb}
+use Rattle.passes.specs.Arrays.{Twice}
 
 module _ (f : ℕ → ℕ) (l : List ℕ) (i x : ℕ) where
   -- the entries from a on: one more is written
@@ -28,13 +29,19 @@ module _ (f : ℕ → ℕ) (l : List ℕ) (i x : ℕ) where
   pub put-apart : (a j n : ℕ) → ((k : ℕ) → k < n → a + k ≡ j → ⊥) → ((k : ℕ) → k < n → getD l (a + k) 0 ≡ f k) → (k : ℕ) → k < n → getD (set l j x) (a + k) 0 ≡ f k
   put-apart a j n h g k m = getD-set-other l j (a + k) x 0 (h k m) ∙ g k m
 
--- the first i of n entries, twice: one run after the other
-abbrev pub Twice : (ℕ → ℕ) → ℕ → ℕ → List ℕ → Type 0
-Twice f n i l = ((k : ℕ) → k < i → getD l k 0 ≡ f k) × ((k : ℕ) → k < i → getD l (n + k) 0 ≡ f k)
+-- ---- values written twice in a row
 
--- one more is written, in both runs
-pub put-twice : (f : ℕ → ℕ) (l : List ℕ) (n i x : ℕ) → i < n → length l ≡ n + n → x ≡ f i → Twice f n i l → Twice f n (i + 1) (set (set l i x) (n + i) x)
-put-twice f l n i x h m e (first, second) = (
-  λ k g. getD-set-other (set l i x) (n + i) k x 0 (λ r. omega arith) ∙ put-next f l i x (omega arith) e first k g,
-  put-after f (set l i x) i x n (omega (arith, length-set l i x)) e (λ k g. getD-set-other l i (n + k) x 0 (λ r. omega arith) ∙ second k g),
-)
+module _ (n : ℕ) (f : ℕ → ℕ) where
+  -- the first i of each run are there
+  abbrev pub Written : ℕ → List ℕ → Type 0
+  Written i w = (length w ≡ n + n) × ((k : ℕ) → k < i → getD w k 0 ≡ f k) × ((k : ℕ) → k < i → getD w (n + k) 0 ≡ f k)
+
+  pub written-more : (i : ℕ) (w : List ℕ) (x : ℕ) → i < n → x ≡ f i → Written i w → Written (i + 1) (set (set w i x) (n + i) x)
+  written-more i w x h e (l, t, u) = (
+    length-set (set w i x) (n + i) x ∙ length-set w i x ∙ l,
+    λ k m. getD-set-other (set w i x) (n + i) k x 0 (λ r. omega arith) ∙ put-next f w i x (omega arith) e t k m,
+    put-after f (set w i x) i x n (omega (arith, length-set w i x)) e (put-apart f w i x n i i (λ k m r. omega arith) u),
+  )
+
+  pub written : (i : ℕ) (w : List ℕ) → i ≤ n → n ≤ i → Written i w → Twice n f w
+  written i w h g (l, t, u) = (λ k m. t k (omega arith), λ k m. u k (omega arith))

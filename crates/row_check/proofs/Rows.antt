@@ -20,7 +20,8 @@ use Rattle.passes.proofs.Tests.{iff, split, and-true, and-same, below-at, same-
 use Rattle.image_check.proofs.Places.{flag-at}
 use Rattle.row_check.specs.Rows.{numbersMean, isAwaited, rowsMean, markOf, Marked, bytesInRange, holderInRange, freeOrAwaited}
 
-mark-none : (x : ℕ) → eqb (markOf x) 0 ≡ eqb x 0
+-- a mark is zero exactly if its number is
+pub mark-none : (x : ℕ) → eqb (markOf x) 0 ≡ eqb x 0
 mark-none x = go (eqb x 0)
   where
     go : (t : Bool) → eqb (cond t 0 1) 0 ≡ t
@@ -87,8 +88,18 @@ module _ (b : Bytes) (live heard held sized : List ℕ) (el : Marked 4 b 68 live
   row-means : (k : ℕ) → k < 32 → bytesInRange b k && (holderInRange b k && freeOrAwaited live heard held sized b k) ≡ numbersMean (rowIn b k) && isAwaited (rowIn b k)
   row-means k g =
       let flag : eqb (getD b (484 + k) 0) 0 ≡ not (eqb (getD b (484 + k) 0) 1) = flag-at 32 b 484 (omega arith) flags k g in
-      rw (el k g, eh k g, ed k g, ez k g, mark-none (littleAt 4 b (68 + 4 * k)), mark-none (littleAt 4 b (196 + 4 * k)), mark-none (littleAt 2 b (388 + 2 * k)),
-      mark-none (littleAt 2 b (324 + 2 * k)), flag, below-16 (getD b (516 + k) 0))
+      rw (
+        el k g,
+        eh k g,
+        ed k g,
+        ez k g,
+        mark-none (littleAt 4 b (68 + 4 * k)),
+        mark-none (littleAt 4 b (196 + 4 * k)),
+        mark-none (littleAt 2 b (388 + 2 * k)),
+        mark-none (littleAt 2 b (324 + 2 * k)),
+        flag,
+        below-16 (getD b (516 + k) 0),
+      )
       (means (eqb (rowIn b k .holder) 0) (eqb (rowIn b k .listeners) 0) (eqb (rowIn b k .size) 0) (eqb (rowIn b k .priority) 0) (eqb (rowIn b k .function) 0)
       (eqb (getD b (484 + k) 0) 1) (leb (rowIn b k .priority) 2) (ltb (rowIn b k .function) 16) (leb (rowIn b k .holder) 16)
       (λ e. let r = eqb-true (rowIn b k .priority) 0 e in le-leb (rowIn b k .priority) 2 (omega arith))

@@ -82,7 +82,13 @@ fn holders_in_range(table: &[u8]) -> bool
 }
 
 // Whether each live row is held, listened to or background, and each free row is zero, by the marks of serials, listeners, holders and sizes.
-fn free_or_awaited(live: &[u8; 32], heard: &[u8; 32], held: &[u8; 32], sized: &[u8; 32], table: &[u8]) -> bool
+fn free_or_awaited(
+    live: &[u8; 32],
+    heard: &[u8; 32],
+    held: &[u8; 32],
+    sized: &[u8; 32],
+    table: &[u8],
+) -> bool
     requires { ⌜ 3796 ≤ length (now table) ⌝ }
     ensures { λ r. ⌜ r ≡ all (freeOrAwaited (now (live .entry)) (now (heard .entry)) (now (held .entry)) (now (sized .entry)) (now (table .entry))) (numbers 0 32) ⌝ }
 {

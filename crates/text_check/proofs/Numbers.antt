@@ -19,6 +19,7 @@ use Rattle.table_bytes.specs.Tests.{part, isPadded, arePadded}
 use Rattle.passes.proofs.Tests.{or-left, or-right, or-not, and-same, below-at, below-by, same-below, all-and, runs}
 use Rattle.image_check.specs.Padded.{lastOrFollowed}
 use Rattle.image_check.proofs.Places.{every-each, insides-padded}
+use Rattle.row_check.proofs.Rows.{mark-none}
 use Rattle.row_check.specs.Rows.{Marked, markOf}
 use Rattle.text_check.specs.Stored.{storedAt, storedRules, isDigit, digitOrZero, beginsWith, beginsAt, Begun, firstAlone, digitPadded, firstsOf10, lastsOf10}
 use Rattle.text_check.proofs.Digits.{stored-place}
@@ -30,14 +31,6 @@ and-swap true true = refl
 and-swap true false = refl
 and-swap false true = refl
 and-swap false false = refl
-
--- a mark is zero exactly if its number is
-mark-none : (x : ℕ) → eqb (markOf x) 0 ≡ eqb x 0
-mark-none x = go (eqb x 0)
-  where
-    go : (t : Bool) → eqb (cond t 0 1) 0 ≡ t
-    go true = refl
-    go false = refl
 
 -- what the bytes of place k say, whatever its row is
 abbrev cleanAt : Bytes → ℕ → ℕ → Bool

@@ -11,7 +11,7 @@ rows-mean-requires : tie.Need-rows-mean-requires
 rows-mean-requires c κs = search needs
 
 numbers-hold-requires : tie.Need-numbers-hold-requires
-numbers-hold-requires c κs = let s = c .before .before .before  in
+numbers-hold-requires c κs = let s = c .before .before .before in
     (s .pre .0, s .pre .2, sym (c .before .rows-mean .ensures) ∙ c .if1 .taken)
 
 returns : tie.Need-returns

@@ -1,23 +1,19 @@
 -- `number_check::serials_twice` meets its contract. The invariant: the serials passed stand in both runs. Assumes nothing.
-use Prim.Native.Nat.{_≤_, _-_, _+_}
-use mathlib.Core.Path.{_≡_, refl, _∙_}
-use native.Mathlib.Omega.{arith}
-use denote.Ref.{now}
-use lib.ListN.{length, length-set, set}
-use Rattle.server.specs.Layout.{rowIn}
-use Rattle.passes.proofs.Arrays.{Twice, put-twice}
+use Prim.Native.Nat.{_≤_, _-_}
 use borrow.Author.Needs.{needs}
+use Rattle.passes.proofs.Arrays.{Written, written-more, written}
+use Rattle.number_check.specs.Numbers.{serialIn}
 use Rattle.number_check.proofs.serials_twice.Statement.{statement}
 use Rattle.number_check.proofs.serials_twice.Tie as tie
 
 abbrev Inv-loop : tie.InvT-loop
-Inv-loop table w₀ i₀ w i = (i ≤ 32) × (length w ≡ 64) × Twice (λ k. rowIn table k .serial) 32 i w
+Inv-loop table w₀ i₀ w i = (i ≤ 32) × Written 32 (serialIn table) i w
 
 abbrev μ-loop : tie.MeasureT-loop
 μ-loop table w₀ i₀ w i = 32 - i
 
 loop-holds : tie.Need-loop-holds Inv-loop μ-loop
-loop-holds c = (omega arith, refl, ((λ k h. absurd (omega arith)), (λ k h. absurd (omega arith))))
+loop-holds c = search needs
 
 serial-requires : tie.Need-serial-requires Inv-loop μ-loop
 serial-requires c κs = search needs
@@ -44,14 +40,10 @@ loop-less : tie.Need-loop-less Inv-loop μ-loop
 loop-less c = search needs
 
 loop-again : tie.Need-loop-again Inv-loop μ-loop
-loop-again c = let l = c .before .before .loop in
-    let a = c .before .before .before .before .args in
-    let s = c .serial .result in
-    (omega arith, length-set (set (l .w) (l .i) s) (32 + l .i) s ∙ length-set (l .w) (l .i) s ∙ l .inv .1, put-twice (λ k. rowIn (now (a .table)) k .serial) (l .w) 32 (l .i) s (omega arith) (l .inv .1) (c .serial .ensures) (l .inv .2))
+loop-again c = search (needs, written-more)
 
 returns : tie.Need-returns Inv-loop μ-loop
-returns c = let l = c .before .loop in
-    ((λ k h. l .inv .2 .0 k (omega arith)), (λ k h. l .inv .2 .1 k (omega arith)))
+returns c = search (needs, written)
 
 pub serials-twice-spec : {M : Type 1} → statement M
 serials-twice-spec =

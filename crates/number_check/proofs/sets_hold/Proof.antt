@@ -45,9 +45,9 @@ returns c = let s = c .before .before .before .before .before .before .before .b
     and-same
     (sym (c .before .before .if1 .taken) ∙ c .before .before .before .connections-hold .ensures
     ∙ connections-are b (s .pre .0) (λ k. omega (arith, known k)) (s .pre .1) (s .pre .2) (s .args .v) (s .pre .3) _ _ _ _
-      (c .before .before .before .before .before .before .before .before .joined .ensures) (c .before .before .before .before .before .before .before .joined2 .ensures)
-      (c .before .before .before .before .before .union2 .ensures ∙ ap (λ (x : ℕ). union x (s .args .v .holding)) (c .before .before .before .before .before .before .union .ensures))
-      (c .before .before .before .before .busy .ensures) fits)
+    (c .before .before .before .before .before .before .before .before .joined .ensures) (c .before .before .before .before .before .before .before .joined2 .ensures)
+    (c .before .before .before .before .before .union2 .ensures ∙ ap (λ (x : ℕ). union x (s .args .v .holding)) (c .before .before .before .before .before .before .union .ensures))
+    (c .before .before .before .before .busy .ensures) fits)
     (c .functions-defined .ensures ∙ defined-is b (s .pre .2) (s .args .v) (s .pre .3) (s .pre .0) _ (c .before .union3 .ensures))
 
 returns-2 : tie.Need-returns-2
@@ -58,9 +58,9 @@ returns-2 c = let s = c .before .before .before .before .before .before .before 
     and-fails (functionsAsDefined (tableOf 16 b))
     (sym (c .if1 .left) ∙ c .before .connections-hold .ensures
     ∙ connections-are b (s .pre .0) (λ k. omega (arith, known k)) (s .pre .1) (s .pre .2) (s .args .v) (s .pre .3) _ _ _ _
-      (c .before .before .before .before .before .before .joined .ensures) (c .before .before .before .before .before .joined2 .ensures)
-      (c .before .before .before .union2 .ensures ∙ ap (λ (x : ℕ). union x (s .args .v .holding)) (c .before .before .before .before .union .ensures))
-      (c .before .before .busy .ensures) fits)
+    (c .before .before .before .before .before .before .joined .ensures) (c .before .before .before .before .before .joined2 .ensures)
+    (c .before .before .before .union2 .ensures ∙ ap (λ (x : ℕ). union x (s .args .v .holding)) (c .before .before .before .before .union .ensures))
+    (c .before .before .busy .ensures) fits)
 
 pub sets-hold-spec : {M : Type 1} → statement M
 sets-hold-spec =
