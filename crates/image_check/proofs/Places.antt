@@ -16,21 +16,10 @@ use Rattle.server.specs.Lists.{all, numbers}
 use Rattle.server.specs.Layout.{textAt}
 use Rattle.table_bytes.specs.Tests.{part, isZero, isFlag, isPadded, areFlags, arePadded}
 use Rattle.table_bytes.proofs.Same.{field-inside}
-use Rattle.passes.proofs.Tests.{and-same, same-below, below-at, all-append, all-shift, runs}
+use Rattle.passes.proofs.Tests.{or-none, and-same, same-below, below-at, all-append, all-shift, runs}
 use Rattle.image_check.specs.Padded.{zeroAt, emptyAt, afterEnd, isFollowed, lastOrFollowed, lastOf64, lastOf32}
 
 -- ---- single bytes
-
--- two bytes are zero together
-pub or-none : (x y : ℕ) → eqb (bitOr x y) 0 ≡ eqb x 0 && eqb y 0
-or-none x y = go (eqb x 0) (eqb y 0) refl refl
-  where
-    go : (s t : Bool) → eqb x 0 ≡ s → eqb y 0 ≡ t → eqb (bitOr x y) 0 ≡ s && t
-    go true true p q = let e : x ≡ 0 = eqb-true x 0 p in let f : y ≡ 0 = eqb-true y 0 q in rw (e, f)
-    go true false p q = let e : x ≡ 0 = eqb-true x 0 p in rw (e, or-zero-l y) q
-    go false t p q =
-        let n : x ≡ 0 → ⊥ = eqb-false x 0 p in
-        ne-eqb (bitOr x y) 0 (λ z. n (omega (arith, or-add-and x y, and-le-r x y)))
 
 -- no slack after a byte x, where l marks the last byte of a place and y is the next one
 pub no-slack : (l x y s : ℕ) → s ≡ afterEnd (bitOr x l) y → eqb s 0 ≡ not (eqb l 0) || (not (eqb x 0) || eqb y 0)

@@ -22,13 +22,13 @@ pub fn zeros(table: &[u8], at: usize, n: usize) -> bool
     requires { ⌜ at + n ≤ length (now table) ⌝ }
     ensures { λ r. ⌜ r ≡ all (zeroAt (now (table .entry)) at) (numbers 0 n) ⌝ }
 {
-    let mut ok = true;
+    let mut found = 0;
     let mut k = 0;
     while k < n {
-        ok = ok & (table[at + k] == 0);
+        found = found | table[at + k];
         k += 1;
     }
-    ok
+    found == 0
 }
 
 // Whether each of the `n` bytes from `at` on is 0 or 1.
@@ -50,19 +50,19 @@ pub fn all_empty(table: &[u8], at: usize, w: usize, m: usize) -> bool
     requires { ⌜ (at + w * m ≤ length (now table)) × (0 < w) ⌝ }
     ensures { λ r. ⌜ r ≡ all (emptyAt (now (table .entry)) at w) (numbers 0 m) ⌝ }
 {
-    let mut ok = true;
+    let mut found = 0;
     let mut k = 0;
     while k < m {
-        ok = ok & (table[at + w * k] == 0);
+        found = found | table[at + w * k];
         k += 1;
     }
-    ok
+    found == 0
 }
 
 // ---- padded texts
 
 // The byte `y`, where the one before it is zero.
-fn after_end(x: u8, y: u8) -> u8
+pub fn after_end(x: u8, y: u8) -> u8
     ensures { λ r. ⌜ r ≡ afterEnd x y ⌝ }
 {
     if x == 0 {

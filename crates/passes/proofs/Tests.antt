@@ -6,8 +6,9 @@ use mathlib.Core.List.{List, [], _∷_, _++_}
 use native.Mathlib.Nat.{add-zero, add-suc, suc-add, zero-add, mul-zero, mul-suc}
 use native.Mathlib.Numerals.{add-one}
 use native.Mathlib.Omega.{arith}
-use borrow.Author.Tests.{ltb-true, ltb-false}
-use lib.Dec.{ltb}
+use borrow.Author.Tests.{ltb-true, ltb-false, eqb-true, eqb-false, ne-eqb}
+use lib.Bits.{bitOr, or-add-and, and-le-r, or-zero-l}
+use lib.Dec.{eqb, ltb}
 use Rattle.octets.proofs.Strings.{and-left, and-right}
 use Rattle.server.specs.Lists.{any, all, numbers}
 use Rattle.table_bytes.proofs.Same.{and-assoc, all-true, all-same}
@@ -88,6 +89,23 @@ module _ (p : ℕ → Bool) (n i : ℕ) (ok : Bool) where
 
   pub each-end : ok ≡ all p (numbers 0 i) → i ≤ n → n ≤ i → ok ≡ all p (numbers 0 n)
   each-end e h g = let k : i ≡ n = omega arith in rw k at e
+
+-- ---- bytes gathered
+
+-- two bytes are zero together
+pub or-none : (x y : ℕ) → eqb (bitOr x y) 0 ≡ eqb x 0 && eqb y 0
+or-none x y = go (eqb x 0) (eqb y 0) refl refl
+  where
+    go : (s t : Bool) → eqb x 0 ≡ s → eqb y 0 ≡ t → eqb (bitOr x y) 0 ≡ s && t
+    go true true p q = let e : x ≡ 0 = eqb-true x 0 p in let f : y ≡ 0 = eqb-true y 0 q in rw (e, f)
+    go true false p q = let e : x ≡ 0 = eqb-true x 0 p in rw (e, or-zero-l y) q
+    go false t p q =
+        let n : x ≡ 0 → ⊥ = eqb-false x 0 p in
+        ne-eqb (bitOr x y) 0 (λ z. n (omega (arith, or-add-and x y, and-le-r x y)))
+
+-- a loop that gathers bytes: what it found is zero exactly if all bytes passed are
+pub none-on : (p : ℕ → Bool) (i found x : ℕ) → eqb found 0 ≡ all p (numbers 0 i) → eqb x 0 ≡ p i → eqb (bitOr found x) 0 ≡ all p (numbers 0 (i + 1))
+none-on p i found x e f = or-none found x ∙ and-same e f ∙ sym (all-next p i)
 
 -- ---- one number of them
 

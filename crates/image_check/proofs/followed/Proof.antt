@@ -7,9 +7,9 @@ use borrow.Author.Needs.{needs}
 use lib.ListN.{getD}
 use lib.Dec.{eqb}
 use Rattle.server.specs.Lists.{all, numbers}
-use Rattle.passes.proofs.Tests.{each-on, each-end}
+use Rattle.passes.proofs.Tests.{none-on, each-end}
 use Rattle.image_check.specs.Padded.{lastOrFollowed}
-use Rattle.image_check.proofs.Places.{or-none, no-slack}
+use Rattle.image_check.proofs.Places.{no-slack}
 use Rattle.image_check.proofs.followed.Statement.{statement}
 use Rattle.image_check.proofs.followed.Tie as tie
 
@@ -54,7 +54,7 @@ loop-again c = let l = c .before .before .before .before .before .loop in
     let a = c .before .before .before .before .before .before .before .args in
     let s = c .after-end .result in (
       omega arith,
-      or-none (l .slack) s ∙ each-on (lastOrFollowed (now (a .last)) (now (a .table)) (a .at)) 64 (l .k) (eqb (l .slack) 0) (eqb s 0) (l .inv .1)
+      none-on (lastOrFollowed (now (a .last)) (now (a .table)) (a .at)) (l .k) (l .slack) s (l .inv .1)
           (no-slack (getD (now (a .last)) (l .k) 0) (getD (now (a .table)) (a .at + l .k) 0) (getD (now (a .table)) (a .at + l .k + 1) 0) s (c .after-end .ensures)),
     )
 

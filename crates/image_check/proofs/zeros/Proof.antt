@@ -1,28 +1,29 @@
--- `image_check::zeros` meets its contract. The invariant: the flag says what the bytes passed say. Assumes nothing.
+-- `image_check::zeros` meets its contract. The invariant: what was found is zero exactly if the bytes passed are. Assumes nothing.
 use Prim.Native.Nat.{_≤_, _-_}
 use mathlib.Core.Path.{_≡_, refl}
 use native.Mathlib.Omega.{arith}
-use borrow.Author.Needs.{needs}
+use lib.Dec.{eqb}
 use Rattle.server.specs.Lists.{all, numbers}
-use Rattle.passes.proofs.Tests.{each-on, each-end}
+use Rattle.passes.proofs.Tests.{none-on, each-end}
 use Rattle.image_check.specs.Padded.{zeroAt}
+use borrow.Author.Needs.{needs}
 use Rattle.image_check.proofs.zeros.Statement.{statement}
 use Rattle.image_check.proofs.zeros.Tie as tie
 
 abbrev Inv-loop : tie.InvT-loop
-Inv-loop table at n ok₀ k₀ ok k = (k ≤ n) × (ok ≡ all (zeroAt table at) (numbers 0 k))
+Inv-loop table at n found₀ k₀ found k = (k ≤ n) × (eqb found 0 ≡ all (zeroAt table at) (numbers 0 k))
 
 abbrev μ-loop : tie.MeasureT-loop
-μ-loop table at n ok₀ k₀ ok k = n - k
+μ-loop table at n found₀ k₀ found k = n - k
 
 loop-holds : tie.Need-loop-holds Inv-loop μ-loop
 loop-holds c = (omega arith, refl)
 
-add-ok : tie.Need-add-ok Inv-loop μ-loop
-add-ok c = search needs
+add-found : tie.Need-add-found Inv-loop μ-loop
+add-found c = search needs
 
-shared-slice-read-ok : tie.Need-shared-slice-read-ok Inv-loop μ-loop
-shared-slice-read-ok c = search needs
+shared-slice-read-found : tie.Need-shared-slice-read-found Inv-loop μ-loop
+shared-slice-read-found c = search needs
 
 add-k : tie.Need-add-k Inv-loop μ-loop
 add-k c = search needs
@@ -31,7 +32,7 @@ loop-less : tie.Need-loop-less Inv-loop μ-loop
 loop-less c = search needs
 
 loop-again : tie.Need-loop-again Inv-loop μ-loop
-loop-again c = search (needs, each-on)
+loop-again c = search (needs, none-on)
 
 returns : tie.Need-returns Inv-loop μ-loop
 returns c = search (needs, each-end)
@@ -43,8 +44,8 @@ zeros-spec =
     Inv-loop
     μ-loop
     loop-holds
-    add-ok
-    shared-slice-read-ok
+    add-found
+    shared-slice-read-found
     add-k
     loop-less
     loop-again
