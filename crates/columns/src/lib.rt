@@ -34,17 +34,3 @@ pub fn twos(table: &[u8], at: usize) -> [u16; 32]
     }
     s
 }
-
-// The sets of connections able to do each of the 16 functions.
-pub fn ables(table: &[u8]) -> [u32; 16]
-    requires { ⌜ 68 ≤ length (now table) ⌝ }
-    ensures { λ r. ⌜ r ≡ map (λ k. littleAt 4 (now (table .entry)) (4 + 4 * k)) (numbers 0 16) ⌝ }
-{
-    let mut s = [0u32; 16];
-    let mut i = 0;
-    while i < 16 {
-        s[i] = little::number4(table, 4 + 4 * i);
-        i += 1;
-    }
-    s
-}

@@ -13,14 +13,6 @@ pub fn serial(table: &[u8], p: usize) -> u32
     little::number4(table, 68 + 4 * p)
 }
 
-// The listeners of the job at place `p`.
-pub fn listeners(table: &[u8], p: usize) -> u32
-    requires { ⌜ (3796 ≤ length (now table)) × (p < 32) ⌝ }
-    ensures { λ r. ⌜ r ≡ rowIn (now (table .entry)) p .listeners ⌝ }
-{
-    little::number4(table, 196 + 4 * p)
-}
-
 // How long the workload of the job at place `p` is.
 pub fn size(table: &[u8], p: usize) -> u16
     requires { ⌜ (3796 ≤ length (now table)) × (p < 32) ⌝ }
