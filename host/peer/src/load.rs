@@ -35,9 +35,9 @@ impl Case {
     }
 }
 
-/// The five cases, each with so many timed events.
+/// The five cases, and the first once more while others sleep; each with so many timed events.
 pub fn cases(events: usize) -> Vec<Case> {
-    vec![one_job(events), waiting(events), listeners(events), few_jobs(events), uniques(events)]
+    vec![one_job(events), waiting(events), listeners(events), few_jobs(events), uniques(events), asleep(events)]
 }
 
 /// Packets and steps of a case while it is made.
@@ -71,6 +71,11 @@ impl Load {
     /// It leads to the state, so no kind is counted for it.
     fn can_do(&mut self, connection: usize, function: &[u8]) {
         self.step(SUBMIT, connection, 1, &[function]);
+    }
+
+    /// The same.
+    fn pre_sleep(&mut self, connection: usize) {
+        self.step(SUBMIT, connection, 4, &[]);
     }
 
     fn submit(&mut self, connection: usize, function: &[u8], unique: &[u8], workload: usize) {
@@ -170,6 +175,18 @@ fn uniques(events: usize) -> Case {
     })
 }
 
+/// One job in flight, while 14 other connections sleep, which it does not wake. To be compared with the first case.
+fn asleep(events: usize) -> Case {
+    let mut load = Load::default();
+    load.can_do(1, b"reverse");
+    (2..16).for_each(|connection| load.pre_sleep(connection));
+    load.case("one job in flight, 14 asleep", events, |load, cycle| {
+        load.submit(0, b"reverse", b"", 32);
+        load.grab(1);
+        load.complete(1, cycle + 1);
+    })
+}
+
 #[cfg(test)]
 mod tests {
     use super::*;
@@ -179,7 +196,7 @@ mod tests {
     /// No event is refused, the timed ones are of the kind that is counted, and jobs stay as many as the case says.
     #[test]
     fn the_cases_do_what_they_are_named_for() {
-        let most = [1, 32, 1, 3, 32];
+        let most = [1, 32, 1, 3, 32, 1];
         for (case, most) in cases(1_002).iter().zip(most) {
             let mut server = Server::new();
             (0..CONNECTIONS as u32).for_each(|connection| assert_eq!(server.open(connection), 0));
