@@ -18,6 +18,7 @@ use Rattle.server.specs.Lists.{any, all, numbers}
 use Rattle.server.specs.Table.{live, queued}
 use Rattle.server.specs.Layout.{littleAt, rowIn}
 use Rattle.passes.proofs.Tests.{and-true, and-same, any-next, all-next, some-by, below-at, same-below, all-later, none-later}
+use Rattle.passes.proofs.Rows.{no-number}
 use Rattle.passes.proofs.Unions.{has-more, sum-fresh, union-least}
 use Rattle.image_check.specs.Padded.{zeroAt, emptyAt}
 use Rattle.number_check.specs.declared.Survey as S
@@ -134,22 +135,10 @@ module _ (b : Bytes) (v w : S.Survey) where
   row-job i s f h before e n ef eh g =
       rw (g, e, ef, eh) (job-surveyed b i v before (ap not (ne-eqb (rowIn b i .serial) 0 (λ z. n (e ∙ z)))))
 
-  -- a number of zero bytes
-  no-number : (at : ℕ) → ((j : ℕ) → j < 4 → getD b (at + j) 0 ≡ 0) → littleAt 4 b at ≡ 0
-  unfolding littleAt
-  no-number at z =
-      let z0 : getD b at 0 ≡ 0 = rw add-zero at (z 0 (omega arith)) in
-      let z1 : getD b (suc at) 0 ≡ 0 = rw add-one at (z 1 (omega arith)) in
-      let e2 : at + 2 ≡ suc (suc at) = omega arith in
-      let e3 : at + 3 ≡ suc (suc (suc at)) = omega arith in
-      let z2 : getD b (suc (suc at)) 0 ≡ 0 = rw e2 at (z 2 (omega arith)) in
-      let z3 : getD b (suc (suc (suc at))) 0 ≡ 0 = rw e3 at (z 3 (omega arith)) in
-      rw (z0, z1, z2, z3)
-
   pub rows-free : (p : ℕ) (c : Bool) → Surveyed b p v → all (zeroAt b (68 + 4 * p)) (numbers 0 32) ≡ true → c ≡ all (emptyAt b (1060 + 64 * p) 64) (numbers 0 8)
       → w ≡ withFree v c → Surveyed b (p + 8) w
   rows-free p c before z e f =
-      rw f (free-surveyed b p 8 v before (λ k h. ap (λ (x : ℕ). not (eqb x 0)) (no-number (68 + 4 * (p + k)) (λ j g. zero-byte k j h g))) c
+      rw f (free-surveyed b p 8 v before (λ k h. ap (λ (x : ℕ). not (eqb x 0)) (no-number b (68 + 4 * (p + k)) (λ j g. zero-byte k j h g))) c
       (e ∙ same-below (emptyAt b (1060 + 64 * p) 64) (λ k. eqb (getD b (1060 + 64 * (p + k)) 0) 0) 8
       (λ k h. let m : 1060 + 64 * p + 64 * k ≡ 1060 + 64 * (p + k) = omega arith in ap (λ (x : ℕ). eqb (getD b x 0) 0) m)))
     where

@@ -1,14 +1,17 @@
 -- Tests of the rows, functions and connections of a table that bytes hold, place by place. Assumes nothing.
-use Prim.Native.Nat.{ℕ, zero, suc, _<_, _≤_}
+use Prim.Native.Nat.{ℕ, zero, suc, _+_, _<_, _≤_}
 use mathlib.Core.Path.{_≡_, refl, ap, ap₂, _∙_}
 use mathlib.Core.Bool.{Bool, not, cond, _&&_, _||_}
 use mathlib.Core.List.{List, [], _∷_, map}
-use lib.ListN.{length, List·getD-eq-default}
+use native.Mathlib.Nat.{add-zero}
+use native.Mathlib.Numerals.{add-one}
+use native.Mathlib.Omega.{arith}
+use lib.ListN.{length, getD, List·getD-eq-default}
 use Rattle.octets.specs.Bytes.{Bytes}
 use Rattle.server.specs.declared.Connection.{Connection}
 use Rattle.server.specs.Lists.{any, all, pairwise, numbers}
 use Rattle.server.specs.Table.{Function, Job, closed, noFunction, connectionAt, functionAt, wanted}
-use Rattle.server.specs.Layout.{connectionIn, functionIn, jobIn, tableOf}
+use Rattle.server.specs.Layout.{littleAt, connectionIn, functionIn, jobIn, tableOf}
 use Rattle.server.specs.Rules.{isKnown, asDefined, functionsAsDefined, sleeperIdle, sleepersIdleFrom, sleepersIdle}
 use Rattle.table_bytes.proofs.Columns.{length-places, places-at}
 
@@ -24,6 +27,18 @@ module _ {A : Type 0} {B : Type 0} (f : A → B) where
   pairs-read : (apart : B → B → Bool) (l : List A) → pairwise apart (map f l) ≡ pairwise (λ x y. apart (f x) (f y)) l
   pairs-read apart [] = refl
   pairs-read apart (x ∷ l) = ap₂ _&&_ (all-read (apart (f x)) l) (pairs-read apart l)
+
+-- a number of zero bytes
+pub no-number : (b : Bytes) (at : ℕ) → ((j : ℕ) → j < 4 → getD b (at + j) 0 ≡ 0) → littleAt 4 b at ≡ 0
+unfolding littleAt
+no-number b at z =
+    let z0 : getD b at 0 ≡ 0 = rw add-zero at (z 0 (omega arith)) in
+    let z1 : getD b (suc at) 0 ≡ 0 = rw add-one at (z 1 (omega arith)) in
+    let e2 : at + 2 ≡ suc (suc at) = omega arith in
+    let e3 : at + 3 ≡ suc (suc (suc at)) = omega arith in
+    let z2 : getD b (suc (suc at)) 0 ≡ 0 = rw e2 at (z 2 (omega arith)) in
+    let z3 : getD b (suc (suc (suc at))) 0 ≡ 0 = rw e3 at (z 3 (omega arith)) in
+    rw (z0, z1, z2, z3)
 
 module _ (n : ℕ) (b : Bytes) where
   -- ---- every place

@@ -1,49 +1,74 @@
--- `text_check::one_digit_each` meets its contract. The invariant: the flag says what the bytes passed say. Assumes nothing.
-use Prim.Native.Nat.{_≤_, _-_}
-use mathlib.Core.Path.{_≡_, refl}
-use native.Mathlib.Omega.{arith}
-use borrow.Author.Needs.{needs}
-use Rattle.server.specs.Lists.{all, numbers}
-use Rattle.passes.proofs.Tests.{each-on, each-end}
-use Rattle.text_check.specs.Stored.{firstAlone}
 use Rattle.text_check.proofs.one_digit_each.Statement.{statement}
 use Rattle.text_check.proofs.one_digit_each.Tie as tie
+use Rattle.text_check.proofs.one_digit_each.Reads as reads
+use Rattle.text_check.proofs.one_digit_each.Lts as lts
+use Rattle.image_check.proofs.after_end.Reads as after-end-reads
 
 abbrev Inv-loop : tie.InvT-loop
-Inv-loop table first ok₀ i₀ ok i = (i ≤ 320) × (ok ≡ all (firstAlone first table) (numbers 0 i))
+Inv-loop table p first found₀ k₀ found k = ?
 
 abbrev μ-loop : tie.MeasureT-loop
-μ-loop table first ok₀ i₀ ok i = 320 - i
+μ-loop table p first found₀ k₀ found k = ?
 
+-- src/lib.rt:64:5
 loop-holds : tie.Need-loop-holds Inv-loop μ-loop
-loop-holds c = (omega arith, refl)
+loop-holds c = ?
 
-element-copy-out-ok : tie.Need-element-copy-out-ok Inv-loop μ-loop
-element-copy-out-ok c = search needs
+-- src/lib.rt:66:38
+element-copy-out-after-end : tie.Need-element-copy-out-after-end Inv-loop μ-loop
+element-copy-out-after-end c = ?
 
-add-ok : tie.Need-add-ok Inv-loop μ-loop
-add-ok c = search needs
+-- src/lib.rt:66:61
+mul-after-end : tie.Need-mul-after-end Inv-loop μ-loop
+mul-after-end c = ?
 
-shared-slice-read-ok : tie.Need-shared-slice-read-ok Inv-loop μ-loop
-shared-slice-read-ok c = search needs
+-- src/lib.rt:66:54
+add-after-end : tie.Need-add-after-end Inv-loop μ-loop
+add-after-end c = ?
 
-add-ok-2 : tie.Need-add-ok-2 Inv-loop μ-loop
-add-ok-2 c = search needs
+-- src/lib.rt:66:54
+add-after-end-2 : tie.Need-add-after-end-2 Inv-loop μ-loop
+add-after-end-2 c = ?
 
-shared-slice-read-ok-2 : tie.Need-shared-slice-read-ok-2 Inv-loop μ-loop
-shared-slice-read-ok-2 c = search needs
+-- src/lib.rt:66:48
+shared-slice-read-after-end : tie.Need-shared-slice-read-after-end Inv-loop μ-loop
+shared-slice-read-after-end c = ?
 
-add-i : tie.Need-add-i Inv-loop μ-loop
-add-i c = search needs
+-- src/lib.rt:66:88
+mul-after-end-2 : tie.Need-mul-after-end-2 Inv-loop μ-loop
+mul-after-end-2 c = ?
 
+-- src/lib.rt:66:81
+add-after-end-3 : tie.Need-add-after-end-3 Inv-loop μ-loop
+add-after-end-3 c = ?
+
+-- src/lib.rt:66:81
+add-after-end-4 : tie.Need-add-after-end-4 Inv-loop μ-loop
+add-after-end-4 c = ?
+
+-- src/lib.rt:66:75
+shared-slice-read-after-end-2 : tie.Need-shared-slice-read-after-end-2 Inv-loop μ-loop
+shared-slice-read-after-end-2 c = ?
+
+-- src/lib.rt:66:15
+after-end-requires : tie.Need-after-end-requires Inv-loop μ-loop
+after-end-requires c κs = ?
+
+-- src/lib.rt:67:9
+add-k : tie.Need-add-k Inv-loop μ-loop
+add-k c = ?
+
+-- src/lib.rt:64:5
 loop-less : tie.Need-loop-less Inv-loop μ-loop
-loop-less c = search needs
+loop-less c = ?
 
+-- src/lib.rt:64:5
 loop-again : tie.Need-loop-again Inv-loop μ-loop
-loop-again c = search (needs, each-on)
+loop-again c = ?
 
+-- src/lib.rt:58:1
 returns : tie.Need-returns Inv-loop μ-loop
-returns c = search (needs, each-end)
+returns c = ?
 
 pub one-digit-each-spec : {M : Type 1} → statement M
 one-digit-each-spec =
@@ -52,12 +77,17 @@ one-digit-each-spec =
     Inv-loop
     μ-loop
     loop-holds
-    element-copy-out-ok
-    add-ok
-    shared-slice-read-ok
-    add-ok-2
-    shared-slice-read-ok-2
-    add-i
+    element-copy-out-after-end
+    mul-after-end
+    add-after-end
+    add-after-end-2
+    shared-slice-read-after-end
+    mul-after-end-2
+    add-after-end-3
+    add-after-end-4
+    shared-slice-read-after-end-2
+    after-end-requires
+    add-k
     loop-less
     loop-again
     returns)
