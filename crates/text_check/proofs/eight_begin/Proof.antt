@@ -1,78 +1,70 @@
+-- `text_check::eight_begin` meets its contract. The invariant: the flag says what the rows passed say. Assumes nothing.
+use Prim.Native.Nat.{_≤_, _-_, _+_}
+use mathlib.Core.Path.{_≡_, refl}
+use native.Mathlib.Omega.{arith}
+use denote.Ref.{now}
+use borrow.Author.Needs.{needs}
+use Rattle.server.specs.Lists.{all, numbers}
+use Rattle.passes.proofs.Tests.{each-on, each-end}
+use Rattle.text_check.specs.Stored.{rowBegins}
 use Rattle.text_check.proofs.eight_begin.Statement.{statement}
 use Rattle.text_check.proofs.eight_begin.Tie as tie
-use Rattle.text_check.proofs.eight_begin.Reads as reads
-use Rattle.text_check.proofs.eight_begin.Lts as lts
-use Rattle.text_check.proofs.row_begins.Reads as row-begins-reads
 
 abbrev Inv-loop : tie.InvT-loop
-Inv-loop table live p ok₀ i₀ ok i = ?
+Inv-loop table live p ok₀ i₀ ok i = (i ≤ 8) × (ok ≡ all (λ k. rowBegins live table (p + k)) (numbers 0 i))
 
 abbrev μ-loop : tie.MeasureT-loop
-μ-loop table live p ok₀ i₀ ok i = ?
+μ-loop table live p ok₀ i₀ ok i = 8 - i
 
--- src/lib.rt:48:5
 loop-holds : tie.Need-loop-holds Inv-loop μ-loop
-loop-holds c = ?
+loop-holds c = (omega arith, refl)
 
--- src/lib.rt:49:35
 add-row-begins : tie.Need-add-row-begins Inv-loop μ-loop
-add-row-begins c = ?
+add-row-begins c = search needs
 
--- src/lib.rt:49:30
 element-copy-out-row-begins : tie.Need-element-copy-out-row-begins Inv-loop μ-loop
-element-copy-out-row-begins c = ?
+element-copy-out-row-begins c = search needs
 
--- src/lib.rt:49:62
 add-row-begins-2 : tie.Need-add-row-begins-2 Inv-loop μ-loop
-add-row-begins-2 c = ?
+add-row-begins-2 c = search needs
 
--- src/lib.rt:49:56
 mul-row-begins : tie.Need-mul-row-begins Inv-loop μ-loop
-mul-row-begins c = ?
+mul-row-begins c = search needs
 
--- src/lib.rt:49:49
 add-row-begins-3 : tie.Need-add-row-begins-3 Inv-loop μ-loop
-add-row-begins-3 c = ?
+add-row-begins-3 c = search needs
 
--- src/lib.rt:49:43
 shared-slice-read-row-begins : tie.Need-shared-slice-read-row-begins Inv-loop μ-loop
-shared-slice-read-row-begins c = ?
+shared-slice-read-row-begins c = search needs
 
--- src/lib.rt:49:90
 add-row-begins-4 : tie.Need-add-row-begins-4 Inv-loop μ-loop
-add-row-begins-4 c = ?
+add-row-begins-4 c = search needs
 
--- src/lib.rt:49:84
 mul-row-begins-2 : tie.Need-mul-row-begins-2 Inv-loop μ-loop
-mul-row-begins-2 c = ?
+mul-row-begins-2 c = search needs
 
--- src/lib.rt:49:77
 add-row-begins-5 : tie.Need-add-row-begins-5 Inv-loop μ-loop
-add-row-begins-5 c = ?
+add-row-begins-5 c = search needs
 
--- src/lib.rt:49:71
 shared-slice-read-row-begins-2 : tie.Need-shared-slice-read-row-begins-2 Inv-loop μ-loop
-shared-slice-read-row-begins-2 c = ?
+shared-slice-read-row-begins-2 c = search needs
 
--- src/lib.rt:49:19
 row-begins-requires : tie.Need-row-begins-requires Inv-loop μ-loop
-row-begins-requires c κs = ?
+row-begins-requires c κs = search needs
 
--- src/lib.rt:50:9
 add-i : tie.Need-add-i Inv-loop μ-loop
-add-i c = ?
+add-i c = search needs
 
--- src/lib.rt:48:5
 loop-less : tie.Need-loop-less Inv-loop μ-loop
-loop-less c = ?
+loop-less c = search needs
 
--- src/lib.rt:48:5
 loop-again : tie.Need-loop-again Inv-loop μ-loop
-loop-again c = ?
+loop-again c = let l = c .before .before .before .before .before .loop in
+    let a = c .before .before .before .before .before .before .before .args in
+    (omega arith, each-on (λ k. rowBegins (now (a .live)) (now (a .table)) (a .p + k)) 8 (l .i) (l .ok) (c .row-begins .result) (l .inv .1) (c .row-begins .ensures))
 
--- src/lib.rt:42:1
 returns : tie.Need-returns Inv-loop μ-loop
-returns c = ?
+returns c = search (needs, each-end)
 
 pub eight-begin-spec : {M : Type 1} → statement M
 eight-begin-spec =

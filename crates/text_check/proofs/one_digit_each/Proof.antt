@@ -1,74 +1,77 @@
+-- `text_check::one_digit_each` meets its contract. The invariant: what was found is zero exactly if no byte passed is one too many. Assumes nothing.
+use Prim.Native.Nat.{_≤_, _-_, _+_, _*_}
+use mathlib.Core.Path.{_≡_, refl}
+use native.Mathlib.Omega.{arith}
+use denote.Ref.{now}
+use borrow.Author.Needs.{needs}
+use lib.ListN.{getD}
+use lib.Dec.{eqb}
+use Rattle.server.specs.Lists.{all, numbers}
+use Rattle.passes.proofs.Tests.{none-on, each-end}
+use Rattle.text_check.specs.Stored.{firstAlone}
+use Rattle.text_check.proofs.Numbers.{not-first}
 use Rattle.text_check.proofs.one_digit_each.Statement.{statement}
 use Rattle.text_check.proofs.one_digit_each.Tie as tie
-use Rattle.text_check.proofs.one_digit_each.Reads as reads
-use Rattle.text_check.proofs.one_digit_each.Lts as lts
-use Rattle.image_check.proofs.after_end.Reads as after-end-reads
 
 abbrev Inv-loop : tie.InvT-loop
-Inv-loop table p first found₀ k₀ found k = ?
+Inv-loop table p first found₀ k₀ found k = (k ≤ 80) × (eqb found 0 ≡ all (firstAlone first table p) (numbers 0 k))
 
 abbrev μ-loop : tie.MeasureT-loop
-μ-loop table p first found₀ k₀ found k = ?
+μ-loop table p first found₀ k₀ found k = 80 - k
 
--- src/lib.rt:64:5
 loop-holds : tie.Need-loop-holds Inv-loop μ-loop
-loop-holds c = ?
+loop-holds c = (omega arith, refl)
 
--- src/lib.rt:66:38
 element-copy-out-after-end : tie.Need-element-copy-out-after-end Inv-loop μ-loop
-element-copy-out-after-end c = ?
+element-copy-out-after-end c = search needs
 
--- src/lib.rt:66:61
 mul-after-end : tie.Need-mul-after-end Inv-loop μ-loop
-mul-after-end c = ?
+mul-after-end c = search needs
 
--- src/lib.rt:66:54
 add-after-end : tie.Need-add-after-end Inv-loop μ-loop
-add-after-end c = ?
+add-after-end c = search needs
 
--- src/lib.rt:66:54
 add-after-end-2 : tie.Need-add-after-end-2 Inv-loop μ-loop
-add-after-end-2 c = ?
+add-after-end-2 c = search needs
 
--- src/lib.rt:66:48
 shared-slice-read-after-end : tie.Need-shared-slice-read-after-end Inv-loop μ-loop
-shared-slice-read-after-end c = ?
+shared-slice-read-after-end c = search needs
 
--- src/lib.rt:66:88
 mul-after-end-2 : tie.Need-mul-after-end-2 Inv-loop μ-loop
-mul-after-end-2 c = ?
+mul-after-end-2 c = search needs
 
--- src/lib.rt:66:81
 add-after-end-3 : tie.Need-add-after-end-3 Inv-loop μ-loop
-add-after-end-3 c = ?
+add-after-end-3 c = search needs
 
--- src/lib.rt:66:81
 add-after-end-4 : tie.Need-add-after-end-4 Inv-loop μ-loop
-add-after-end-4 c = ?
+add-after-end-4 c = search needs
 
--- src/lib.rt:66:75
 shared-slice-read-after-end-2 : tie.Need-shared-slice-read-after-end-2 Inv-loop μ-loop
-shared-slice-read-after-end-2 c = ?
+shared-slice-read-after-end-2 c = search needs
 
--- src/lib.rt:66:15
 after-end-requires : tie.Need-after-end-requires Inv-loop μ-loop
-after-end-requires c κs = ?
+after-end-requires c κs = search needs
 
--- src/lib.rt:67:9
 add-k : tie.Need-add-k Inv-loop μ-loop
-add-k c = ?
+add-k c = search needs
 
--- src/lib.rt:64:5
 loop-less : tie.Need-loop-less Inv-loop μ-loop
-loop-less c = ?
+loop-less c = search needs
 
--- src/lib.rt:64:5
 loop-again : tie.Need-loop-again Inv-loop μ-loop
-loop-again c = ?
+loop-again c = let l = c .before .before .before .before .before .loop in
+    let a = c .before .before .before .before .before .before .before .args in
+    let b = now (a .table) in
+    let s = c .after-end .result in (
+      omega arith,
+      none-on (firstAlone (now (a .first)) b (a .p)) (l .k) (l .found) s (l .inv .1)
+          (not-first (getD (now (a .first)) (l .k) 0) (getD b (3108 + 10 * a .p + l .k) 0) (getD b (3428 + 10 * a .p + l .k) 0) s (c .after-end .ensures)),
+    )
 
--- src/lib.rt:58:1
 returns : tie.Need-returns Inv-loop μ-loop
-returns c = ?
+returns c = let l = c .before .loop in
+    let a = c .before .before .before .args in
+    each-end (firstAlone (now (a .first)) (now (a .table)) (a .p)) 80 (l .k) (eqb (l .found) 0) (l .inv .1) (omega arith) (omega arith)
 
 pub one-digit-each-spec : {M : Type 1} → statement M
 one-digit-each-spec =
