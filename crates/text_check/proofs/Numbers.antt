@@ -18,8 +18,8 @@ use Rattle.server.specs.Table.{live}
 use Rattle.server.specs.Layout.{textAt, rowIn}
 use Rattle.server.specs.Rules.{storedNumber}
 use Rattle.table_bytes.specs.Tests.{part, isPadded, arePadded}
-use Rattle.passes.proofs.Tests.{or-left, or-right, or-not, or-none, and-same, below-at, below-by, same-below, all-and, runs}
-use Rattle.passes.proofs.Rows.{no-number}
+use Rattle.passes.proofs.Tests.{or-left, or-right, or-not, or-none, and-same, below-at, below-by, same-below, swap, all-and, runs}
+use Rattle.passes.proofs.Rows.{free-rows}
 use Rattle.image_check.specs.Padded.{zeroAt, afterEnd, lastOrFollowed}
 use Rattle.image_check.proofs.Places.{every-each, empty-each, empty-text, insides-padded}
 use Rattle.row_check.proofs.Rows.{mark-none}
@@ -117,12 +117,6 @@ module _ (b : Bytes) (at : ℕ) (h : at + 320 ≤ length b) (p : ℕ) (last : p 
 
 -- ---- both columns
 
-swap : (a b c d : Bool) → (a && b) && (c && d) ≡ (a && c) && (b && d)
-swap true true c d = refl
-swap true false true d = refl
-swap true false false d = refl
-swap false b c d = refl
-
 -- four tests of a row: its texts, and what follows them
 pair-off : (t a b c d x y : Bool) → (cond t a c && x) && (cond t b d && y) ≡ (x && y) && cond t (a && b) (c && d)
 pair-off true a b c d x y = swap a x b y ∙ and-swap (a && b) (x && y)
@@ -160,15 +154,6 @@ eight-kept b marks marked long p last q r eq er =
     ∙ swap q1 q2 r1 r2
     ∙ and-same (column-kept b 3108 (omega arith) p last marks marked) (column-kept b 3428 (omega arith) p last marks marked)
     ∙ kept-both b p
-
--- serials of zero bytes are those of free rows
-free-rows : (b : Bytes) (p : ℕ) → all (zeroAt b (68 + 4 * p)) (numbers 0 32) ≡ true → (k : ℕ) → k < 8 → live (rowIn b (p + k)) ≡ false
-free-rows b p z k h = ap (λ (x : ℕ). not (eqb x 0)) (no-number b (68 + 4 * (p + k)) (λ j g. zero-byte j g))
-  where
-    zero-byte : (j : ℕ) → j < 4 → getD b (68 + 4 * (p + k) + j) 0 ≡ 0
-    zero-byte j g =
-        let m : 68 + 4 * p + (4 * k + j) ≡ 68 + 4 * (p + k) + j = omega arith in
-        rw m at (eqb-true (getD b (68 + 4 * p + (4 * k + j)) 0) 0 (below-at (zeroAt b (68 + 4 * p)) 32 (4 * k + j) z (omega arith)))
 
 -- eight free rows
 pub eight-empty : (b : Bytes) → 3796 ≤ length b → (p : ℕ) → p + 8 ≤ 32 → all (zeroAt b (68 + 4 * p)) (numbers 0 32) ≡ true → (q r : Bool)

@@ -46,7 +46,12 @@ fn eight_begin(table: &[u8], live: &[u8; 32], p: usize) -> bool
     let mut ok = true;
     let mut i = 0;
     while i < 8 {
-        ok = ok & row_begins(live[p + i], table[3108 + 10 * (p + i)], table[3428 + 10 * (p + i)]);
+        ok = ok
+            & row_begins(
+                live[p + i],
+                table[3108 + 10 * (p + i)],
+                table[3428 + 10 * (p + i)],
+            );
         i += 1;
     }
     ok
@@ -63,7 +68,10 @@ fn one_digit_each(table: &[u8], p: usize, first: &[u8; 80]) -> bool
     let mut k = 0;
     while k < 80 {
         found = found
-            | image_check::after_end(first[k], table[3108 + 10 * p + k] | table[3428 + 10 * p + k]);
+            | image_check::after_end(
+                first[k],
+                table[3108 + 10 * p + k] | table[3428 + 10 * p + k],
+            );
         k += 1;
     }
     found == 0
