@@ -1,27 +1,25 @@
 -- A survey of the rows before a place, with the next rows: free ones add nothing, and a job adds its function, its holder and the residue
 -- of its serial. Assumes nothing.
-use Prim.Native.Nat.{ℕ, zero, suc, _+_, _-_, _*_, _%_, _<_, _≤_}
+use Prim.Native.Nat.{ℕ, _+_, _-_, _*_, _%_, _<_, _≤_}
 use mathlib.Core.Path.{_≡_, refl, sym, ap, ap₂, _∙_}
 use mathlib.Core.Bool.{Bool, true, false, not, cond, _&&_, _||_, true≢false}
-use mathlib.Core.List.{[]}
-use native.Mathlib.Nat.{add-zero, add-suc, zero-add}
-use native.Mathlib.Numerals.{add-one}
+use native.Mathlib.Nat.{add-zero}
 use native.Mathlib.Omega.{arith}
-use borrow.Author.Tests.{ltb-true, ltb-false, eqb-true, eq-eqb, ne-eqb}
+use borrow.Author.Tests.{ltb-true, ltb-false, eq-eqb, ne-eqb}
 use lib.ListN.{getD}
 use lib.Dec.{eqb, ltb}
 use Rattle.octets.specs.Bytes.{Bytes}
-use Rattle.octets.proofs.Strings.{and-left, and-false}
 use Rattle.sets.specs.Sets.{has, insert, union}
 use Rattle.sets.proofs.Laws.{zero-has, insert-below}
 use Rattle.server.specs.Lists.{any, all, numbers}
 use Rattle.server.specs.Table.{live, queued}
-use Rattle.server.specs.Layout.{littleAt, rowIn}
-use Rattle.passes.proofs.Tests.{and-true, and-same, any-next, all-next, some-by, below-at, same-below, all-later, none-later}
+use Rattle.server.specs.Layout.{rowIn}
+use Rattle.passes.proofs.Tests.{and-true, and-same, any-next, all-next, some-by, same-below, all-later, none-later}
+use Rattle.passes.proofs.Rows.{free-rows}
 use Rattle.passes.proofs.Unions.{has-more, sum-fresh, union-least}
 use Rattle.image_check.specs.Padded.{zeroAt, emptyAt}
 use Rattle.number_check.specs.declared.Survey as S
-use Rattle.number_check.specs.Surveyed.{withJob, withFree, hasResidue, queuedFor, isHeld, grabbedFor, heldBy, freeOrJob, Surveyed}
+use Rattle.number_check.specs.Surveyed.{withJob, withFree, hasResidue, queuedFor, grabbedFor, heldBy, freeOrJob, Surveyed}
 
 -- ---- before the first row
 
@@ -134,26 +132,9 @@ module _ (b : Bytes) (v w : S.Survey) where
   row-job i s f h before e n ef eh g =
       rw (g, e, ef, eh) (job-surveyed b i v before (ap not (ne-eqb (rowIn b i .serial) 0 (λ z. n (e ∙ z)))))
 
-  -- a number of zero bytes
-  no-number : (at : ℕ) → ((j : ℕ) → j < 4 → getD b (at + j) 0 ≡ 0) → littleAt 4 b at ≡ 0
-  unfolding littleAt
-  no-number at z =
-      let z0 : getD b at 0 ≡ 0 = rw add-zero at (z 0 (omega arith)) in
-      let z1 : getD b (suc at) 0 ≡ 0 = rw add-one at (z 1 (omega arith)) in
-      let e2 : at + 2 ≡ suc (suc at) = omega arith in
-      let e3 : at + 3 ≡ suc (suc (suc at)) = omega arith in
-      let z2 : getD b (suc (suc at)) 0 ≡ 0 = rw e2 at (z 2 (omega arith)) in
-      let z3 : getD b (suc (suc (suc at))) 0 ≡ 0 = rw e3 at (z 3 (omega arith)) in
-      rw (z0, z1, z2, z3)
-
   pub rows-free : (p : ℕ) (c : Bool) → Surveyed b p v → all (zeroAt b (68 + 4 * p)) (numbers 0 32) ≡ true → c ≡ all (emptyAt b (1060 + 64 * p) 64) (numbers 0 8)
       → w ≡ withFree v c → Surveyed b (p + 8) w
   rows-free p c before z e f =
-      rw f (free-surveyed b p 8 v before (λ k h. ap (λ (x : ℕ). not (eqb x 0)) (no-number (68 + 4 * (p + k)) (λ j g. zero-byte k j h g))) c
+      rw f (free-surveyed b p 8 v before (free-rows b p z) c
       (e ∙ same-below (emptyAt b (1060 + 64 * p) 64) (λ k. eqb (getD b (1060 + 64 * (p + k)) 0) 0) 8
       (λ k h. let m : 1060 + 64 * p + 64 * k ≡ 1060 + 64 * (p + k) = omega arith in ap (λ (x : ℕ). eqb (getD b x 0) 0) m)))
-    where
-      zero-byte : (k j : ℕ) → k < 8 → j < 4 → getD b (68 + 4 * (p + k) + j) 0 ≡ 0
-      zero-byte k j h g =
-          let m : 68 + 4 * p + (4 * k + j) ≡ 68 + 4 * (p + k) + j = omega arith in
-          rw m at (eqb-true (getD b (68 + 4 * p + (4 * k + j)) 0) 0 (below-at (zeroAt b (68 + 4 * p)) 32 (4 * k + j) z (omega arith)))

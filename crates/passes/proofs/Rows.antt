@@ -1,16 +1,22 @@
 -- Tests of the rows, functions and connections of a table that bytes hold, place by place. Assumes nothing.
-use Prim.Native.Nat.{ℕ, zero, suc, _<_, _≤_}
+use Prim.Native.Nat.{ℕ, zero, suc, _+_, _*_, _<_, _≤_}
 use mathlib.Core.Path.{_≡_, refl, ap, ap₂, _∙_}
-use mathlib.Core.Bool.{Bool, not, cond, _&&_, _||_}
+use mathlib.Core.Bool.{Bool, true, false, not, cond, _&&_, _||_}
 use mathlib.Core.List.{List, [], _∷_, map}
-use lib.ListN.{length, List·getD-eq-default}
+use native.Mathlib.Nat.{add-zero}
+use native.Mathlib.Numerals.{add-one}
+use native.Mathlib.Omega.{arith}
+use borrow.Author.Tests.{eqb-true}
+use lib.ListN.{length, getD, List·getD-eq-default}
+use lib.Dec.{eqb}
 use Rattle.octets.specs.Bytes.{Bytes}
 use Rattle.server.specs.declared.Connection.{Connection}
 use Rattle.server.specs.Lists.{any, all, pairwise, numbers}
-use Rattle.server.specs.Table.{Function, Job, closed, noFunction, connectionAt, functionAt, wanted}
-use Rattle.server.specs.Layout.{connectionIn, functionIn, jobIn, tableOf}
+use Rattle.server.specs.Table.{Function, Job, closed, noFunction, connectionAt, functionAt, live, wanted}
+use Rattle.server.specs.Layout.{littleAt, connectionIn, functionIn, rowIn, jobIn, tableOf}
 use Rattle.server.specs.Rules.{isKnown, asDefined, functionsAsDefined, sleeperIdle, sleepersIdleFrom, sleepersIdle}
 use Rattle.table_bytes.proofs.Columns.{length-places, places-at}
+use Rattle.passes.proofs.Tests.{below-at}
 
 module _ {A : Type 0} {B : Type 0} (f : A → B) where
   all-read : (p : B → Bool) (l : List A) → all p (map f l) ≡ all (λ x. p (f x)) l
@@ -24,6 +30,27 @@ module _ {A : Type 0} {B : Type 0} (f : A → B) where
   pairs-read : (apart : B → B → Bool) (l : List A) → pairwise apart (map f l) ≡ pairwise (λ x y. apart (f x) (f y)) l
   pairs-read apart [] = refl
   pairs-read apart (x ∷ l) = ap₂ _&&_ (all-read (apart (f x)) l) (pairs-read apart l)
+
+-- a number of zero bytes
+no-number : (b : Bytes) (at : ℕ) → ((j : ℕ) → j < 4 → getD b (at + j) 0 ≡ 0) → littleAt 4 b at ≡ 0
+unfolding littleAt
+no-number b at z =
+    let z0 : getD b at 0 ≡ 0 = rw add-zero at (z 0 (omega arith)) in
+    let z1 : getD b (suc at) 0 ≡ 0 = rw add-one at (z 1 (omega arith)) in
+    let e2 : at + 2 ≡ suc (suc at) = omega arith in
+    let e3 : at + 3 ≡ suc (suc (suc at)) = omega arith in
+    let z2 : getD b (suc (suc at)) 0 ≡ 0 = rw e2 at (z 2 (omega arith)) in
+    let z3 : getD b (suc (suc (suc at))) 0 ≡ 0 = rw e3 at (z 3 (omega arith)) in
+    rw (z0, z1, z2, z3)
+
+-- eight rows from row p on, whose serials are zero bytes
+pub free-rows : (b : Bytes) (p : ℕ) → all (λ i. eqb (getD b (68 + 4 * p + i) 0) 0) (numbers 0 32) ≡ true → (k : ℕ) → k < 8 → live (rowIn b (p + k)) ≡ false
+free-rows b p z k h = ap (λ (x : ℕ). not (eqb x 0)) (no-number b (68 + 4 * (p + k)) zero-byte)
+  where
+    zero-byte : (j : ℕ) → j < 4 → getD b (68 + 4 * (p + k) + j) 0 ≡ 0
+    zero-byte j g =
+        let m : 68 + 4 * p + (4 * k + j) ≡ 68 + 4 * (p + k) + j = omega arith in
+        rw m at (eqb-true (getD b (68 + 4 * p + (4 * k + j)) 0) 0 (below-at (λ i. eqb (getD b (68 + 4 * p + i) 0) 0) 32 (4 * k + j) z (omega arith)))
 
 module _ (n : ℕ) (b : Bytes) where
   -- ---- every place

@@ -154,7 +154,7 @@ module _ (p q : ℕ → Bool) (n : ℕ) where
   pub any-below : ((k : ℕ) → k < n → p k ≡ q k) → any p (numbers 0 n) ≡ any q (numbers 0 n)
   any-below f = any-alike 0 n (λ k _ h. f k (omega arith))
 
-swap : (a b c d : Bool) → (a && b) && (c && d) ≡ (a && c) && (b && d)
+pub swap : (a b c d : Bool) → (a && b) && (c && d) ≡ (a && c) && (b && d)
 swap true true c d = refl
 swap true false true d = refl
 swap true false false d = refl
