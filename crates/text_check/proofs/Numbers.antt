@@ -69,6 +69,16 @@ asksFor b at k = cond (live (rowIn b k)) (storedNumber (textAt 10 b (at + 10 * k
 abbrev textKept : Bytes → ℕ → ℕ → Bool
 textKept b at k = asksFor b at k && isPadded 10 b (at + 10 * k)
 
+-- a place is empty and padded exactly if its bytes are zero
+place-empty : (b : Bytes) (at : ℕ) → at + 10 ≤ length b → all (zeroAt b at) (numbers 0 10) ≡ same (textAt 10 b at) [] && isPadded 10 b at
+place-empty b at h = go (eqb (getD b at 0) 0) refl
+  where
+    go : (t : Bool) → eqb (getD b at 0) 0 ≡ t → all (zeroAt b at) (numbers 0 10) ≡ same (textAt 10 b at) [] && isPadded 10 b at
+    go true e = sym (ap (λ (x : Bool). x && isPadded 10 b at) (empty-text 9 b at (omega arith) ∙ e) ∙ empty-each 9 b at h e)
+    go false e =
+        ap (λ (x : Bool). x && all (zeroAt b at) (numbers 1 9)) (ap (λ (x : ℕ). eqb (getD b x 0) 0) (add-zero at) ∙ e)
+        ∙ sym (ap (λ (x : Bool). x && isPadded 10 b at) (empty-text 9 b at (omega arith) ∙ e))
+
 -- the place of row p + k, from row p on
 place-on : (at p k : ℕ) → at + 10 * p + 10 * k ≡ at + 10 * (p + k)
 place-on at p k = omega arith
@@ -92,28 +102,16 @@ module _ (b : Bytes) (at : ℕ) (h : at + 320 ≤ length b) (p : ℕ) (last : p 
         ∙ sym (all-and (λ k. beginsAt marks b at (p + k)) (λ k. cleanAt b at (p + k)) (numbers 0 8))
         ∙ same-below (λ k. beginsAt marks b at (p + k) && cleanAt b at (p + k)) (λ k. textKept b at (p + k)) 8 (λ k g. place-kept (p + k) (omega arith))
 
-  module _ (free : (k : ℕ) → k < 8 → live (rowIn b (p + k)) ≡ false) where
-    -- an empty place of a free row
-    place-empty : (i : ℕ) → i + 10 ≤ length b → all (zeroAt b i) (numbers 0 10) ≡ same (textAt 10 b i) [] && isPadded 10 b i
-    place-empty i g = go (eqb (getD b i 0) 0) refl
-      where
-        go : (t : Bool) → eqb (getD b i 0) 0 ≡ t → all (zeroAt b i) (numbers 0 10) ≡ same (textAt 10 b i) [] && isPadded 10 b i
-        go true e = sym (ap (λ (x : Bool). x && isPadded 10 b i) (empty-text 9 b i (omega arith) ∙ e) ∙ empty-each 9 b i g e)
-        go false e =
-            let here : i + 0 ≡ i = add-zero i in
-            ap (λ (x : Bool). x && all (zeroAt b i) (numbers 1 9)) (ap (λ (x : ℕ). eqb (getD b x 0) 0) here ∙ e)
-            ∙ sym (ap (λ (x : Bool). x && isPadded 10 b i) (empty-text 9 b i (omega arith) ∙ e))
-
-    -- the places of eight free rows
-    column-empty : all (zeroAt b (at + 10 * p)) (numbers 0 80) ≡ all (λ k. textKept b at (p + k)) (numbers 0 8)
-    column-empty =
-        runs (zeroAt b (at + 10 * p)) 10 8
-        ∙ same-below (λ k. all (λ j. zeroAt b (at + 10 * p) (10 * k + j)) (numbers 0 10)) (λ k. textKept b at (p + k)) 8
-        (λ k g.
-        same-below (λ j. zeroAt b (at + 10 * p) (10 * k + j)) (zeroAt b (at + 10 * (p + k))) 10
-        (λ j _. let m : at + 10 * p + (10 * k + j) ≡ at + 10 * (p + k) + j = omega arith in ap (λ (x : ℕ). eqb (getD b x 0) 0) m)
-        ∙ place-empty (at + 10 * (p + k)) (omega arith)
-        ∙ ap (λ (t : Bool). cond t (storedNumber (textAt 10 b (at + 10 * (p + k)))) (same (textAt 10 b (at + 10 * (p + k))) []) && isPadded 10 b (at + 10 * (p + k))) (sym (free k g)))
+  -- the places of eight free rows
+  column-empty : ((k : ℕ) → k < 8 → live (rowIn b (p + k)) ≡ false) → all (zeroAt b (at + 10 * p)) (numbers 0 80) ≡ all (λ k. textKept b at (p + k)) (numbers 0 8)
+  column-empty free =
+      runs (zeroAt b (at + 10 * p)) 10 8
+      ∙ same-below (λ k. all (λ j. zeroAt b (at + 10 * p) (10 * k + j)) (numbers 0 10)) (λ k. textKept b at (p + k)) 8
+      (λ k g.
+      same-below (λ j. zeroAt b (at + 10 * p) (10 * k + j)) (zeroAt b (at + 10 * (p + k))) 10
+      (λ j _. let m : at + 10 * p + (10 * k + j) ≡ at + 10 * (p + k) + j = omega arith in ap (λ (x : ℕ). eqb (getD b x 0) 0) m)
+      ∙ place-empty b (at + 10 * (p + k)) (omega arith)
+      ∙ ap (λ (t : Bool). cond t (storedNumber (textAt 10 b (at + 10 * (p + k)))) (same (textAt 10 b (at + 10 * (p + k))) []) && isPadded 10 b (at + 10 * (p + k))) (sym (free k g)))
 
 -- ---- both columns
 
