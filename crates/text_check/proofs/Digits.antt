@@ -2,7 +2,7 @@
 -- each byte is zero or a digit, and it is padded. Assumes nothing.
 use Prim.Native.Nat.{ℕ, zero, suc, _+_, _≤_}
 use mathlib.Core.Path.{_≡_, refl, sym, _∙_}
-use mathlib.Core.Bool.{Bool, true, false, not, cond, _&&_}
+use mathlib.Core.Bool.{Bool, true, false, not, cond, _&&_, _||_}
 use mathlib.Core.List.{[], _∷_}
 use native.Mathlib.Omega.{arith}
 use borrow.Author.Tests.{ne-eqb, le-leb}
@@ -48,7 +48,7 @@ digits-pass (suc x ∷ s) =
     (and-apart (isDigit (suc x)) (every isDigit (text s)) (every digitOrZero s) (every isZero (tail s)) (digits-pass s))
 
 -- the first byte, asked twice
-twice : (d e p : Bool) → (d && e) && p ≡ d && ((d && e) && p)
+twice : (d e p : Bool) → (d && e) && p ≡ (d || false) && ((d && e) && p)
 twice true e p = refl
 twice false e p = refl
 
@@ -58,7 +58,7 @@ kept free a = cond (not free) ((leb 1 (length a) && leb (length a) 10) && every 
 
 -- what the row asks of the first byte
 abbrev begins : Bool → ℕ → Bool
-begins free x = cond free (eqb x 0) (isDigit x)
+begins free x = (not free && isDigit x) || (free && eqb x 0)
 
 -- the place that holds x and then s
 place : (free : Bool) (x : ℕ) (s : Bytes) → length s ≤ 9
@@ -78,6 +78,6 @@ place false (suc x) s h =
 -- the place of 10 bytes that begins at a byte
 pub stored-place : (free : Bool) (b : Bytes) (at : ℕ) → at + 10 ≤ length b
     → cond (not free) (storedNumber (textAt 10 b at)) (same (textAt 10 b at) []) && isPadded 10 b at
-    ≡ cond free (eqb (getD b at 0) 0) (isDigit (getD b at 0)) && (every digitOrZero (part 10 b at) && isPadded 10 b at)
+    ≡ ((not free && isDigit (getD b at 0)) || (free && eqb (getD b at 0) 0)) && (every digitOrZero (part 10 b at) && isPadded 10 b at)
 unfolding textAt isPadded
 stored-place free b at h = rw (part-cons 9 b at (omega arith)) (place free (getD b at 0) (part 9 b (suc at)) (omega (arith, length-take 9 (drop (suc at) b))))

@@ -10,7 +10,7 @@ use Rattle.server.specs.Lists.{all, numbers}
 use Rattle.server.specs.Table.{live}
 use Rattle.server.specs.Layout.{column, rowIn, jobIn}
 use Rattle.server.specs.Rules.{storedNumber}
-use Rattle.table_bytes.specs.Tests.{isPadded, arePadded}
+use Rattle.table_bytes.specs.Tests.{arePadded}
 
 -- ---- the rule
 
@@ -19,11 +19,7 @@ abbrev pub storedAt : Bytes → ℕ → Bool
 storedAt b k =
     cond (live (rowIn b k)) (storedNumber (jobIn b k .numerator) && storedNumber (jobIn b k .denominator)) (same (jobIn b k .numerator) [] && same (jobIn b k .denominator) [])
 
--- zeros follow them too
-abbrev pub keptAt : Bytes → ℕ → Bool
-keptAt b k = (isPadded 10 b (3108 + 10 * k) && isPadded 10 b (3428 + 10 * k)) && storedAt b k
-
--- all of them
+-- all of them, and zeros follow each text
 unfoldable pub storedRules : Bytes → Bool
 storedRules b = (arePadded 10 32 b 3108 && arePadded 10 32 b 3428) && all (storedAt b) (numbers 0 32)
 
@@ -37,34 +33,35 @@ digitOrZero x = eqb x 0 || isDigit x
 
 -- the first byte of a place, by the mark of its row
 abbrev pub beginsWith : ℕ → ℕ → Bool
-beginsWith mark x = cond (eqb mark 0) (eqb x 0) (isDigit x)
+beginsWith mark x = (not (eqb mark 0) && isDigit x) || (eqb mark 0 && eqb x 0)
 
--- row k in a column of places of 10 bytes, and in both columns
+-- place k of a column of places of 10 bytes
 abbrev pub beginsAt : List ℕ → Bytes → ℕ → ℕ → Bool
 beginsAt marks b at k = beginsWith (getD marks k 0) (getD b (at + 10 * k) 0)
 
-abbrev pub rowBegins : List ℕ → Bytes → ℕ → Bool
-rowBegins marks b k = beginsAt marks b 3108 k && beginsAt marks b 3428 k
+-- m has the first byte of each of the 32 places
+abbrev pub FirstBytes : Bytes → ℕ → List ℕ → Type 0
+FirstBytes b at m = (k : ℕ) → k < 32 → getD m k 0 ≡ getD b (at + 10 * k) 0
 
--- each of eight places begins with a digit or a zero
+-- each of the 32 places begins with a digit or a zero
 abbrev pub Begun : Bytes → ℕ → Type 0
-Begun b at = (k : ℕ) → k < 8 → digitOrZero (getD b (at + 10 * k) 0) ≡ true
+Begun b at = (k : ℕ) → k < 32 → digitOrZero (getD b (at + 10 * k) 0) ≡ true
 
--- by a mask of first bytes: byte k of both columns, from row p on, is zero
-abbrev pub firstAlone : Bytes → Bytes → ℕ → ℕ → Bool
-firstAlone first b p k = not (eqb (getD first k 0) 0) || (eqb (getD b (3108 + 10 * p + k) 0) 0 && eqb (getD b (3428 + 10 * p + k) 0) 0)
+-- by a mask of first bytes: byte k of both columns is zero
+abbrev pub firstAlone : Bytes → Bytes → ℕ → Bool
+firstAlone first b k = not (eqb (getD first k 0) 0) || (eqb (getD b (3108 + k) 0) 0 && eqb (getD b (3428 + k) 0) 0)
 
 -- by a mask of last bytes: byte k of a column is not zero or a zero follows, and it is zero or a digit
 abbrev pub digitPadded : Bytes → Bytes → ℕ → ℕ → Bool
 digitPadded last b at k =
     (not (eqb (getD last k 0) 0) || (not (eqb (getD b (at + k) 0) 0) || eqb (getD b (at + k + 1) 0) 0)) && digitOrZero (getD b (at + k) 0)
 
--- the masks of eight places of 10 bytes
+-- the masks of 32 places of 10 bytes
 abbrev pub firstsOf10 : Bytes
-firstsOf10 = column (λ k. 1 ∷ 0 ∷ 0 ∷ 0 ∷ 0 ∷ 0 ∷ 0 ∷ 0 ∷ 0 ∷ 0 ∷ []) (numbers 0 8)
+firstsOf10 = column (λ k. 1 ∷ 0 ∷ 0 ∷ 0 ∷ 0 ∷ 0 ∷ 0 ∷ 0 ∷ 0 ∷ 0 ∷ []) (numbers 0 32)
 
 abbrev pub lastsOf10 : Bytes
-lastsOf10 = column (λ k. 0 ∷ 0 ∷ 0 ∷ 0 ∷ 0 ∷ 0 ∷ 0 ∷ 0 ∷ 0 ∷ 1 ∷ []) (numbers 0 8)
+lastsOf10 = column (λ k. 0 ∷ 0 ∷ 0 ∷ 0 ∷ 0 ∷ 0 ∷ 0 ∷ 0 ∷ 0 ∷ 1 ∷ []) (numbers 0 32)
 
 -- ---- sizes
 

@@ -14,10 +14,10 @@ use Rattle.text_check.proofs.digits_padded.Statement.{statement}
 use Rattle.text_check.proofs.digits_padded.Tie as tie
 
 abbrev Inv-loop : tie.InvT-loop
-Inv-loop table at last ok₀ i₀ ok i = (i ≤ 80) × (ok ≡ all (digitPadded last table at) (numbers 0 i))
+Inv-loop table at last ok₀ k₀ ok k = (k ≤ 320) × (ok ≡ all (digitPadded last table at) (numbers 0 k))
 
 abbrev μ-loop : tie.MeasureT-loop
-μ-loop table at last ok₀ i₀ ok i = 80 - i
+μ-loop table at last ok₀ k₀ ok k = 320 - k
 
 loop-holds : tie.Need-loop-holds Inv-loop μ-loop
 loop-holds c = (omega arith, refl)
@@ -43,8 +43,8 @@ shared-slice-read-ok c = search needs
 is-digit-requires : tie.Need-is-digit-requires Inv-loop μ-loop
 is-digit-requires c κs = search needs
 
-add-i : tie.Need-add-i Inv-loop μ-loop
-add-i c = search needs
+add-k : tie.Need-add-k Inv-loop μ-loop
+add-k c = search needs
 
 loop-less : tie.Need-loop-less Inv-loop μ-loop
 loop-less c = search needs
@@ -52,10 +52,10 @@ loop-less c = search needs
 loop-again : tie.Need-loop-again Inv-loop μ-loop
 loop-again c = let l = c .before .before .before .before .before .loop in
     let a = c .before .before .before .before .before .before .before .args in
-    let x = getD (now (a .table)) (a .at + l .i) 0 in
-    let f = not (eqb (getD (now (a .last)) (l .i) 0) 0) || (not (eqb x 0) || eqb (getD (now (a .table)) (a .at + l .i + 1) 0) 0) in (
+    let x = getD (now (a .table)) (a .at + l .k) 0 in
+    let f = not (eqb (getD (now (a .last)) (l .k) 0) 0) || (not (eqb x 0) || eqb (getD (now (a .table)) (a .at + l .k + 1) 0) 0) in (
       omega arith,
-      each-on (digitPadded (now (a .last)) (now (a .table)) (a .at)) 80 (l .i) (l .ok) (f && (eqb x 0 || c .is-digit .result)) (l .inv .1)
+      each-on (digitPadded (now (a .last)) (now (a .table)) (a .at)) 320 (l .k) (l .ok) (f && (eqb x 0 || c .is-digit .result)) (l .inv .1)
           (ap (λ (t : Bool). f && (eqb x 0 || t)) (c .is-digit .ensures)),
     )
 
@@ -76,7 +76,7 @@ digits-padded-spec =
     add-ok-2
     shared-slice-read-ok
     is-digit-requires
-    add-i
+    add-k
     loop-less
     loop-again
     returns)

@@ -1,23 +1,23 @@
 -- `text_check::one_digit_each` meets its contract. The invariant: what was found is zero exactly if no byte passed is one too many. Assumes nothing.
-use Prim.Native.Nat.{_≤_, _-_, _+_, _*_}
+use Prim.Native.Nat.{_≤_, _+_, _-_}
 use mathlib.Core.Path.{_≡_, refl}
 use native.Mathlib.Omega.{arith}
 use denote.Ref.{now}
-use borrow.Author.Needs.{needs}
 use lib.ListN.{getD}
 use lib.Dec.{eqb}
 use Rattle.server.specs.Lists.{all, numbers}
 use Rattle.passes.proofs.Tests.{none-on, each-end}
 use Rattle.text_check.specs.Stored.{firstAlone}
 use Rattle.text_check.proofs.Numbers.{not-first}
+use borrow.Author.Needs.{needs}
 use Rattle.text_check.proofs.one_digit_each.Statement.{statement}
 use Rattle.text_check.proofs.one_digit_each.Tie as tie
 
 abbrev Inv-loop : tie.InvT-loop
-Inv-loop table p first found₀ k₀ found k = (k ≤ 80) × (eqb found 0 ≡ all (firstAlone first table p) (numbers 0 k))
+Inv-loop table first found₀ i₀ found i = (i ≤ 320) × (eqb found 0 ≡ all (firstAlone first table) (numbers 0 i))
 
 abbrev μ-loop : tie.MeasureT-loop
-μ-loop table p first found₀ k₀ found k = 80 - k
+μ-loop table first found₀ i₀ found i = 320 - i
 
 loop-holds : tie.Need-loop-holds Inv-loop μ-loop
 loop-holds c = (omega arith, refl)
@@ -25,26 +25,14 @@ loop-holds c = (omega arith, refl)
 element-copy-out-after-end : tie.Need-element-copy-out-after-end Inv-loop μ-loop
 element-copy-out-after-end c = search needs
 
-mul-after-end : tie.Need-mul-after-end Inv-loop μ-loop
-mul-after-end c = search needs
-
 add-after-end : tie.Need-add-after-end Inv-loop μ-loop
 add-after-end c = search needs
-
-add-after-end-2 : tie.Need-add-after-end-2 Inv-loop μ-loop
-add-after-end-2 c = search needs
 
 shared-slice-read-after-end : tie.Need-shared-slice-read-after-end Inv-loop μ-loop
 shared-slice-read-after-end c = search needs
 
-mul-after-end-2 : tie.Need-mul-after-end-2 Inv-loop μ-loop
-mul-after-end-2 c = search needs
-
-add-after-end-3 : tie.Need-add-after-end-3 Inv-loop μ-loop
-add-after-end-3 c = search needs
-
-add-after-end-4 : tie.Need-add-after-end-4 Inv-loop μ-loop
-add-after-end-4 c = search needs
+add-after-end-2 : tie.Need-add-after-end-2 Inv-loop μ-loop
+add-after-end-2 c = search needs
 
 shared-slice-read-after-end-2 : tie.Need-shared-slice-read-after-end-2 Inv-loop μ-loop
 shared-slice-read-after-end-2 c = search needs
@@ -52,8 +40,8 @@ shared-slice-read-after-end-2 c = search needs
 after-end-requires : tie.Need-after-end-requires Inv-loop μ-loop
 after-end-requires c κs = search needs
 
-add-k : tie.Need-add-k Inv-loop μ-loop
-add-k c = search needs
+add-i : tie.Need-add-i Inv-loop μ-loop
+add-i c = search needs
 
 loop-less : tie.Need-loop-less Inv-loop μ-loop
 loop-less c = search needs
@@ -64,14 +52,12 @@ loop-again c = let l = c .before .before .before .before .before .loop in
     let b = now (a .table) in
     let s = c .after-end .result in (
       omega arith,
-      none-on (firstAlone (now (a .first)) b (a .p)) (l .k) (l .found) s (l .inv .1)
-          (not-first (getD (now (a .first)) (l .k) 0) (getD b (3108 + 10 * a .p + l .k) 0) (getD b (3428 + 10 * a .p + l .k) 0) s (c .after-end .ensures)),
+      none-on (firstAlone (now (a .first)) b) (l .i) (l .found) s (l .inv .1)
+          (not-first (getD (now (a .first)) (l .i) 0) (getD b (3108 + l .i) 0) (getD b (3428 + l .i) 0) s (c .after-end .ensures)),
     )
 
 returns : tie.Need-returns Inv-loop μ-loop
-returns c = let l = c .before .loop in
-    let a = c .before .before .before .args in
-    each-end (firstAlone (now (a .first)) (now (a .table)) (a .p)) 80 (l .k) (eqb (l .found) 0) (l .inv .1) (omega arith) (omega arith)
+returns c = search (needs, each-end)
 
 pub one-digit-each-spec : {M : Type 1} → statement M
 one-digit-each-spec =
@@ -81,16 +67,12 @@ one-digit-each-spec =
     μ-loop
     loop-holds
     element-copy-out-after-end
-    mul-after-end
     add-after-end
-    add-after-end-2
     shared-slice-read-after-end
-    mul-after-end-2
-    add-after-end-3
-    add-after-end-4
+    add-after-end-2
     shared-slice-read-after-end-2
     after-end-requires
-    add-k
+    add-i
     loop-less
     loop-again
     returns)

@@ -1,45 +1,49 @@
--- `text_check::stored_hold` meets its contract. The invariant: the flag says what the rows before this group say. Assumes nothing.
-use Prim.Native.Nat.{_≤_, _-_, _%_}
-use mathlib.Core.Path.{_≡_, refl, sym, _∙_}
-use native.Mathlib.Omega.{arith}
+-- `text_check::stored_hold` meets its contract. First bytes and all bytes together are the rule; where a first byte is wrong, so is the
+-- table. Assumes nothing.
+use mathlib.Core.Path.{refl, sym, _∙_}
+use mathlib.Core.Bool.{true, false}
 use denote.Ref.{now}
 use borrow.Author.Needs.{needs}
-use Rattle.server.specs.Lists.{all, numbers}
-use Rattle.passes.proofs.Tests.{and-same, all-later, each-end}
-use Rattle.text_check.specs.Stored.{keptAt}
-use Rattle.text_check.proofs.Numbers.{rows-kept}
+use Rattle.text_check.proofs.Numbers.{begun, stored-hold}
 use Rattle.text_check.proofs.stored_hold.Statement.{statement}
 use Rattle.text_check.proofs.stored_hold.Tie as tie
 
-abbrev Inv-loop : tie.InvT-loop
-Inv-loop table live ok₀ p₀ ok p = (p ≤ 32) × (p % 8 ≡ 0) × (ok ≡ all (keptAt table) (numbers 0 p))
+numbers-begin-requires : tie.Need-numbers-begin-requires
+numbers-begin-requires c κs = search needs
 
-abbrev μ-loop : tie.MeasureT-loop
-μ-loop table live ok₀ p₀ ok p = 32 - p
+numbers-begin-requires-2 : tie.Need-numbers-begin-requires-2
+numbers-begin-requires-2 c κs = search needs
 
-loop-holds : tie.Need-loop-holds Inv-loop μ-loop
-loop-holds c = (omega arith, refl, refl)
+all-digits-requires : tie.Need-all-digits-requires
+all-digits-requires c κs = let s = c .before .before .before .before .before in
+    let b = now (s .args .table) in
+    let marks = now (s .args .live) in
+    let e = sym (c .before .before .before .numbers-begin .ensures) ∙ c .before .before .if1 .taken in
+    let f = sym (c .before .numbers-begin2 .ensures) ∙ c .if2 .taken in
+    (s .pre .0, (begun b marks 3108 e, begun b marks 3428 f))
 
-eight-stored-requires : tie.Need-eight-stored-requires Inv-loop μ-loop
-eight-stored-requires c κs = search needs
+returns : tie.Need-returns
+returns c = let s = c .before .before .before .before .before .before in
+    stored-hold (now (s .args .table)) (now (s .args .live)) (s .pre .1) (s .pre .0) true true (c .all-digits .result)
+    (sym (c .before .before .before .if1 .taken) ∙ c .before .before .before .before .numbers-begin .ensures)
+    (sym (c .before .if2 .taken) ∙ c .before .before .numbers-begin2 .ensures) (c .all-digits .ensures)
 
-add-p : tie.Need-add-p Inv-loop μ-loop
-add-p c = search needs
+returns-2 : tie.Need-returns-2
+returns-2 c = let s = c .before .before .before .before .before in
+    stored-hold (now (s .args .table)) (now (s .args .live)) (s .pre .1) (s .pre .0) true false _
+    (sym (c .before .before .if1 .taken) ∙ c .before .before .before .numbers-begin .ensures) (sym (c .if2 .left) ∙ c .before .numbers-begin2 .ensures) refl
 
-loop-less : tie.Need-loop-less Inv-loop μ-loop
-loop-less c = search needs
-
-loop-again : tie.Need-loop-again Inv-loop μ-loop
-loop-again c = let l = c .before .before .loop in
-    let a = c .before .before .before .before .args in
-    (omega arith, omega arith, and-same (l .inv .2) (c .eight-stored .ensures) ∙ sym (all-later (keptAt (now (a .table))) (l .p) 8))
-
-returns : tie.Need-returns Inv-loop μ-loop
-returns c = let l = c .before .loop in
-    let b = now (c .before .before .before .args .table) in
-    each-end (keptAt b) 32 (l .p) (l .ok) (l .inv .2) (omega arith) (omega arith) ∙ rows-kept b
+returns-3 : tie.Need-returns-3
+returns-3 c = let s = c .before .before .before in
+    stored-hold (now (s .args .table)) (now (s .args .live)) (s .pre .1) (s .pre .0) false _ _ (sym (c .if1 .left) ∙ c .before .numbers-begin .ensures) refl refl
 
 pub stored-hold-spec : {M : Type 1} → statement M
 stored-hold-spec =
     tie.close
-    (tie.spec Inv-loop μ-loop loop-holds eight-stored-requires add-p loop-less loop-again returns)
+    (tie.spec
+    numbers-begin-requires
+    numbers-begin-requires-2
+    all-digits-requires
+    returns
+    returns-2
+    returns-3)
