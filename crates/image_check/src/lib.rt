@@ -61,7 +61,7 @@ pub fn all_empty(table: &[u8], at: usize, w: usize, m: usize) -> bool
 
 // ---- padded texts
 
-// The byte `y`, where the one before it is zero.
+// The byte `y` where `x` is zero; else zero.
 pub fn after_end(x: u8, y: u8) -> u8
     ensures { λ r. ⌜ r ≡ afterEnd x y ⌝ }
 {
