@@ -1,5 +1,5 @@
--- How a loop that keeps the best place so far meets its definition, which takes the greatest rank first and then the lowest place
--- that has it. Assumes nothing.
+-- The greatest rank of a list, and the lowest place that has it: what one entry more changes, and what a place that is found says.
+-- Assumes nothing.
 use Prim.Native.Nat.{ℕ, _+_, _<_, _≤_, max}
 use mathlib.Core.Path.{_≡_, refl, ap, sym, _∙_}
 use mathlib.Core.Bool.{Bool, true, false, not, cond, _&&_, _||_}
@@ -7,15 +7,14 @@ use mathlib.Core.Option.{Option, some}
 use mathlib.Core.List.{List, [], _∷_, _++_, map}
 use native.Mathlib.Numerals.{add-one}
 use native.Mathlib.Omega.{arith}
-use borrow.Author.Tests.{ltb-true, ltb-false, eq-eqb, ne-eqb, eqb-false}
+use borrow.Author.Tests.{ltb-true, ltb-false, lt-ltb, le-ltb, eqb-true, eq-eqb, ne-eqb, eqb-false, not-true}
 use lib.ListN.{length, getD, take}
-use lib.Seq.{take-suc, take-all, length-take-le}
+use lib.Seq.{take-suc, length-take-le}
 use lib.Dec.{ltb, eqb}
+use Rattle.octets.proofs.Strings.{and-left, and-right}
 use Rattle.server.specs.Lists.{any, up, find}
 use Rattle.server.specs.Table.{greatest}
-use Rattle.plans.specs.declared.Place.{Place}
-use Rattle.plans.specs.declared.Place.the-variants.{At}
-use Rattle.plans.specs.Values.{placed}
+use Rattle.outcomes.proofs.Searches.{found}
 
 neither : (a b : Bool) → a || b ≡ false → (a ≡ false) × (b ≡ false)
 neither true b e = let z : _≡_ {A = ℕ} 0 1 = cc in absurd (omega arith)
@@ -86,22 +85,36 @@ module _ {A : Type 0} (f : A → ℕ) where
           let e : top (l ++ (x ∷ [])) ≡ top l = top-more l x ∙ omega arith in
           ap (λ (m : ℕ). find (ranks m) (l ++ (x ∷ []))) e ∙ found-before (ranks (top l)) l x (not-above (top l) l x refl)
 
-  -- ---- a loop's turn, and its end
+  -- ---- one row more, and the last
 
-  module _ (l : List A) (i : ℕ) (d : A) (h : i < length l) (m k : ℕ) (em : m ≡ top (take i l)) (ek : k ≡ f (getD l i d)) where
-    pub top-turn : max m k ≡ top (take (i + 1) l)
-    top-turn = rw (add-one, take-suc l i d h, top-more (take i l) (getD l i d), em, ek)
+  module _ (l : List A) (i : ℕ) (d : A) (h : i < length l) (m : ℕ) (em : m ≡ top (take i l)) where
+    more : take (i + 1) l ≡ take i l ++ (getD l i d ∷ [])
+    more = rw (add-one) (take-suc l i d h)
 
-    pub best-turn : (o : Place) → o ≡ placed (best (take i l)) → cond (ltb m k) (At i) o ≡ placed (best (take (i + 1) l))
-    best-turn o e =
-        let n : length (take i l) ≡ i = length-take-le i l (omega arith) in
-        let b : best (take (i + 1) l) ≡ cond (ltb m k) (some i) (best (take i l)) =
-        rw (add-one, take-suc l i d h, em, ek) (best-more (take i l) (getD l i d) ∙ rw n) in
-        go (ltb m k) ∙ ap placed (sym b)
-      where
-        go : (b : Bool) → cond b (At i) o ≡ placed (cond b (some i) (best (take i l)))
-        go true = refl
-        go false = e
+    -- it is no better than the best so far
+    module _ (g : f (getD l i d) ≤ m) where
+      pub top-kept : m ≡ top (take (i + 1) l)
+      top-kept = rw more (omega (arith, top-more (take i l) (getD l i d)))
 
-  pub best-end : (l : List A) (i : ℕ) (o : Place) → length l ≤ i → o ≡ placed (best (take i l)) → o ≡ placed (best l)
-  best-end l i o h e = e ∙ ap (λ (x : List A). placed (best x)) (take-all i l h)
+      pub best-kept : best (take (i + 1) l) ≡ best (take i l)
+      best-kept = rw (more, best-more (take i l) (getD l i d), le-ltb (top (take i l)) (f (getD l i d)) (omega arith))
+
+    -- it is better
+    module _ (g : m < f (getD l i d)) where
+      pub top-rises : f (getD l i d) ≡ top (take (i + 1) l)
+      top-rises = rw more (omega (arith, top-more (take i l) (getD l i d)))
+
+      pub best-moves : best (take (i + 1) l) ≡ some i
+      best-moves =
+          rw (more, best-more (take i l) (getD l i d), lt-ltb (top (take i l)) (f (getD l i d)) (omega arith))
+          (ap some (length-take-le i l (omega arith)))
+
+  -- where there is a best entry, its rank is the greatest, and not 0
+  pub best-says : (d : A) (l : List A) (p : ℕ) → best l ≡ some p → (p < length l) × (f (getD l p d) ≡ top l) × (top l ≡ 0 → ⊥)
+  best-says d l p e =
+      let hit = found (ranks (top l)) d l (some p) e in
+      let z : not (eqb (top l) 0) ≡ true = and-left (not (eqb (top l) 0)) _ (hit .passes) in (
+        hit .inside,
+        eqb-true _ _ (and-right (not (eqb (top l) 0)) _ (hit .passes)),
+        eqb-false (top l) 0 (not-true (eqb (top l) 0) z),
+      )

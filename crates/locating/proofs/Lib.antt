@@ -1,2 +1,4 @@
 pub mod Greatest
 pub mod Rows
+pub mod Ranks
+pub mod Walk

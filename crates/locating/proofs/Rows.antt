@@ -1,5 +1,5 @@
 -- Rows by their columns: a search in the column of serials is the search among the rows, and since serials are distinct the job that a
--- connection holds is the one with its serial or none. And what a row is ranked by. Assumes nothing.
+-- connection holds is the one with its serial or none. Assumes nothing.
 use Prim.Native.Nat.{ℕ, suc, _+_, _-_, _*_, _<_}
 use mathlib.Core.Path.{_≡_, refl, sym, ap, _∙_}
 use mathlib.Core.Bool.{Bool, true, false, not, cond, _&&_, _||_}
@@ -152,22 +152,3 @@ module _ (b : Bytes) (sound : isSound 16 b ≡ true) where
         let n : length rs ≡ 32 = rows-long b in
         let one = find-narrow (numbered s) (λ r. eqb (r .holder) (suc c)) noRow rs p q (λ i h t. one-row s p i (omega (arith, hit .inside)) (omega arith) (hit .passes) t) in
         m ∙ rw (k, add-one) (sym (ap placed (held ∙ one) ∙ placed-if (eqb (getD rs p noRow .holder) (suc c)) p))
-
--- ---- by rank
-
-module _ (ables : List ℕ) (c : ℕ) (r : JobRow) (serial holder : ℕ) (es : serial ≡ r .serial) (eh : holder ≡ r .holder) where
-  pub rank-idle : eqb serial 0 || not (eqb holder 0) ≡ true → 0 ≡ rankIn ables c r
-  unfolding rankIn
-  rank-idle h = let q = skipped (eqb serial 0) (eqb holder 0) h in rw (← es, ← eh, q)
-
-  module _ (h : eqb serial 0 || not (eqb holder 0) ≡ false) (q s : ℕ) (able : Bool) (eq : q ≡ r .function) (ew : s ≡ getD ables q 0) (ea : able ≡ has s c) where
-    able-is : has (getD ables (r .function) 0) c ≡ able
-    able-is = rw (← eq, ← ew) (sym ea)
-
-    pub rank-unable : not able ≡ true → 0 ≡ rankIn ables c r
-    unfolding rankIn
-    rank-unable n = rw (able-is, not-true able n, and-false (not (eqb (r .serial) 0) && eqb (r .holder) 0))
-
-    pub rank-able : (priority : ℕ) → priority ≡ r .priority → not able ≡ false → priority * 4294967296 + (4294967296 - serial) ≡ rankIn ables c r
-    unfolding rankIn
-    rank-able priority ep n = let k = not-skipped (eqb serial 0) (eqb holder 0) h in rw (able-is, not-false able n, ep, ← es, ← eh, k)

@@ -1,17 +1,20 @@
 // Where a job lies in the lent table: the lowest free place, the job with a serial, the job with a serial that a connection holds, and
 // the job that a connection is given. Columns of numbers are searched, and of a row only what its test asks is read. An inner crate:
 // it asks for the table's 3,796 bytes, and `held_row` for a table that obeys the rules; an answer is a place or nowhere.
+mod queue;
+
 use plans::Place;
+use queue::Best;
 ghost use mathlib.Core.Path.{_≡_};
 ghost use mathlib.Core.Bool.{cond, true};
 ghost use mathlib.Core.Option.{some};
-ghost use Prim.Native.Nat.{_≤_, _<_, max};
+ghost use Prim.Native.Nat.{_≤_, _<_};
 ghost use lib.ListN.{length, getD};
 ghost use lib.Dec.{eqb};
 ghost use Rattle.server.specs.Lists.{find, numbers};
-ghost use Rattle.server.specs.Layout.{rowIn, tableOf};
+ghost use Rattle.server.specs.Layout.{tableOf};
 ghost use Rattle.server.specs.Call.{isSound};
-ghost use Rattle.plans.specs.Values.{ablesOf, bestRow, freeRow, heldRow, placed, rankIn, rowsOf, serialRow};
+ghost use Rattle.plans.specs.Values.{ablesOf, bestRow, freeRow, heldRow, placed, rowsOf, serialRow};
 
 // The lowest place where the number stands.
 fn lowest(column: &[u32; 32], x: u32) -> Place
@@ -72,48 +75,22 @@ fn either(new: bool, i: usize, before: Place) -> Place
     before
 }
 
-// The larger number.
-fn larger(a: u64, b: u64) -> u64
-    ensures { λ r. ⌜ r ≡ max a b ⌝ }
-{
-    if a < b {
-        return b;
-    }
-    a
-}
-
-// How soon connection c is given the job at place p, whose serial and holder these are: the greatest first, 0 never. Of a row that is
-// not queued nothing else is read.
-fn rank(table: &[u8], p: usize, serial: u32, holder: u16, c: usize) -> u64
-    requires { ⌜ (3796 ≤ length (now table)) × (p < 32) × (c < 16) × (serial ≡ rowIn (now table) p .serial) × (holder ≡ rowIn (now table) p .holder) ⌝ }
-    ensures { λ k. ⌜ k ≡ rankIn (ablesOf (tableOf 16 (now (table .entry)))) c (rowIn (now (table .entry)) p) ⌝ }
-{
-    if (serial == 0) | (holder != 0) {
-        return 0;
-    }
-    let function = octets::wide(table[516 + p]);
-    if !sets::has(rows::able_at(table, function as usize), c) {
-        return 0;
-    }
-    let priority = octets::wide(table[452 + p]);
-    priority as u64 * 4294967296 + (4294967296 - serial as u64)
-}
-
-// The place of the job that connection c is given: of the highest priority, then of the lowest serial.
+// The place of the job that connection c is given: of the highest priority, then of the lowest serial. One that can do nothing is given none.
 pub fn best_row(table: &[u8], c: usize) -> Place
     requires { ⌜ (3796 ≤ length (now table)) × (c < 16) ⌝ }
     ensures { λ p. ⌜ p ≡ placed (bestRow (ablesOf (tableOf 16 (now (table .entry)))) (rowsOf (tableOf 16 (now (table .entry)))) c) ⌝ }
 {
-    let serials = columns::fours(table, 68);
-    let holders = columns::twos(table, 388);
-    let mut place = Place::Nowhere;
-    let mut most: u64 = 0;
-    let mut i = 0;
-    while i < 32 {
-        let k = rank(table, i, serials[i], holders[i], c);
-        place = either(most < k, i, place);
-        most = larger(most, k);
-        i += 1;
+    if !sets::has(columns::joined(table, 4, 16), c) {
+        return Place::Nowhere;
     }
-    place
+    let mut v = Best {
+        place: Place::Nowhere,
+        rank: 0,
+    };
+    let mut p = 0;
+    while p < 32 {
+        v = queue::next_group(v, table, p, c);
+        p += 8;
+    }
+    v.place
 }

@@ -24,7 +24,8 @@ use Rattle.image_check.proofs.Places.{flag-at}
 use Rattle.row_check.specs.Rows.{rowsMean}
 use Rattle.number_check.specs.declared.Survey as S
 use Rattle.number_check.specs.Surveyed.{isHeld, heldBy, Surveyed}
-use Rattle.number_check.specs.Numbers.{Joined, ableIf, connectionHolds, connectionRules}
+use Rattle.passes.specs.Unions.{Joined}
+use Rattle.number_check.specs.Numbers.{ableIf, connectionHolds, connectionRules}
 use Rattle.number_check.proofs.Functions.{holder-small, held-live, busy-is}
 
 -- ---- one connection: open o, asleep a, with the option e, used u, busy w

@@ -22,7 +22,8 @@ use Rattle.image_check.proofs.Places.{empty-text}
 use Rattle.row_check.specs.Rows.{numbersMean, isAwaited, rowsMean}
 use Rattle.number_check.specs.declared.Survey as S
 use Rattle.number_check.specs.Surveyed.{queuedFor, grabbedFor, Surveyed}
-use Rattle.number_check.specs.Numbers.{Joined, ableIf, agrees, isDefined}
+use Rattle.passes.specs.Unions.{Joined}
+use Rattle.number_check.specs.Numbers.{ableIf, agrees, isDefined}
 
 module _ (b : Bytes) (rows : rowsMean b ≡ true) where
   -- ---- what each row says by itself

@@ -1,13 +1,12 @@
 -- The rules of numbers that belong together, and the tests that show them. Assumes nothing.
-use Prim.Native.Nat.{ℕ, _+_, _*_, _<_}
-use mathlib.Core.Path.{_≡_}
+use Prim.Native.Nat.{ℕ, _+_, _*_}
 use mathlib.Core.Bool.{Bool, not, cond, _&&_, _||_}
 use mathlib.Core.List.{List}
 use lib.ListN.{getD}
 use lib.Dec.{eqb, leb}
 use Rattle.octets.specs.Bytes.{Bytes}
 use Rattle.sets.specs.Sets.{has}
-use Rattle.server.specs.Lists.{any, all, numbers}
+use Rattle.server.specs.Lists.{all, numbers}
 use Rattle.server.specs.Layout.{functionIn, rowIn, tableOf}
 use Rattle.server.specs.Rules.{serialsBelow, serialsDistinct, functionsAsDefined, abilitiesOpen, listenersOpen, holdersOpen, closedClear, sleepersIdle}
 use Rattle.number_check.specs.Surveyed.{freeOrJob}
@@ -38,10 +37,6 @@ abbrev pub apartAt : List ℕ → ℕ → ℕ → Bool
 apartAt w d k = eqb (getD w k 0) 0 || not (eqb (getD w k 0) (getD w (k + d) 0))
 
 -- ---- sets
-
--- s is the union of f 0 .. f (n - 1)
-abbrev pub Joined : (ℕ → ℕ) → ℕ → ℕ → Type 0
-Joined f n s = (c : ℕ) → has s c ≡ any (λ k. has (f k) c) (numbers 0 n)
 
 abbrev pub ableIf : Bytes → ℕ → ℕ → ℕ
 ableIf b queued q = cond (has queued q) (functionIn b q .able) 0

@@ -3,18 +3,19 @@
 // passes over free ones gathers the sets that these rules speak of; a rule of all jobs is then one of a set.
 ghost use mathlib.Core.Path.{_≡_};
 ghost use mathlib.Core.Bool.{cond, true, _&&_};
-ghost use Prim.Native.Nat.{ℕ, _+_, _*_, _<_, _≤_};
+ghost use Prim.Native.Nat.{_+_, _<_, _≤_};
 ghost use lib.ListN.{length, getD};
 ghost use lib.Dec.{ltb};
 ghost use Rattle.sets.specs.Sets.{has};
 ghost use Rattle.server.specs.Lists.{all, numbers};
-ghost use Rattle.server.specs.Layout.{functionIn, littleAt, rowIn, tableOf};
+ghost use Rattle.server.specs.Layout.{functionIn, rowIn, tableOf};
 ghost use Rattle.server.specs.Rules.{functionsAsDefined, serialsBelow, serialsDistinct};
 ghost use Rattle.table_bytes.specs.Tests.{areFlags};
 ghost use Rattle.passes.specs.Arrays.{Twice};
+ghost use Rattle.passes.specs.Unions.{Joined};
 ghost use Rattle.row_check.specs.Rows.{rowsMean};
 ghost use Rattle.number_check.specs.Surveyed.{Surveyed, withFree, withJob};
-ghost use Rattle.number_check.specs.Numbers.{Joined, ableIf, agrees, apartAt, connectionHolds, connectionRules, isDefined, numberRules, serialBelow, serialIn};
+ghost use Rattle.number_check.specs.Numbers.{ableIf, agrees, apartAt, connectionHolds, connectionRules, isDefined, numberRules, serialBelow, serialIn};
 
 // ---- one walk over the rows
 
@@ -217,20 +218,6 @@ fn serials_hold(table: &[u8], v: Survey) -> bool
 
 // ---- connections and functions
 
-// The union of the `n` sets from `at` on.
-fn joined(table: &[u8], at: usize, n: usize) -> u32
-    requires { ⌜ at + 4 * n ≤ length (now table) ⌝ }
-    ensures { λ r. ⌜ Joined (λ k. littleAt 4 (now (table .entry)) (at + 4 * k)) n r ⌝ }
-{
-    let mut s = 0;
-    let mut i = 0;
-    while i < n {
-        s = sets::union(s, little::number4(table, at + 4 * i));
-        i += 1;
-    }
-    s
-}
-
 // The set, if the function is one of a queued job.
 fn able_if(queued: bool, able: u32) -> u32
     ensures { λ r. ⌜ r ≡ cond queued able 0 ⌝ }
@@ -298,8 +285,8 @@ fn sets_hold(table: &[u8], v: Survey) -> bool
     requires { ⌜ (3796 ≤ length (now table)) × (areFlags 48 (now table) 3748 ≡ true) × (rowsMean (now table) ≡ true) × Surveyed (now table) 32 v ⌝ }
     ensures { λ r. ⌜ r ≡ connectionRules (now (table .entry)) && functionsAsDefined (tableOf 16 (now (table .entry))) ⌝ }
 {
-    let listening = joined(table, 196, 32);
-    let able = joined(table, 4, 16);
+    let listening = columns::joined(table, 196, 32);
+    let able = columns::joined(table, 4, 16);
     let used = sets::union(sets::union(listening, able), v.holding);
     let busy_ones = busy(table, v.queued);
     if connections_hold(table, used, busy_ones) {

@@ -7,7 +7,8 @@ use mathlib.Core.Path.{_≡_, refl, ap, ap₂, _∙_}
 use native.Mathlib.Omega.{arith}
 use Rattle.sets.proofs.Laws.{zero-has}
 use Rattle.passes.proofs.Unions.{joins-on, joins-end}
-use Rattle.number_check.specs.Numbers.{Joined, ableIf}
+use Rattle.passes.specs.Unions.{Joined}
+use Rattle.number_check.specs.Numbers.{ableIf}
 use borrow.Author.Needs.{needs}
 use Rattle.number_check.proofs.busy.Statement.{statement}
 use Rattle.number_check.proofs.busy.Tie as tie

@@ -1,4 +1,4 @@
--- `number_check::joined` meets its contract. The invariant: the set is the union of the sets passed. Assumes nothing.
+-- `columns::joined` meets its contract. The invariant: the set is the union of the sets passed. Assumes nothing.
 use Rattle.sets.specs.Sets.{has}
 use denote.Ref.{now}
 use Prim.Native.Nat.{_≤_, _+_, _-_, _*_, ℕ}
@@ -7,10 +7,10 @@ use native.Mathlib.Omega.{arith}
 use Rattle.sets.proofs.Laws.{zero-has}
 use Rattle.server.specs.Layout.{littleAt}
 use Rattle.passes.proofs.Unions.{joins-on, joins-end}
-use Rattle.number_check.specs.Numbers.{Joined}
+use Rattle.passes.specs.Unions.{Joined}
 use borrow.Author.Needs.{needs}
-use Rattle.number_check.proofs.joined.Statement.{statement}
-use Rattle.number_check.proofs.joined.Tie as tie
+use Rattle.columns.proofs.joined.Statement.{statement}
+use Rattle.columns.proofs.joined.Tie as tie
 
 abbrev Inv-loop : tie.InvT-loop
 Inv-loop table at n s₀ i₀ s i = (i ≤ n) × Joined (λ k. littleAt 4 table (at + 4 * k)) i s
