@@ -1,6 +1,6 @@
 // Where a job lies in the lent table: the lowest free place, the job with a serial, the job with a serial that a connection holds, and
-// the job that a connection is given. Columns of numbers are searched, and of a row only what its test asks is read. An inner crate:
-// it asks for the table's 3,796 bytes, and `held_row` for a table that obeys the rules; an answer is a place or nowhere.
+// the job that a connection is given (`queue`). The column of serials is searched, and of a row only what its test asks is read. An inner
+// crate: it asks for the table's 3,796 bytes, and `held_row` for a table that obeys the rules; an answer is a place or nowhere.
 mod queue;
 
 use plans::Place;
@@ -75,7 +75,8 @@ fn either(new: bool, i: usize, before: Place) -> Place
     before
 }
 
-// The place of the job that connection c is given: of the highest priority, then of the lowest serial. One that can do nothing is given none.
+// The place of the job that connection c is given: of the highest priority, then of the lowest serial. A connection that can do nothing is
+// given none, and no row is looked at.
 pub fn best_row(table: &[u8], c: usize) -> Place
     requires { ⌜ (3796 ≤ length (now table)) × (c < 16) ⌝ }
     ensures { λ p. ⌜ p ≡ placed (bestRow (ablesOf (tableOf 16 (now (table .entry)))) (rowsOf (tableOf 16 (now (table .entry)))) c) ⌝ }
