@@ -7,7 +7,7 @@ mod packets;
 use crate::event::Event;
 use crate::packet::Side;
 use crate::random::Random;
-use crate::server::{Server, CONNECTIONS};
+use crate::server::{Server, CONNECTIONS, JOBS};
 use crate::state::has;
 use crate::text::Text;
 
@@ -23,9 +23,10 @@ enum Mood {
     Damaging,
     Idle,
     Forgetting,
+    Grabbing,
 }
 
-const MOODS: [Mood; 11] = [
+const MOODS: [Mood; 13] = [
     Mood::Mixed,
     Mood::Mixed,
     Mood::Filling,
@@ -36,15 +37,22 @@ const MOODS: [Mood; 11] = [
     Mood::Damaging,
     Mood::Idle,
     Mood::Idle,
+    Mood::Idle,
     Mood::Forgetting,
+    Mood::Grabbing,
 ];
 
 pub const SUBMISSIONS: [u32; 6] = [7, 18, 21, 32, 33, 34];
+/// All of them, high priority more often: such jobs are grabbed first, and several must wait for a choice among them.
+const MANY_HIGH: [u32; 8] = [7, 18, 21, 21, 32, 32, 33, 34];
+const ENDINGS: [u32; 3] = [13, 14, 25];
 const WORKER_PACKETS: [u32; 6] = [12, 13, 14, 25, 28, 29];
 const SERVED: [u32; 21] = [1, 2, 3, 4, 7, 9, 12, 13, 14, 15, 16, 18, 21, 25, 26, 28, 29, 30, 32, 33, 34];
 /// Types that no connection may send, some of them with the low byte or the low half of a served type.
 const NOT_SERVED: [u32; 20] =
     [0, 5, 6, 8, 10, 11, 17, 19, 20, 22, 23, 24, 27, 31, 35, 36, 37, 0x107, 0x0100_0007, u32::MAX];
+/// How many events at the end of a stretch of grabs empty the queue.
+const EMPTYING: usize = 80;
 const BEYOND: [u32; 7] = [16, 17, 255, 256, 65_536, 0x8000_0000, u32::MAX];
 
 pub struct History {
@@ -146,8 +154,13 @@ impl History {
         if self.mood == Mood::Idle {
             self.connections = *self.random.pick(&[4, 8, 16]);
         }
-        if self.mood == Mood::Filling {
+        if matches!(self.mood, Mood::Filling | Mood::Grabbing) {
             self.uniques = 40;
+        }
+        if self.mood == Mood::Grabbing {
+            self.functions = *self.random.pick(&[2, 3, 5, 16]);
+            self.connections = *self.random.pick(&[8, 16]);
+            self.left += EMPTYING + 40;
         }
     }
 
@@ -213,6 +226,7 @@ impl History {
             (Mood::Idle, 0..=84) => self.idle_kind(server),
             // Few can do a function, and they give it up while they hold its jobs.
             (Mood::Forgetting, 0..=84) => *self.random.pick(&[1, 1, 1, 2, 2, 2, 7, 18, 9, 30, 13, 14, 25]),
+            (Mood::Grabbing, 0..=89) => self.grabbing_kind(server),
             (Mood::Learning, 0..=49) => 1,
             (Mood::Learning, 50..=54) => *self.random.pick(&[2, 3]),
             (_, 70..=79) => *self.random.pick(&SUBMISSIONS),
@@ -233,11 +247,29 @@ impl History {
         match self.random.below(20) {
             0..=9 if grabbable => *self.random.pick(&[9, 30]),
             0..=9 => 4,
-            10..=12 if held => *self.random.pick(&[13, 14, 25]),
+            10..=12 if held => *self.random.pick(&ENDINGS),
             10..=13 => 1,
             14..=17 => *self.random.pick(&SUBMISSIONS),
             18 => 2,
             _ => 26,
+        }
+    }
+
+    /// Some two dozen jobs wait, of every priority. Workers of different abilities grab and end what they hold, so that
+    /// new jobs take any place. At the end of the stretch few jobs come or end until all are grabbed.
+    fn grabbing_kind(&mut self, server: &Server) -> u32 {
+        const LONG: usize = 24;
+        let jobs = server.jobs.iter().flatten().count();
+        let held = server.jobs.iter().flatten().filter(|job| job.holder.is_some()).count();
+        match self.random.below(20) {
+            0..=16 if self.left < EMPTYING => *self.random.pick(&[1, 9, 9, 30, 30]),
+            // Held jobs must leave room for a long queue.
+            0..=16 if held > JOBS - LONG => *self.random.pick(&ENDINGS),
+            0..=14 if jobs - held < LONG => *self.random.pick(&MANY_HIGH),
+            0..=5 => *self.random.pick(&[9, 30]),
+            6..=9 => *self.random.pick(&MANY_HIGH),
+            10..=17 => *self.random.pick(&ENDINGS),
+            _ => *self.random.pick(&[1, 1, 1, 1, 2, 3]),
         }
     }
 }

@@ -1,6 +1,8 @@
 //! What `bench` runs: for each case the packets that lead to a state, then events that keep the server near it.
 #![forbid(unsafe_code)]
 
+pub mod grabs;
+
 use crate::handle;
 use crate::histories::request;
 use crate::random::Random;

@@ -1,9 +1,10 @@
-//! Fixed histories for what random ones meet too rarely: the example, the largest output, full queues, all asleep.
+//! Fixed histories for what random ones meet too rarely: the example, the largest output, full queues, all asleep, grabs
+//! of a whole queue in order.
 #![forbid(unsafe_code)]
 
 use crate::event::Event;
 use crate::handle;
-use crate::histories::request;
+use crate::histories::{request, SUBMISSIONS};
 use crate::server::{CONNECTIONS, FUNCTIONS, JOBS};
 
 pub struct Script {
@@ -23,6 +24,7 @@ pub fn all() -> Vec<Script> {
         holder_of_all_leaves(),
         client_of_all_leaves(),
         sizes(),
+        priorities(),
     ]
 }
 
@@ -183,4 +185,36 @@ fn sizes() -> Script {
         events.push(packet(0, 16, &[&vec![0; length]]));
     }
     Script { name: "sizes", last_serial: 0, events }
+}
+
+/// Connection 1 can do `f`, connection 2 can do `g`, and connection 3 nothing. A grab gives the highest priority, then
+/// the lowest serial, wherever the jobs stand and whoever could do a better one.
+fn priorities() -> Script {
+    let mut events = open_all();
+    let submit = |kind: u32, function: &[u8]| packet(0, kind, &[function, b"", b"w"]);
+    let grab = |worker: usize| packet(worker, 9, &[]);
+    events.extend([packet(1, 1, &[b"f"]), packet(2, 1, &[b"g"]), grab(1)]);
+    // A high job after a normal one; then both are held, and nothing is queued.
+    events.extend([submit(7, b"f"), submit(21, b"f"), grab(3), grab(1), grab(1), grab(1), ended(1, 1), ended(1, 2)]);
+    // A high job at place 1, then one at place 0, which another job has left.
+    events.extend([submit(7, b"g"), submit(21, b"f"), grab(2), ended(2, 3), submit(32, b"f"), grab(1), grab(1)]);
+    // The best job is for connection 2 only.
+    events.extend([submit(21, b"g"), submit(33, b"f"), grab(1), grab(2)]);
+    events.extend([ended(1, 4), ended(1, 5), ended(2, 6), ended(1, 7)]);
+    // 32 alike: all queued, then 31 queued and one held, and so on.
+    events.extend((0..JOBS).map(|_| submit(18, b"f")));
+    events.extend((0..JOBS).map(|_| grab(1)));
+    // They end in another order, so that the serials of the next 32, of all priorities, do not follow the places.
+    for index in 0..JOBS {
+        events.push(ended(1, 8 + (index * 11 % JOBS) as u32));
+        events.push(submit(SUBMISSIONS[index % SUBMISSIONS.len()], b"f"));
+    }
+    events.push(grab(3));
+    events.extend((0..=JOBS).map(|index| packet(1, [9, 30][index % 2], &[])));
+    Script { name: "priorities", last_serial: 0, events }
+}
+
+/// The worker ends the job with this serial.
+fn ended(worker: usize, serial: u32) -> Event {
+    packet(worker, 13, &[handle::print(serial).bytes(), b"r"])
 }

@@ -17,7 +17,9 @@ enum fault {
     TABLE_WRITTEN_PAST_THE_LAYOUT,
     SLEEPER_KEPT_ASLEEP,
     WORKLOAD_OF_AN_ENDED_JOB_KEPT,
-    FRESH_KEEPS_THE_LAST_WORKLOAD
+    FRESH_KEEPS_THE_LAST_WORKLOAD,
+    GRAB_STOPS_AT_THE_FIRST_HIGH_JOB,
+    GRAB_STOPS_AT_THE_FIRST_JOB
 };
 
 #define LENT \
@@ -29,8 +31,9 @@ uint32_t core_open(LENT, uint32_t connection, uint32_t *length);
 uint32_t core_close(LENT, uint32_t connection, uint32_t *length);
 uint32_t core_packet(LENT, uint32_t connection, const uint8_t *packet, size_t packet_len, uint32_t *length);
 
-/* Where the table holds the serials and who sleeps: docs/TABLE.md. */
-enum { SERIALS = 68, ASLEEP = 3764, JOBS = 32, PLACE = 1024 };
+/* Where the table holds what the faults look at: docs/TABLE.md. */
+enum { ABLE = 4, SERIALS = 68, HOLDERS = 388, PRIORITIES = 452, FUNCTIONS = 516, ASLEEP = 3764 };
+enum { JOBS = 32, PLACE = 1024, HIGH = 2 };
 
 /* Table, workloads and length as they were before the call. */
 static uint8_t old_table[LAP_TABLE_BYTES];
@@ -53,15 +56,63 @@ static void remember(LENT, const uint32_t *length) {
     old_length = *length;
 }
 
+static int is_free(const uint8_t *table, int p) {
+    static const uint8_t none[4];
+    return memcmp(table + SERIALS + 4 * p, none, 4) == 0;
+}
+
 /* The workload of each job that the call ended is as it was. */
 static void keep_ended_workloads(const uint8_t *table, uint8_t *workloads) {
-    static const uint8_t none[4];
     for (int p = 0; p < JOBS; p++) {
-        int serial = SERIALS + 4 * p;
-        if (memcmp(old_table + serial, none, 4) != 0 && memcmp(table + serial, none, 4) == 0) {
+        if (!is_free(old_table, p) && is_free(table, p)) {
             memcpy(workloads + PLACE * p, old_workloads + PLACE * p, PLACE);
         }
     }
+}
+
+/*
+ * The packet is a grab that will be done: one of two packets, the connection open and nothing wrong with what is lent,
+ * or else a packet of no bytes, which changes nothing, would be refused by a lower number.
+ */
+static int is_grab(LENT, uint32_t connection, const uint8_t *packet, size_t packet_len) {
+    static const uint8_t grabs[2][12] = {{0, 'R', 'E', 'Q', 0, 0, 0, 9}, {0, 'R', 'E', 'Q', 0, 0, 0, 30}};
+    uint32_t length;
+    return packet_len == 12 && (memcmp(packet, grabs[0], 12) == 0 || memcmp(packet, grabs[1], 12) == 0) &&
+           core_packet(PASSED, connection, packet, 0, &length) == LAP_SHORT_PACKET;
+}
+
+/* The job is queued, and the connection can do it. */
+static int is_grabbable(const uint8_t *table, int p, uint32_t connection) {
+    const uint8_t *able = table + ABLE + 4 * table[FUNCTIONS + p];
+    return !is_free(table, p) && table[HOLDERS + 2 * p] == 0 && (able[connection / 8] >> connection % 8 & 1) != 0;
+}
+
+/* Where a grab stops that goes up the places: at the first job of this priority or a higher one. JOBS: nowhere. */
+static int stop(const uint8_t *table, uint32_t connection, int priority) {
+    int p = 0;
+    while (p < JOBS && !(is_grabbable(table, p, connection) && table[PRIORITIES + p] >= priority)) {
+        p++;
+    }
+    return p;
+}
+
+/* If the grab stops somewhere, it finds that job alone: as long as it lasts, its sender holds the others. */
+static uint32_t stopping_grab(LENT, uint32_t connection, const uint8_t *packet, size_t packet_len, uint32_t *length) {
+    int found = stop(table, connection, fault() == GRAB_STOPS_AT_THE_FIRST_HIGH_JOB ? HIGH : 0);
+    int hidden[JOBS] = {0};
+    for (int p = 0; p < JOBS; p++) {
+        if (found != JOBS && p != found && is_grabbable(table, p, connection)) {
+            hidden[p] = 1;
+            table[HOLDERS + 2 * p] = connection + 1;
+        }
+    }
+    uint32_t number = core_packet(PASSED, connection, packet, packet_len, length);
+    for (int p = 0; p < JOBS; p++) {
+        if (hidden[p]) {
+            table[HOLDERS + 2 * p] = 0;
+        }
+    }
+    return number;
 }
 
 /* The fault in what the call has left. */
@@ -133,5 +184,9 @@ uint32_t lap_close(LENT, uint32_t connection, uint32_t *length) {
 
 uint32_t lap_packet(LENT, uint32_t connection, const uint8_t *packet, size_t packet_len, uint32_t *length) {
     remember(PASSED, length);
+    int stops = fault() == GRAB_STOPS_AT_THE_FIRST_HIGH_JOB || fault() == GRAB_STOPS_AT_THE_FIRST_JOB;
+    if (stops && is_grab(PASSED, connection, packet, packet_len)) {
+        return stopping_grab(PASSED, connection, packet, packet_len, length);
+    }
     return spoil(PASSED, core_packet(PASSED, connection_taken(connection), packet, packet_len, length), length);
 }

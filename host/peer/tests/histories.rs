@@ -1,8 +1,12 @@
-//! The random histories reach what they are for: every number, every request done, every type sent, joins and sleep.
+//! The random histories reach what they are for: every number, every request done, every type sent, joins, sleep and
+//! grabs among many jobs.
+mod common;
+use common::grab::Grab;
 use peer::event::Event;
 use peer::histories::{History, SUBMISSIONS};
 use peer::outbox::Outbox;
 use peer::server::Server;
+use peer::state::has;
 use std::collections::BTreeMap;
 
 #[test]
@@ -80,8 +84,39 @@ fn telling(event: &Event, before: &Server, after: &Server, out: &Outbox) -> Vec<
     found.into_iter().filter(|(holds, _)| *holds).map(|(_, what)| what).collect()
 }
 
-#[test]
-fn histories_are_rich_in_sleepers() {
+/// What a grab met, if a search that compares too little or stops too early could go wrong there.
+fn telling_grab(event: &Event, before: &Server, after: &Server, _: &Outbox) -> Vec<&'static str> {
+    let Event::Packet(connection, packet) = event else { return vec![] };
+    if ![9, 30].contains(&packet[7]) {
+        return vec![];
+    }
+    let sender = *connection as usize;
+    let grab = Grab::new(before, after, sender);
+    let queued = grab.queued.len();
+    let mut found = vec![(queued > 24, "more than 24 queued")];
+    if let (Some((place, job)), Some((_, best))) = (grab.given, grab.best()) {
+        let high_before = grab.able.iter().any(|(other, job)| *other < place && job.priority == 2);
+        let able = before.able(best.function);
+        found.extend([
+            (place != grab.queued[0].0, "not the first queued job by place"),
+            (place != grab.able[0].0, "not the first job by place that it can do"),
+            (job.priority == 2 && high_before, "not the first high job by place that it can do"),
+            (able != 0 && !has(able, sender), "the best job can be done by others only"),
+            (job.priority == 0, "a low job"),
+        ]);
+    } else {
+        let unable = before.functions.iter().flatten().all(|known| !has(known.able, sender));
+        found.extend([
+            (queued > 0, "NO_JOB though jobs are queued"),
+            (queued > 0 && unable, "NO_JOB without abilities though jobs are queued"),
+            (queued == 0 && grab.held > 0, "NO_JOB with held jobs only"),
+        ]);
+    }
+    found.into_iter().filter(|(holds, _)| *holds).map(|(_, what)| what).collect()
+}
+
+/// Over 30 histories the events that are done show so many different things to `look`, each at least 40 times.
+fn rich_in(kinds: usize, look: fn(&Event, &Server, &Server, &Outbox) -> Vec<&'static str>) {
     let mut out = Outbox::default();
     let mut counts = BTreeMap::new();
     for seed in 1..=30 {
@@ -91,15 +126,25 @@ fn histories_are_rich_in_sleepers() {
             let event = history.next(&server);
             let before = server.clone();
             if event.run(&mut server, &mut out) == 0 {
-                for what in telling(&event, &before, &server, &out) {
+                for what in look(&event, &before, &server, &out) {
                     *counts.entry(what).or_insert(0) += 1;
                 }
             }
         }
     }
     println!("{counts:?}");
-    assert_eq!(counts.len(), 9, "{counts:?}");
+    assert_eq!(counts.len(), kinds, "{counts:?}");
     assert!(counts.values().all(|&count| count >= 40), "{counts:?}");
+}
+
+#[test]
+fn histories_are_rich_in_sleepers() {
+    rich_in(9, telling);
+}
+
+#[test]
+fn histories_are_rich_in_telling_grabs() {
+    rich_in(9, telling_grab);
 }
 
 #[test]

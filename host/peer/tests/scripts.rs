@@ -1,13 +1,15 @@
 //! The fixed histories do what they are named for.
+use peer::handle;
 use peer::image::image;
 use peer::layout::OUTPUT;
 use peer::outbox::Outbox;
 use peer::rules::broken;
 use peer::scripts;
 use peer::server::Server;
+use std::cmp::Reverse;
 
-/// Runs a script; gives the numbers, the lengths of the outputs, and the last state.
-fn run(name: &str) -> (Vec<u32>, Vec<usize>, Server) {
+/// Runs a script; gives what `look` sees of each answer, and the last state.
+fn run_with<T>(name: &str, look: fn(u32, &Outbox) -> T) -> (Vec<T>, Server) {
     let all = scripts::all();
     let script = all.iter().find(|script| script.name == name).unwrap();
     let mut server = Server { last_serial: script.last_serial, ..Server::new() };
@@ -15,11 +17,27 @@ fn run(name: &str) -> (Vec<u32>, Vec<usize>, Server) {
     let mut answers = Vec::new();
     for event in &script.events {
         let number = event.run(&mut server, &mut out);
-        answers.push((number, out.bytes().len()));
+        answers.push(look(number, &out));
         assert_eq!(broken(&image(&server)), Vec::<&str>::new());
     }
+    (answers, server)
+}
+
+/// Runs a script; gives the numbers, the lengths of the outputs, and the last state.
+fn run(name: &str) -> (Vec<u32>, Vec<usize>, Server) {
+    let (answers, server) = run_with(name, |number, out| (number, out.bytes().len()));
     let (numbers, lengths) = answers.into_iter().unzip();
     (numbers, lengths, server)
+}
+
+/// The serial of the job that a grab gave, 0 for NO_JOB; nothing if the packets are no answer to a grab.
+fn given(_: u32, out: &Outbox) -> Option<u32> {
+    let packet = out.addressed().next()?;
+    match packet[8] {
+        10 => Some(0),
+        11 | 31 => handle::read(packet[13..].split(|&byte| byte == 0).next()?),
+        _ => None,
+    }
 }
 
 #[test]
@@ -69,4 +87,21 @@ fn leaving_returns_drops_and_forgets() {
     assert_eq!(server.functions[0].unwrap().name.bytes(), b"again");
     assert_eq!(server.functions.iter().flatten().count(), 1);
     assert!(server.workloads.iter().all(|&byte| byte == 0));
+}
+
+#[test]
+fn a_whole_queue_is_given_out_in_order() {
+    let (numbers, _, server) = run("priorities");
+    assert!(numbers.iter().all(|&number| number == 0));
+    let (answers, _) = run_with("priorities", given);
+    let grabbed: Vec<u32> = answers.into_iter().flatten().collect();
+    // NO_JOB with no job, without abilities and with held jobs only; the rest by priority, serial and ability.
+    assert_eq!(grabbed[..10], [0, 0, 2, 1, 0, 3, 4, 5, 7, 6]);
+    assert!(grabbed[10..42].iter().copied().eq(8..40));
+    let mut jobs: Vec<_> = server.jobs.iter().flatten().collect();
+    let by_place: Vec<u32> = jobs.iter().map(|job| job.serial).collect();
+    jobs.sort_by_key(|job| (Reverse(job.priority), job.serial));
+    let in_order: Vec<u32> = jobs.iter().map(|job| job.serial).collect();
+    assert!(in_order.len() == 32 && in_order[0] == 42 && by_place[22] == 42 && by_place[1] == 43);
+    assert_eq!(grabbed[42..], [&[0], &in_order[..], &[0]].concat());
 }

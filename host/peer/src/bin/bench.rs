@@ -1,10 +1,11 @@
-//! Nanoseconds an event for submit, grab and complete: the core's archive beside the ordinary server, in one run.
+//! Nanoseconds an event for submit, grab and complete, then for grabs alone from different queues: the core's archive
+//! beside the ordinary server, in one run.
 //! usage: bench [--rounds N] [--events N]. The sides take turns; only numbers of one run should be compared. With the
 //! feature `before` an older archive takes its turn as well (host/bench.sh).
 #![forbid(unsafe_code)]
 
 use peer::archive;
-use peer::load::{self, Case, COMPLETE, GRAB, SUBMIT};
+use peer::load::{self, grabs, Case, COMPLETE, GRAB, SUBMIT};
 use peer::options;
 use peer::sides::{clears, Archive, Plain, Side};
 use std::hint::black_box;
@@ -16,6 +17,9 @@ const ROUNDS: u64 = 20;
 const EVENTS: u64 = 100_002;
 const KINDS: [&str; 4] = ["submit", "grab", "complete", "all three"];
 const ALL: usize = 3;
+/// Which times are printed of a case in each of the two parts.
+const ALL_KINDS: [usize; 4] = [SUBMIT, GRAB, COMPLETE, ALL];
+const GRABS_ALONE: [usize; 1] = [GRAB];
 
 /// The sides in the order of the columns.
 struct Sides {
@@ -44,12 +48,28 @@ impl Sides {
     }
 
     /// One round of one side, by its column.
-    fn measure(&mut self, column: usize, case: &Case, clock: f64) -> [f64; 4] {
+    fn measure(&mut self, column: usize, case: &Case, kinds: &[usize], clock: f64) -> [f64; 4] {
         match (column, &mut self.before) {
-            (0, _) => measure(case, &mut self.archive, clock),
-            (1, Some(before)) => measure(case, before, clock),
-            _ => measure(case, &mut self.plain, clock),
+            (0, _) => measure(case, kinds, &mut self.archive, clock),
+            (1, Some(before)) => measure(case, kinds, before, clock),
+            _ => measure(case, kinds, &mut self.plain, clock),
         }
+    }
+
+    /// So many rounds of each side, by columns. The side that goes first changes from round to round.
+    fn rounds(&mut self, rounds: usize, case: &Case, kinds: &[usize], clock: f64) -> Vec<Times> {
+        let columns = self.names().len();
+        let mut times: Vec<Times> = vec![Times::default(); columns];
+        for round in 0..rounds {
+            for turn in 0..columns {
+                let column = (round + turn) % columns;
+                let measured = self.measure(column, case, kinds, clock);
+                for (kind, time) in measured.into_iter().enumerate() {
+                    times[column][kind].push(time);
+                }
+            }
+        }
+        times
     }
 }
 
@@ -83,25 +103,15 @@ fn bench(rounds: usize, events: usize) -> Result<(), String> {
         "nanoseconds an event, minimum and median of {rounds} rounds of {events} events; ratios to the plain server"
     );
     println!("{}", memory(&mut sides));
-    heading(&sides);
-    for case in load::cases(events) {
-        same(&case, &mut sides.archive, &mut sides.plain).map_err(|text| format!("{}: {text}", case.name))?;
-        if let Some(before) = &mut sides.before {
-            same(&case, before, &mut sides.plain).map_err(|text| format!("{}, before: {text}", case.name))?;
+    let parts: [(&str, Vec<Case>, &[usize]); 2] =
+        [("case", load::cases(events), &ALL_KINDS), ("grabs alone", grabs::cases(events), &GRABS_ALONE)];
+    for (name, cases, kinds) in parts {
+        heading(name, &sides);
+        for case in cases {
+            all_same(&case, &mut sides)?;
+            let mut times = sides.rounds(rounds, &case, kinds, clock);
+            report(&case, kinds, &mut times);
         }
-        let columns = sides.names().len();
-        let mut times: Vec<Times> = vec![Times::default(); columns];
-        for round in 0..rounds {
-            // The side that goes first changes from round to round.
-            for turn in 0..columns {
-                let column = (round + turn) % columns;
-                let measured = sides.measure(column, &case, clock);
-                for (kind, time) in measured.into_iter().enumerate() {
-                    times[column][kind].push(time);
-                }
-            }
-        }
-        report(&case, &mut times);
     }
     Ok(())
 }
@@ -120,16 +130,16 @@ fn memory(sides: &mut Sides) -> String {
     )
 }
 
-fn heading(sides: &Sides) {
+fn heading(part: &str, sides: &Sides) {
     let names = sides.names();
-    let mut line = format!("{:<42} {:<10}", "case", "event");
+    let mut line = format!("{part:<42} {:<10}", "event");
     names.iter().for_each(|name| line += &format!(" {name:>15}"));
     names[..names.len() - 1].iter().for_each(|name| line += &format!(" {:>13}", format!("{name}/plain")));
     println!("{line}");
 }
 
-fn report(case: &Case, times: &mut [Times]) {
-    for kind in 0..KINDS.len() {
+fn report(case: &Case, kinds: &[usize], times: &mut [Times]) {
+    for (index, &kind) in kinds.iter().enumerate() {
         let found: Vec<(f64, f64)> = times
             .iter_mut()
             .map(|times| {
@@ -137,7 +147,7 @@ fn report(case: &Case, times: &mut [Times]) {
                 (times[kind][0], times[kind][times[kind].len() / 2])
             })
             .collect();
-        let mut line = format!("{:<42} {:<10}", if kind == 0 { case.name } else { "" }, KINDS[kind]);
+        let mut line = format!("{:<42} {:<10}", if index == 0 { case.name } else { "" }, KINDS[kind]);
         found.iter().for_each(|(least, median)| line += &format!(" {least:>7.0} {median:>7.0}"));
         let (plain, archives) = found.split_last().expect("the plain server is there");
         archives.iter().for_each(|times| line += &format!(" {:>6.2} {:>6.2}", times.0 / plain.0, times.1 / plain.1));
@@ -145,7 +155,15 @@ fn report(case: &Case, times: &mut [Times]) {
     }
 }
 
-/// Both sides must do every step and write the same bytes, or else the times say nothing.
+/// Each archive must do every step and write what the ordinary server writes, or else the times say nothing.
+fn all_same(case: &Case, sides: &mut Sides) -> Result<(), String> {
+    same(case, &mut sides.archive, &mut sides.plain).map_err(|text| format!("{}: {text}", case.name))?;
+    match &mut sides.before {
+        Some(before) => same(case, before, &mut sides.plain).map_err(|text| format!("{}, before: {text}", case.name)),
+        None => Ok(()),
+    }
+}
+
 fn same(case: &Case, archive: &mut Archive, plain: &mut Plain) -> Result<(), String> {
     archive.reset();
     plain.reset();
@@ -159,15 +177,18 @@ fn same(case: &Case, archive: &mut Archive, plain: &mut Plain) -> Result<(), Str
     Ok(())
 }
 
-/// One round on one side: nanoseconds of a submit, a grab and a complete, each timed apart, and of all timed together.
-fn measure(case: &Case, side: &mut impl Side, clock: f64) -> [f64; 4] {
+/// One round on one side: nanoseconds of a submit, a grab and a complete, each timed apart, and of all timed together
+/// where that is asked for.
+fn measure(case: &Case, kinds: &[usize], side: &mut impl Side, clock: f64) -> [f64; 4] {
     let mut times = [0.0; 4];
-    prepare(case, side);
-    let start = Instant::now();
-    for step in &case.steps {
-        black_box(side.run(u32::from(step.connection), black_box(case.packet(step))));
+    if kinds.contains(&ALL) {
+        prepare(case, side);
+        let start = Instant::now();
+        for step in &case.steps {
+            black_box(side.run(u32::from(step.connection), black_box(case.packet(step))));
+        }
+        times[ALL] = start.elapsed().as_nanos() as f64 / case.steps.len() as f64;
     }
-    times[ALL] = start.elapsed().as_nanos() as f64 / case.steps.len() as f64;
 
     prepare(case, side);
     let mut counts = [0u32; 3];

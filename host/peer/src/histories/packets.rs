@@ -11,7 +11,7 @@ impl History {
     pub(super) fn valid(&mut self, server: &Server, connection: u32, kind: u32) -> Vec<u8> {
         match kind {
             1 => {
-                let function = self.function();
+                let function = self.learned(server);
                 request(1, &[&function])
             }
             2 => {
@@ -59,6 +59,16 @@ impl History {
         let wanted: Vec<_> = sleepers.flat_map(|sleeper| abilities(server, sleeper)).collect();
         if self.mood == Mood::Idle && !wanted.is_empty() && self.random.chance(60) {
             return self.random.pick(&wanted).bytes().to_vec();
+        }
+        self.function()
+    }
+
+    /// The function that a connection learns: any one, or, while workers grab, mostly that of a queued job.
+    fn learned(&mut self, server: &Server) -> Vec<u8> {
+        let queued = server.jobs.iter().flatten().filter(|job| job.holder.is_none());
+        let names: Vec<_> = queued.filter_map(|job| server.functions[job.function].map(|known| known.name)).collect();
+        if self.mood == Mood::Grabbing && !names.is_empty() && self.random.chance(60) {
+            return self.random.pick(&names).bytes().to_vec();
         }
         self.function()
     }

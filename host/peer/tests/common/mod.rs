@@ -1,6 +1,8 @@
 //! Short ways to write the tests: requests by number, and responses as they should come.
 #![allow(dead_code)]
 
+pub mod grab;
+
 pub use peer::histories::request;
 use peer::server::{Answer, Server};
 
