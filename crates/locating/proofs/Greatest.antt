@@ -1,7 +1,7 @@
 -- The greatest rank of a list, and the lowest place that has it: what one entry more changes, and what a place that is found says.
 -- Assumes nothing.
 use Prim.Native.Nat.{ℕ, _+_, _<_, _≤_, max}
-use mathlib.Core.Path.{_≡_, refl, ap, sym, _∙_}
+use mathlib.Core.Path.{_≡_, refl, ap, _∙_}
 use mathlib.Core.Bool.{Bool, true, false, not, cond, _&&_, _||_}
 use mathlib.Core.Option.{Option, some}
 use mathlib.Core.List.{List, [], _∷_, _++_, map}
@@ -85,11 +85,11 @@ module _ {A : Type 0} (f : A → ℕ) where
           let e : top (l ++ (x ∷ [])) ≡ top l = top-more l x ∙ omega arith in
           ap (λ (m : ℕ). find (ranks m) (l ++ (x ∷ []))) e ∙ found-before (ranks (top l)) l x (not-above (top l) l x refl)
 
-  -- ---- one row more, and the last
+  -- ---- the next entry of a walk, and the entry that is found
 
   module _ (l : List A) (i : ℕ) (d : A) (h : i < length l) (m : ℕ) (em : m ≡ top (take i l)) where
     more : take (i + 1) l ≡ take i l ++ (getD l i d ∷ [])
-    more = rw (add-one) (take-suc l i d h)
+    more = rw add-one (take-suc l i d h)
 
     -- it is no better than the best so far
     module _ (g : f (getD l i d) ≤ m) where

@@ -1,13 +1,13 @@
 -- Rows by their columns: a search in the column of serials is the search among the rows, and since serials are distinct the job that a
 -- connection holds is the one with its serial or none. Assumes nothing.
-use Prim.Native.Nat.{ℕ, suc, _+_, _-_, _*_, _<_}
+use Prim.Native.Nat.{ℕ, suc, _+_, _*_, _<_}
 use mathlib.Core.Path.{_≡_, refl, sym, ap, _∙_}
-use mathlib.Core.Bool.{Bool, true, false, not, cond, _&&_, _||_}
+use mathlib.Core.Bool.{Bool, true, false, not, cond, _&&_}
 use mathlib.Core.Option.{none, some}
 use mathlib.Core.List.{List, map}
 use native.Mathlib.Numerals.{add-one}
 use native.Mathlib.Omega.{arith}
-use borrow.Author.Tests.{eqb-true, eq-eqb, ne-eqb, not-true, not-false}
+use borrow.Author.Tests.{eqb-true, eq-eqb, ne-eqb, not-true}
 use lib.ListN.{length, getD, length-map, List·getD-map}
 use lib.Dec.{eqb}
 use Rattle.octets.specs.Bytes.{Bytes}
@@ -25,10 +25,10 @@ use Rattle.rules_kept.proofs.Rows.{clash, all-at, pairwise-at}
 use Rattle.rules_kept.proofs.Obeyed.{obeyed}
 use Rattle.plans.specs.declared.Place.{Place}
 use Rattle.plans.specs.declared.Place.the-variants.{At, Nowhere}
-use Rattle.plans.specs.Values.{rowsOf, placed, freeRow, serialRow, heldRow, rankIn, valuesOf}
+use Rattle.plans.specs.Values.{rowsOf, placed, freeRow, serialRow, heldRow, valuesOf}
 use Rattle.plans.specs.Plans as P
 use Rattle.rows.proofs.Reading.{rows-are, column-at}
-use Rattle.searching.proofs.Alike.{placed-at, placed-nowhere, find-numbers, find-by, find-nothing, find-narrow, skipped, not-skipped}
+use Rattle.searching.proofs.Alike.{placed-at, placed-nowhere, find-numbers, find-by, find-nothing, find-narrow}
 
 -- ---- by serial
 

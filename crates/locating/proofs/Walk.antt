@@ -1,11 +1,10 @@
 -- The walk for the best row: what a row, or several that are no better, leave of it; what the best so far says; where it ends; and where
 -- it need not begin. Assumes nothing.
-use Prim.Native.Nat.{ℕ, zero, suc, _+_, _-_, _*_, _<_, _≤_}
+use Prim.Native.Nat.{ℕ, zero, suc, _+_, _*_, _<_, _≤_}
 use mathlib.Core.Path.{_≡_, refl, sym, ap, _∙_}
 use mathlib.Core.Bool.{Bool, true, false, not, true≢false}
 use mathlib.Core.List.{List}
-use native.Mathlib.Nat.{add-zero, add-suc}
-use native.Mathlib.Numerals.{add-one}
+use native.Mathlib.Nat.{add-zero}
 use native.Mathlib.Omega.{arith}
 use borrow.Author.Tests.{ltb-true, ltb-false, not-true, not-false}
 use lib.ListN.{length, getD, take}
@@ -18,7 +17,6 @@ use Rattle.server.specs.declared.JobRow.{JobRow}
 use Rattle.server.specs.Lists.{all, numbers}
 use Rattle.server.specs.Table.{noRow, queued}
 use Rattle.server.specs.Layout.{littleAt, rowIn, tableOf}
-use Rattle.plans.specs.declared.Place.{Place}
 use Rattle.plans.specs.declared.Place.the-variants.{At, Nowhere}
 use Rattle.plans.specs.Values.{ablesOf, rowsOf, rankIn, bestRow, placed, valuesOf}
 use Rattle.rows.proofs.Reading.{row-place, able-inside, able-beyond}
@@ -36,8 +34,11 @@ module _ (b : Bytes) (c : ℕ) where
   abbrev rs : List JobRow
   rs = rowsOf (tableOf 16 b)
 
-  abbrev rankAt : ℕ → ℕ
-  rankAt i = rankIn (ablesOf (tableOf 16 b)) c (rowIn b i)
+  abbrev ables : List ℕ
+  ables = ablesOf (tableOf 16 b)
+
+  abbrev rank : JobRow → ℕ
+  rank = rankIn ables c
 
   -- ---- rows passed
 
@@ -45,38 +46,36 @@ module _ (b : Bytes) (c : ℕ) where
     here : i < length rs
     here = rw (rows-long b) h
 
-    row-passed : rankAt i ≤ v .rank → BestOf b c (i + 1) v
+    row-passed : rank (rowIn b i) ≤ v .rank → BestOf b c (i + 1) v
     unfolding bestRow
     row-passed m =
-        let f = rankIn (ablesOf (tableOf 16 b)) c in
-        let k : f (getD rs i noRow) ≤ v .rank = rw (row-place b i h) m in
-        (top-kept f rs i noRow here (v .rank) (g .0) k, g .1 ∙ ap placed (sym (best-kept f rs i noRow here (v .rank) (g .0) k)))
+        let k : rank (getD rs i noRow) ≤ v .rank = rw (row-place b i h) m in
+        (top-kept rank rs i noRow here (v .rank) (g .0) k, g .1 ∙ ap placed (sym (best-kept rank rs i noRow here (v .rank) (g .0) k)))
 
-    row-taken : (k : ℕ) → k ≡ rankAt i → v .rank < k → BestOf b c (i + 1) (record { place = At i; rank = k })
+    row-taken : (k : ℕ) → k ≡ rank (rowIn b i) → v .rank < k → BestOf b c (i + 1) (record { place = At i; rank = k })
     unfolding bestRow
     row-taken k e m =
-        let f = rankIn (ablesOf (tableOf 16 b)) c in
-        let q : k ≡ f (getD rs i noRow) = rw (row-place b i h) e in
-        let l : v .rank < f (getD rs i noRow) = omega arith in
-        (q ∙ top-rises f rs i noRow here (v .rank) (g .0) l, ap placed (sym (best-moves f rs i noRow here (v .rank) (g .0) l)))
+        let q : k ≡ rank (getD rs i noRow) = rw (row-place b i h) e in
+        let l : v .rank < rank (getD rs i noRow) = omega arith in
+        (q ∙ top-rises rank rs i noRow here (v .rank) (g .0) l, ap placed (sym (best-moves rank rs i noRow here (v .rank) (g .0) l)))
 
     -- what the code asks of a row, in its order
     pub row-idle : (q : Bool) → q ≡ queued (rowIn b i) → not q ≡ true → BestOf b c (i + 1) v
-    row-idle q e n = row-passed (rw (rank-idle (ablesOf (tableOf 16 b)) c (rowIn b i) (sym e ∙ not-true q n)) (omega arith))
+    row-idle q e n = row-passed (rw (rank-idle ables c (rowIn b i) (sym e ∙ not-true q n)) (omega arith))
 
     pub row-worse : (k : ℕ) → k ≡ rankOf (rowIn b i) → k ≤ v .rank → BestOf b c (i + 1) v
-    row-worse k e m = row-passed (omega (arith, rank-most (ablesOf (tableOf 16 b)) c (rowIn b i)))
+    row-worse k e m = row-passed (omega (arith, rank-most ables c (rowIn b i)))
 
-    module _ (a : Bool) (ea : a ≡ has (getD (ablesOf (tableOf 16 b)) (rowIn b i .function) 0) c) where
+    module _ (a : Bool) (ea : a ≡ has (getD ables (rowIn b i .function) 0) c) where
       pub row-unable : a ≡ false → BestOf b c (i + 1) v
-      row-unable n = row-passed (rw (rank-unable (ablesOf (tableOf 16 b)) c (rowIn b i) (sym ea ∙ n)) (omega arith))
+      row-unable n = row-passed (rw (rank-unable ables c (rowIn b i) (sym ea ∙ n)) (omega arith))
 
       pub row-best : (q : Bool) (k : ℕ) → q ≡ queued (rowIn b i) → not q ≡ false → k ≡ rankOf (rowIn b i) → v .rank < k → a ≡ true
           → BestOf b c (i + 1) (record { place = At i; rank = k })
-      row-best q k eq n ek m t = row-taken k (ek ∙ sym (rank-able (ablesOf (tableOf 16 b)) c (rowIn b i) (sym eq ∙ not-false q n) (sym ea ∙ t))) m
+      row-best q k eq n ek m t = row-taken k (ek ∙ sym (rank-able ables c (rowIn b i) (sym eq ∙ not-false q n) (sym ea ∙ t))) m
 
   -- n rows that are no better
-  rows-passed : (n i : ℕ) (v : Q′.Best) → i + n ≤ 32 → BestOf b c i v → ((k : ℕ) → k < n → rankAt (i + k) ≤ v .rank) → BestOf b c (i + n) v
+  rows-passed : (n i : ℕ) (v : Q′.Best) → i + n ≤ 32 → BestOf b c i v → ((k : ℕ) → k < n → rank (rowIn b (i + k)) ≤ v .rank) → BestOf b c (i + n) v
   rows-passed zero i v h g m = rw add-zero g
   rows-passed (suc n) i v h g m =
       let e : i + suc n ≡ i + n + 1 = omega arith in
@@ -86,19 +85,18 @@ module _ (b : Bytes) (c : ℕ) where
 
   module _ (p : ℕ) (v : Q′.Best) (h : p + 8 ≤ 32) (g : BestOf b c p v) where
     pub free-passed : all (λ k. eqb (getD b (68 + 4 * p + k) 0) 0) (numbers 0 32) ≡ true → BestOf b c (p + 8) v
-    free-passed z = rows-passed 8 p v h g (λ k l. rw (rank-idle (ablesOf (tableOf 16 b)) c (rowIn b (p + k)) (rw (free-rows b p z k l))) (omega arith))
+    free-passed z = rows-passed 8 p v h g (λ k l. rw (rank-idle ables c (rowIn b (p + k)) (rw (free-rows b p z k l))) (omega arith))
 
     -- the best so far
     pub best-there : (i : ℕ) → v .place ≡ At i → (i < 32) × (v .rank ≡ rankOf (rowIn b i))
     unfolding bestRow
     best-there i e =
-        let f = rankIn (ablesOf (tableOf 16 b)) c in
         let n : length (take p rs) ≡ p = length-take-le p rs (omega (arith, rows-long b)) in
-        let (inside, same, some-rank) = best-says f noRow (take p rs) i (placed-at _ i (sym (g .1) ∙ e)) in
+        let (inside, same, some-rank) = best-says rank noRow (take p rs) i (placed-at _ i (sym (g .1) ∙ e)) in
         let l : i < p = omega arith in
         let r : getD (take p rs) i noRow ≡ rowIn b i = getD-take p rs i noRow l ∙ row-place b i (omega arith) in
-        let q : f (rowIn b i) ≡ v .rank = ap f (sym r) ∙ same ∙ sym (g .0) in
-        (omega arith, sym q ∙ rank-some (ablesOf (tableOf 16 b)) c (rowIn b i) (λ z. some-rank (omega arith)))
+        let q : rank (rowIn b i) ≡ v .rank = ap rank (sym r) ∙ same ∙ sym (g .0) in
+        (omega arith, sym q ∙ rank-some ables c (rowIn b i) (λ z. some-rank (omega arith)))
 
     -- none of them goes before it
     pub behind-passed : (i : ℕ) → v .place ≡ At i → all (λ k. staysBehind (rowIn b i .priority) (rowIn b i .serial) (rowIn b (p + k))) (numbers 0 8) ≡ true
@@ -107,7 +105,7 @@ module _ (b : Bytes) (c : ℕ) where
         rows-passed 8 p v h g
         (λ k l. omega (
           arith,
-          rank-most (ablesOf (tableOf 16 b)) c (rowIn b (p + k)),
+          rank-most ables c (rowIn b (p + k)),
           best-there i e .1,
           behind (rowIn b i .priority) (rowIn b i .serial) (rowIn b (p + k))
               (below-at (λ k. staysBehind (rowIn b i .priority) (rowIn b i .serial) (rowIn b (p + k))) 8 k a l),
@@ -119,13 +117,13 @@ module _ (b : Bytes) (c : ℕ) where
   unfolding bestRow
   best-start = (refl, refl)
 
-  pub best-end : (v : Q′.Best) → BestOf b c 32 v → v .place ≡ placed (bestRow (ablesOf (tableOf 16 b)) rs c)
-  best-end v g = g .1 ∙ ap (λ (l : List JobRow). placed (bestRow (ablesOf (tableOf 16 b)) l c)) (take-all 32 rs (omega (arith, rows-long b)))
+  pub best-end : (v : Q′.Best) → BestOf b c 32 v → v .place ≡ placed (bestRow ables rs c)
+  best-end v g = g .1 ∙ ap (λ (l : List JobRow). placed (bestRow ables l c)) (take-all 32 rs (omega (arith, rows-long b)))
 
-  -- ---- a connection that can do nothing
+  -- ---- a connection that can do nothing: no function's set has it, so that every row is passed
 
   module _ (s : ℕ) (j : Joined (λ q. littleAt 4 b (4 + 4 * q)) 16 s) (n : has s c ≡ false) where
-    unable : (q : ℕ) → has (getD (ablesOf (tableOf 16 b)) q 0) c ≡ false
+    unable : (q : ℕ) → has (getD ables q 0) c ≡ false
     unfolding valuesOf
     unable q = go (ltb q 16) refl
       where
@@ -133,14 +131,14 @@ module _ (b : Bytes) (c : ℕ) where
         lacks true e h = absurd (true≢false (sym (j c ∙ some-by (λ q. has (littleAt 4 b (4 + 4 * q)) c) 16 q h e) ∙ n))
         lacks false e h = refl
 
-        go : (t : Bool) → ltb q 16 ≡ t → has (getD (ablesOf (tableOf 16 b)) q 0) c ≡ false
+        go : (t : Bool) → ltb q 16 ≡ t → has (getD ables q 0) c ≡ false
         go true e =
             let h = ltb-true q 16 e in
             ap (λ (x : ℕ). has x c) (sym (able-inside b q _ h refl)) ∙ lacks _ refl h
         go false e = ap (λ (x : ℕ). has x c) (sym (able-beyond b q 0 (ltb-false q 16 e) refl)) ∙ zero-has c
 
-    pub unable-nowhere : Nowhere ≡ placed (bestRow (ablesOf (tableOf 16 b)) rs c)
+    pub unable-nowhere : Nowhere ≡ placed (bestRow ables rs c)
     unable-nowhere =
         best-end (record { place = Nowhere; rank = 0 })
         (rows-passed 32 0 (record { place = Nowhere; rank = 0 }) (omega arith) best-start
-        (λ k l. rw (rank-unable (ablesOf (tableOf 16 b)) c (rowIn b (0 + k)) (unable (rowIn b (0 + k) .function))) (omega arith)))
+        (λ k l. rw (rank-unable ables c (rowIn b (0 + k)) (unable (rowIn b (0 + k) .function))) (omega arith)))

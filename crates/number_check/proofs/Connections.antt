@@ -2,9 +2,9 @@
 -- sleeper with a grabbable job. Assumes nothing.
 use Prim.Native.Nat.{ℕ, zero, suc, _+_, _-_, _*_, _%_, _<_, _≤_}
 use mathlib.Core.Path.{_≡_, refl, sym, ap, ap₂, _∙_}
-use mathlib.Core.Bool.{Bool, true, false, not, cond, _&&_, _||_, true≢false}
+use mathlib.Core.Bool.{Bool, true, false, not, _&&_, _||_, true≢false}
 use native.Mathlib.Omega.{arith}
-use borrow.Author.Tests.{ltb-true, ltb-false, eqb-true, eq-eqb, ne-eqb, lt-ltb, not-true}
+use borrow.Author.Tests.{ltb-true, ltb-false, eqb-true, eq-eqb, ne-eqb, lt-ltb}
 use lib.ListN.{length, getD}
 use lib.Dec.{eqb, ltb}
 use Rattle.octets.specs.Bytes.{Bytes}
@@ -17,7 +17,7 @@ use Rattle.server.specs.Table.{live, grabbable}
 use Rattle.server.specs.Layout.{littleAt, connectionIn, functionIn, rowIn, tableOf}
 use Rattle.server.specs.Rules.{implies, isOpen, onlyOpen, abilitiesOpen, listenersOpen, holderOpen, holdersOpen, closedClear, sleeperIdle, sleepersIdle}
 use Rattle.table_bytes.specs.Tests.{areFlags}
-use Rattle.passes.proofs.Tests.{iff, or-left, or-right, or-not, or-cases, below-at, below-by, some-at, some-by, same-below}
+use Rattle.passes.proofs.Tests.{iff, or-left, or-right, or-cases, below-at, below-by, some-at, some-by}
 use Rattle.passes.proofs.Rows.{jobs-all, functions-all, connections-all, connections-length, connection-at, sleepers-all}
 use Rattle.passes.proofs.Unions.{low-set}
 use Rattle.image_check.proofs.Places.{flag-at}

@@ -1,19 +1,18 @@
 -- Functions in a survey: those that jobs name, and the connections able to do what is queued. Assumes nothing.
 use Prim.Native.Nat.{ℕ, _+_, _*_, _%_, _<_, _≤_}
 use mathlib.Core.Path.{_≡_, refl, sym, ap, ap₂, _∙_}
-use mathlib.Core.Bool.{Bool, true, false, not, cond, _&&_, _||_, true≢false}
-use mathlib.Core.List.{[]}
+use mathlib.Core.Bool.{Bool, true, false, not, cond, _&&_, _||_}
 use native.Mathlib.Omega.{arith}
-use borrow.Author.Tests.{ltb-true, leb-true, eqb-true, eqb-false, eq-eqb, ne-eqb}
-use lib.ListN.{length, getD}
+use borrow.Author.Tests.{ltb-true, leb-true, eqb-true, eq-eqb}
+use lib.ListN.{length}
 use lib.Dec.{eqb, leb, ltb}
-use Rattle.octets.specs.Bytes.{Bytes, same}
+use Rattle.octets.specs.Bytes.{Bytes}
 use Rattle.octets.proofs.Strings.{and-left, and-right, and-both}
 use Rattle.sets.specs.Sets.{has, union, isEmpty}
 use Rattle.sets.proofs.Laws.{has-union}
 use Rattle.server.specs.Lists.{any, all, numbers}
 use Rattle.server.specs.Table.{Function, live, queued, names, wanted, grabbable}
-use Rattle.server.specs.Layout.{textAt, functionIn, rowIn, tableOf}
+use Rattle.server.specs.Layout.{functionIn, rowIn, tableOf}
 use Rattle.server.specs.Rules.{isKnown, functionsAsDefined}
 use Rattle.passes.proofs.Tests.{iff, below-at, some-at, some-by, same-below, any-below, any-or}
 use Rattle.passes.proofs.Rows.{jobs-any, function-at, defined-all}

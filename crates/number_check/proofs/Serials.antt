@@ -1,15 +1,13 @@
 -- The tests of serials are the rules: below the last one, and distinct. Assumes nothing.
-use Prim.Native.Nat.{ℕ, _+_, _*_, _<_, _≤_}
+use Prim.Native.Nat.{ℕ, _+_}
 use mathlib.Core.Path.{_≡_, refl, sym, ap, _∙_}
 use mathlib.Core.Bool.{Bool, true, false, not, _||_, true≢false}
 use mathlib.Core.List.{List}
-use native.Mathlib.Omega.{arith}
 use borrow.Author.Tests.{eqb-true, eq-eqb, not-true}
-use lib.ListN.{getD}
 use lib.Dec.{eqb, leb}
 use Rattle.octets.specs.Bytes.{Bytes}
 use Rattle.server.specs.Lists.{all, pairwise, numbers}
-use Rattle.server.specs.Table.{Job, live}
+use Rattle.server.specs.Table.{live}
 use Rattle.server.specs.Layout.{littleAt, rowIn, jobIn, tableOf}
 use Rattle.server.specs.Rules.{serialsBelow, serialsApart, serialsDistinct}
 use Rattle.passes.proofs.Tests.{iff}

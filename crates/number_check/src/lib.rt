@@ -4,11 +4,11 @@
 ghost use mathlib.Core.Path.{_≡_};
 ghost use mathlib.Core.Bool.{cond, true, _&&_};
 ghost use Prim.Native.Nat.{_+_, _<_, _≤_};
-ghost use lib.ListN.{length, getD};
+ghost use lib.ListN.{length};
 ghost use lib.Dec.{ltb};
 ghost use Rattle.sets.specs.Sets.{has};
 ghost use Rattle.server.specs.Lists.{all, numbers};
-ghost use Rattle.server.specs.Layout.{functionIn, rowIn, tableOf};
+ghost use Rattle.server.specs.Layout.{tableOf};
 ghost use Rattle.server.specs.Rules.{functionsAsDefined, serialsBelow, serialsDistinct};
 ghost use Rattle.table_bytes.specs.Tests.{areFlags};
 ghost use Rattle.passes.specs.Arrays.{Twice};

@@ -2,7 +2,7 @@
 use Rattle.sets.specs.Sets.{has}
 use denote.Ref.{now}
 use Prim.Native.Nat.{_≤_, _+_, _-_, _*_, ℕ}
-use mathlib.Core.Path.{_≡_, refl, ap, _∙_}
+use mathlib.Core.Path.{ap, _∙_}
 use native.Mathlib.Omega.{arith}
 use Rattle.sets.proofs.Laws.{zero-has}
 use Rattle.server.specs.Layout.{littleAt}

@@ -3,7 +3,7 @@ use Rattle.sets.specs.Sets.{has}
 use mathlib.Core.Bool.{Bool, cond}
 use denote.Ref.{now}
 use Prim.Native.Nat.{_≤_, _-_, ℕ}
-use mathlib.Core.Path.{_≡_, refl, ap, ap₂, _∙_}
+use mathlib.Core.Path.{ap, ap₂, _∙_}
 use native.Mathlib.Omega.{arith}
 use Rattle.sets.proofs.Laws.{zero-has}
 use Rattle.passes.proofs.Unions.{joins-on, joins-end}

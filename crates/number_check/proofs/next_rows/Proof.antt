@@ -1,6 +1,6 @@
 -- `number_check::next_rows` meets its contract. The invariant: the survey says what the rows before this one say. Assumes nothing.
 use Prim.Native.Nat.{_≤_, _+_, _-_}
-use mathlib.Core.Path.{_≡_, refl}
+use mathlib.Core.Path.{_≡_}
 use native.Mathlib.Omega.{arith}
 use Rattle.number_check.specs.Surveyed.{Surveyed}
 use borrow.Author.Needs.{needs}

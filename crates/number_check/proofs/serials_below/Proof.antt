@@ -2,7 +2,7 @@
 use lib.Dec.{leb}
 use denote.Ref.{now}
 use Prim.Native.Nat.{_≤_, _-_, ℕ}
-use mathlib.Core.Path.{_≡_, refl, ap, _∙_}
+use mathlib.Core.Path.{_≡_, refl, ap}
 use native.Mathlib.Omega.{arith}
 use Rattle.server.specs.Lists.{all, numbers}
 use Rattle.passes.proofs.Tests.{each-on, each-end}

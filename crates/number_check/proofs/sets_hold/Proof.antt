@@ -1,6 +1,6 @@
 -- `number_check::sets_hold` meets its contract. The union of all sets has the connections that are used; the test of connections and that of functions are the rules. Assumes nothing.
 use Prim.Native.Nat.{ℕ, _<_}
-use mathlib.Core.Path.{_≡_, sym, ap, _∙_}
+use mathlib.Core.Path.{sym, ap, _∙_}
 use native.Mathlib.Omega.{arith}
 use denote.Ref.{now}
 use Rattle.sets.specs.Sets.{union}
