@@ -15,7 +15,12 @@ export CARGO_TARGET_DIR=$PWD/target/peer
 cargo test "${options[@]}"
 LAP_ARCHIVE_DIR=$archive "${cross[@]}" cargo build --release "${options[@]}" --features archive --bin compare --bin capture --bin show
 programs=$CARGO_TARGET_DIR/$programs_of
-"${run[@]}" "$programs/compare"
+
+# The long comparison runs beside what follows and is waited for at the end.
+compared=$PWD/target/compared
+"${run[@]}" "$programs/compare" > "$compared" &
+comparing=$!
+trap 'kill "$comparing" 2> /dev/null || true' EXIT
 
 # 20,000 lines in four captures: the mix of compare's histories, and damaged lines.
 show=${SHOW:-target/bin/show}
@@ -50,3 +55,8 @@ for fault in $(seq 1 12); do
   fi
 done
 echo "12 faults found, 0 missed"
+
+status=0
+wait "$comparing" || status=$?
+cat "$compared"
+exit "$status"
