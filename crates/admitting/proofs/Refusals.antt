@@ -7,8 +7,9 @@ use lib.ListN.{length, getD}
 use lib.Dec.{eqb}
 use Rattle.octets.specs.Bytes.{Bytes}
 use Rattle.server.specs.declared.Connection.{Connection}
+use Rattle.server.specs.Sizes.{connectionCount, workloadsSize, outputSize}
 use Rattle.server.specs.Table.{closed}
-use Rattle.server.specs.Layout.{connectionIn, tableOf}
+use Rattle.server.specs.Layout.{connectionIn, tableOf, openedAt, tableSize}
 use Rattle.server.specs.Call.{tooShort, isSound}
 use Rattle.table_bytes.proofs.Columns.{places-at}
 use Rattle.rules_kept.proofs.Rows.{clash}
@@ -24,29 +25,29 @@ twice false = refl
 module _ (t w o : Bytes) where
   -- the bytes are refused by 1
   abbrev pub unusable : Bool
-  unusable = tooShort 16 t w o || not (isSound 16 t)
+  unusable = tooShort connectionCount t w o || not (isSound connectionCount t)
 
-  pub short-table : length t < 3796 → false ≡ not unusable
+  pub short-table : length t < tableSize connectionCount → false ≡ not unusable
   unfolding tooShort
-  short-table h = rw (lt-ltb (length t) 3796 h)
+  short-table h = rw (lt-ltb (length t) (tableSize connectionCount) h)
 
-  pub short-workloads : 3796 ≤ length t → length w < 32768 → false ≡ not unusable
+  pub short-workloads : tableSize connectionCount ≤ length t → length w < workloadsSize → false ≡ not unusable
   unfolding tooShort
-  short-workloads g h = rw (le-ltb (length t) 3796 g, lt-ltb (length w) 32768 h)
+  short-workloads g h = rw (le-ltb (length t) (tableSize connectionCount) g, lt-ltb (length w) workloadsSize h)
 
-  pub short-output : 3796 ≤ length t → 32768 ≤ length w → length o < 16592 → false ≡ not unusable
+  pub short-output : tableSize connectionCount ≤ length t → workloadsSize ≤ length w → length o < outputSize connectionCount → false ≡ not unusable
   unfolding tooShort
-  short-output g h l = rw (le-ltb (length t) 3796 g, le-ltb (length w) 32768 h, lt-ltb (length o) 16592 l)
+  short-output g h l = rw (le-ltb (length t) (tableSize connectionCount) g, le-ltb (length w) workloadsSize h, lt-ltb (length o) (outputSize connectionCount) l)
 
-  pub long-enough : (s : Bool) → 3796 ≤ length t → 32768 ≤ length w → 16592 ≤ length o → s ≡ isSound 16 t → s ≡ not unusable
+  pub long-enough : (s : Bool) → tableSize connectionCount ≤ length t → workloadsSize ≤ length w → outputSize connectionCount ≤ length o → s ≡ isSound connectionCount t → s ≡ not unusable
   unfolding tooShort
-  long-enough s g h l e = rw (le-ltb (length t) 3796 g, le-ltb (length w) 32768 h, le-ltb (length o) 16592 l) (e ∙ twice (isSound 16 t))
+  long-enough s g h l e = rw (le-ltb (length t) (tableSize connectionCount) g, le-ltb (length w) workloadsSize h, le-ltb (length o) (outputSize connectionCount) l) (e ∙ twice (isSound connectionCount t))
 
 -- ---- the connection's state
 
-pub open-at : (t : Bytes) (c : ℕ) → c < 16 → eqb (getD t (3748 + c) 0) 1 ≡ getD (tableOf 16 t .connections) c closed .opened
+pub open-at : (t : Bytes) (c : ℕ) → c < connectionCount → eqb (getD t (openedAt connectionCount + c) 0) 1 ≡ getD (tableOf connectionCount t .connections) c closed .opened
 unfolding tableOf
-open-at t c h = sym (ap (λ (x : Connection). x .opened) (places-at (connectionIn 16 t) closed 16 c h))
+open-at t c h = sym (ap (λ (x : Connection). x .opened) (places-at (connectionIn connectionCount t) closed 16 c h))
 
 pub both-open : (a b : Bool) → a && b ≡ true → 4 ≡ stateRefusal a b
 unfolding stateRefusal
@@ -73,19 +74,19 @@ neither-open false false e = refl
 tested : (t w o : Bytes) (u b : Bool) → u ≡ not (unusable t w o) → not u ≡ b → unusable t w o ≡ b
 tested t w o u b e f = twice (unusable t w o) ∙ ap not (sym e) ∙ f
 
-pub usable-bytes : (t w o : Bytes) (u : Bool) → u ≡ not (unusable t w o) → not u ≡ false → Taken 16 t w o
-usable-bytes t w o u e f = taken 16 t w o (tested t w o u false e f)
+pub usable-bytes : (t w o : Bytes) (u : Bool) → u ≡ not (unusable t w o) → not u ≡ false → Taken connectionCount t w o
+usable-bytes t w o u e f = taken connectionCount t w o (tested t w o u false e f)
 
 module _ (toOpen : Bool) (c : ℕ) (t w o : Bytes) (u : Bool) (e : u ≡ not (unusable t w o)) where
   pub refused-1 : not u ≡ true → 1 ≡ admission toOpen c t w o
   unfolding admission
   refused-1 f = rw (tested t w o u true e f)
 
-  pub refused-2 : not u ≡ false → 16 ≤ c → 2 ≡ admission toOpen c t w o
+  pub refused-2 : not u ≡ false → connectionCount ≤ c → 2 ≡ admission toOpen c t w o
   unfolding admission
-  refused-2 f h = rw (tested t w o u false e f, le-ltb c 16 h)
+  refused-2 f h = rw (tested t w o u false e f, le-ltb c connectionCount h)
 
-  pub refused-state : (r : ℕ) (s : Bool) → not u ≡ false → c < 16 → s ≡ getD (tableOf 16 t .connections) c closed .opened → r ≡ stateRefusal s toOpen
+  pub refused-state : (r : ℕ) (s : Bool) → not u ≡ false → c < connectionCount → s ≡ getD (tableOf connectionCount t .connections) c closed .opened → r ≡ stateRefusal s toOpen
       → r ≡ admission toOpen c t w o
   unfolding admission
-  refused-state r s f h q g = rw (tested t w o u false e f, lt-ltb c 16 h, ← q) g
+  refused-state r s f h q g = rw (tested t w o u false e f, lt-ltb c connectionCount h, ← q) g

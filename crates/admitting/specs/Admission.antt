@@ -4,6 +4,7 @@ use mathlib.Core.Bool.{Bool, not, cond, _||_}
 use lib.ListN.{getD}
 use lib.Dec.{ltb}
 use Rattle.octets.specs.Bytes.{Bytes}
+use Rattle.server.specs.Sizes.{connectionCount}
 use Rattle.server.specs.Table.{closed}
 use Rattle.server.specs.Layout.{tableOf}
 use Rattle.server.specs.Call.{tooShort, isSound}
@@ -15,6 +16,6 @@ stateRefusal isOpen toOpen = cond isOpen (cond toOpen 4 0) (cond toOpen 0 3)
 -- 01: "Checked in number order"; 0 where none is given
 unfoldable pub admission : Bool → ℕ → Bytes → Bytes → Bytes → ℕ
 admission toOpen c t w o =
-    cond (tooShort 16 t w o || not (isSound 16 t)) 1
-    (cond (not (ltb c 16)) 2
-    (stateRefusal (getD (tableOf 16 t .connections) c closed .opened) toOpen))
+    cond (tooShort connectionCount t w o || not (isSound connectionCount t)) 1
+    (cond (not (ltb c connectionCount)) 2
+    (stateRefusal (getD (tableOf connectionCount t .connections) c closed .opened) toOpen))

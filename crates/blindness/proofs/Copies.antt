@@ -14,6 +14,7 @@ use Rattle.server.specs.Table.{Table, jobAt}
 use Rattle.server.specs.Asked.{Event, connectionOf, asked, Asked, toOpen, toClose, reset, preSleep, echo, bad, canDo, cantDo, grab, submit, work, getStatus, option}
 use Rattle.server.specs.Events.{Send, plain, copy, assign, Decision, refuse, settle, noop, toWake, dropped, holdsHandle, hears}
 use Rattle.server.specs.Server.{Server, Sent, render, decided, answer}
+use Rattle.server.specs.Refusals.{isTold}
 use Rattle.outcomes.proofs.Cases.{All, All2, cond-both, cond-cases, all-append, all-map, all-any}
 use Rattle.outcomes.proofs.Outcome.{Change, closed, able, unknown, disabled, cleared, slept, noJobFor, grabbed, joins, accepts, worker, status, optioned, echoed, Outcome, refused, opened, done, outcome}
 use Rattle.blindness.proofs.Alike.{Alike, Like, decided-alike, like-render}
@@ -85,7 +86,7 @@ settle-carries ss u p = all-append p (all-map noop {Q = λ l. Unit {0}} (λ l x.
 
 outcome-carries : {c : ℕ} {t : Table} {a : Asked} {d : Decision} → Outcome c t a d → AllCarry c t a (d .packets)
 unfolding refuse
-outcome-carries {c} {t} (refused a n) = cond-both (AllCarry c t a) (ltb n 9) All.none (All.more a-plain All.none)
+outcome-carries {c} {t} (refused a n) = cond-both (AllCarry c t a) (isTold n) (All.more a-plain All.none) All.none
 outcome-carries (opened a h i e) = settle-carries [] _ All.none
 outcome-carries (done a ss u i o m) = settle-carries ss u (change-carries m)
 

@@ -13,6 +13,7 @@ use Rattle.octets.specs.Bytes.{Bytes}
 use Rattle.handle.specs.Handle.{handle, lap}
 use Rattle.packet.specs.Arguments.{join}
 use Rattle.server.specs.Lists.{fit}
+use Rattle.server.specs.Sizes.{workloadSize}
 use Rattle.server.specs.Table.{Job, Table, noJob, jobAt}
 use Rattle.server.specs.Asked.{Event, Asked}
 use Rattle.server.specs.Events.{Send, plain, copy, assign, Decision}
@@ -58,10 +59,10 @@ reworked-near : (k n : ℕ) (j l : Job) (x y w v : Bytes) → Harmless k n x y �
 reworked-near k n j l x y w v h f p m = by (eqb (j .row .serial) (l .row .serial)) refl (eqb (l .row .serial) 0) refl h
   where
     by : (b : Bool) → eqb (j .row .serial) (l .row .serial) ≡ b → (d : Bool) → eqb (l .row .serial) 0 ≡ d → Harmless k n x y
-        → cond b w (cond (not d) (fit 1024 x) (replicate 1024 0)) ≡ cond b v (cond (not d) (fit 1024 y) (replicate 1024 0))
+        → cond b w (cond (not d) (fit workloadSize x) (replicate 1024 0)) ≡ cond b v (cond (not d) (fit workloadSize y) (replicate 1024 0))
     by true e d q h = p (λ z. m (sym (eqb-true _ _ e) ∙ z))
     by false e true q h = refl
-    by false e false q (equal z) = ap (fit 1024) z
+    by false e false q (equal z) = ap (fit workloadSize) z
     by false e false q (its z) = absurd (m (new-is n j l f e (eqb-false _ 0 q) ∙ z))
     by false e false q (nobody z) = absurd (eqb-false _ 0 q (new-is n j l f e (eqb-false _ 0 q) ∙ z))
 

@@ -9,10 +9,11 @@ use lib.ListN.{length}
 use Rattle.octets.specs.Bytes.{Bytes}
 use Rattle.octets.specs.Put.{put}
 use Rattle.octets.proofs.Laying.{put-start}
+use Rattle.server.specs.Sizes.{connectionCount, workloadsSize, outputSize}
 use Rattle.server.specs.Table.{Table}
 use Rattle.server.specs.Server.{Server, Sent, Answer, next, answer, start, answers}
 use Rattle.server.specs.Layout.{tableSize, bytesOf}
-use Rattle.server.specs.Call.{workloadsSize, outputSize, sentBytes, performed, call, make}
+use Rattle.server.specs.Call.{sentBytes, performed, call, make}
 use Rattle.outcomes.proofs.Cases.{All, All2}
 use Rattle.calls.specs.History.{Request, events, calls}
 use Rattle.calls.proofs.Follows.{tableWith, workloadsWith, Running, running-next, call-follows}
@@ -40,10 +41,10 @@ all-like : {R : Sent → Sent → Type 0} → Finer R → {ps qs : List Sent} �
 all-like f All2.none = All2.none
 all-like f (All2.more r rs) = All2.more (f _ _ r) (all-like f rs)
 
-module _ (n : ℕ) (few : n ≤ 16) (t w : Bytes) (longTable : tableSize n ≤ length t) (longWorkloads : workloadsSize ≤ length w) {R : Sent → Sent → Type 0} (finer : Finer R) where
+module _ (n : ℕ) (few : n ≤ 256) (t w : Bytes) (longTable : tableSize n ≤ length t) (longWorkloads : workloadsSize ≤ length w) {R : Sent → Sent → Type 0} (finer : Finer R) where
   -- ---- one call
 
-  module _ (x y : Request) (s r : Server) (h : Running n s) (k : Running n r) (l : outputSize ≤ length (x .output)) (m : outputSize ≤ length (y .output)) where
+  module _ (x y : Request) (s r : Server) (h : Running n s) (k : Running n r) (l : outputSize n ≤ length (x .output)) (m : outputSize n ≤ length (y .output)) where
     match-performed : Related R (answer (x .event) s) (answer (y .event) r) → next (x .event) s .table ≡ next (y .event) r .table
         → Match R x y (performed (x .event) s t w (x .output)) (performed (y .event) r t w (y .output))
     unfolding performed
@@ -73,7 +74,7 @@ module _ (n : ℕ) (few : n ≤ 16) (t w : Bytes) (longTable : tableSize n ≤ l
   -- ---- all calls
 
   -- buffers that hold two servers with equal tables, whose answers are related
-  pub match-calls : {xs ys : List Request} → AlikeEvents xs ys → LongOutputs xs → LongOutputs ys → (s r : Server) → Running n s → Running n r → s .table ≡ r .table
+  pub match-calls : {xs ys : List Request} → AlikeEvents xs ys → LongOutputs n xs → LongOutputs n ys → (s r : Server) → Running n s → Running n r → s .table ≡ r .table
       → All2 (Related R) (answers s (events xs)) (answers r (events ys))
       → Both (Match R) xs ys (calls n xs (tableWith s t) (workloadsWith s w)) (calls n ys (tableWith r t) (workloadsWith r w))
   unfolding calls answers performed
@@ -94,14 +95,14 @@ events-alike : {xs ys : List Request} → AlikeEvents xs ys → All2 Alike (even
 events-alike All2.none = All2.none
 events-alike (All2.more e rest) = All2.more e (events-alike rest)
 
--- from a fresh table for at most 16 connections on
-pub blind-calls : (n : ℕ) → n ≤ 16 → (t w : Bytes) → tableSize n ≤ length t → workloadsSize ≤ length w → {xs ys : List Request} → AlikeEvents xs ys → LongOutputs xs → LongOutputs ys
+-- from a fresh table on
+pub blind-calls : (n : ℕ) → n ≤ 256 → (t w : Bytes) → tableSize n ≤ length t → workloadsSize ≤ length w → {xs ys : List Request} → AlikeEvents xs ys → LongOutputs n xs → LongOutputs n ys
     → Both (Match Like) xs ys (calls n xs (make n t w .table) (make n t w .workloads)) (calls n ys (make n t w .table) (make n t w .workloads))
 blind-calls n few t w lt lw a l m =
     rw (make-start n t w lt lw)
     (match-calls n few t w lt lw (λ p q z. z) a l m (start n) (start n) (running-start n) (running-start n) refl (related-agree (agree-from (events-alike a) (start n) (start n) refl)))
 
 -- 16 connections: a table of 3,796 bytes and workloads of 32,768
-pub sixteen-blind : (t w : Bytes) → 3796 ≤ length t → 32768 ≤ length w → {xs ys : List Request} → AlikeEvents xs ys → LongOutputs xs → LongOutputs ys
-    → Both (Match Like) xs ys (calls 16 xs (make 16 t w .table) (make 16 t w .workloads)) (calls 16 ys (make 16 t w .table) (make 16 t w .workloads))
-sixteen-blind t w lt lw a l m = blind-calls 16 (omega arith) t w lt lw a l m
+pub sixteen-blind : (t w : Bytes) → tableSize connectionCount ≤ length t → workloadsSize ≤ length w → {xs ys : List Request} → AlikeEvents xs ys → LongOutputs connectionCount xs → LongOutputs connectionCount ys
+    → Both (Match Like) xs ys (calls connectionCount xs (make connectionCount t w .table) (make connectionCount t w .workloads)) (calls connectionCount ys (make connectionCount t w .table) (make connectionCount t w .workloads))
+sixteen-blind t w lt lw a l m = blind-calls connectionCount (omega arith) t w lt lw a l m

@@ -9,10 +9,11 @@ use lib.ListN.{length}
 use Rattle.octets.specs.Bytes.{Bytes}
 use Rattle.octets.specs.Put.{put}
 use Rattle.server.specs.Lists.{concat}
+use Rattle.server.specs.Sizes.{workloadsSize, outputSize}
 use Rattle.server.specs.Asked.{Event, connectionOf, asked, Work, echo, work}
 use Rattle.server.specs.Server.{Server, Sent, Answer, next, answer, start, after, answers}
 use Rattle.server.specs.Layout.{tableSize}
-use Rattle.server.specs.Call.{Result, workloadsSize, outputSize, performed, call, make}
+use Rattle.server.specs.Call.{Result, performed, call, make}
 use Rattle.outcomes.proofs.Cases.{All2}
 use Rattle.serials.proofs.Serials.{IsSubmit, Creates}
 use Rattle.calls.specs.History.{Request, Memory, events, calls, leaves}
@@ -103,9 +104,9 @@ related-but (All2.more a rest) = All2.more (record { number = a .number; sent = 
 
 -- ---- two calls on buffers that hold a server, and those after them
 
-module _ (n : ℕ) (few : n ≤ 16) (t w : Bytes) (longTable : tableSize n ≤ length t) (longWorkloads : workloadsSize ≤ length w) (s : Server) (h : Running n s)
-    (x y : Request) (a : Alike (x .event) (y .event)) (lx : outputSize ≤ length (x .output)) (ly : outputSize ≤ length (y .output))
-    {xs ys : List Request} (same : SameEvents xs ys) (lxs : LongOutputs xs) (lys : LongOutputs ys) where
+module _ (n : ℕ) (few : n ≤ 256) (t w : Bytes) (longTable : tableSize n ≤ length t) (longWorkloads : workloadsSize ≤ length w) (s : Server) (h : Running n s)
+    (x y : Request) (a : Alike (x .event) (y .event)) (lx : outputSize n ≤ length (x .output)) (ly : outputSize n ≤ length (y .output))
+    {xs ys : List Request} (same : SameEvents xs ys) (lxs : LongOutputs n xs) (lys : LongOutputs n ys) where
   abbrev held : Memory
   held = record { table = tableWith s t; workloads = workloadsWith s w }
 
@@ -154,9 +155,9 @@ pub data LaterCalls (s : Server) (n : ℕ) (m : Memory) (x y : Request) (xs ys :
   made-none : ((k : ℕ) → ¬ Creates s (x .event) k) → LoneNow (λ p q. p ≡ q) n m x y xs ys → LaterCalls s n m x y xs ys
   made-one : Creates s (x .event) (suc (s .table .last)) → LoneMade (suc (s .table .last)) n m x y xs ys → LaterCalls s n m x y xs ys
 
-module _ (n : ℕ) (few : n ≤ 16) (t w : Bytes) (longTable : tableSize n ≤ length t) (longWorkloads : workloadsSize ≤ length w) (before : List Request) (long : LongOutputs before)
-    (x y : Request) (a : Alike (x .event) (y .event)) (lx : outputSize ≤ length (x .output)) (ly : outputSize ≤ length (y .output))
-    {xs ys : List Request} (same : SameEvents xs ys) (lxs : LongOutputs xs) (lys : LongOutputs ys) where
+module _ (n : ℕ) (few : n ≤ 256) (t w : Bytes) (longTable : tableSize n ≤ length t) (longWorkloads : workloadsSize ≤ length w) (before : List Request) (long : LongOutputs n before)
+    (x y : Request) (a : Alike (x .event) (y .event)) (lx : outputSize n ≤ length (x .output)) (ly : outputSize n ≤ length (y .output))
+    {xs ys : List Request} (same : SameEvents xs ys) (lxs : LongOutputs n xs) (lys : LongOutputs n ys) where
   -- what the calls before left, and the server that it holds
   abbrev pub left : Memory
   left = leaves n before (make n t w .table) (make n t w .workloads)

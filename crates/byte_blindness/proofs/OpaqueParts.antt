@@ -21,12 +21,14 @@ use Rattle.packet_laws.proofs.Packets.{Headed, good-header, Laid, packet-laid}
 use Rattle.packet_laws.proofs.Separators.{Heads}
 use Rattle.packet_laws.proofs.Blindness.{Parted, parted-visible, parted-opaque, unhidden-visible, unhidden-opaque}
 use Rattle.server.specs.Lists.{filter}
+use Rattle.server.specs.Sizes.{nameSize, uniqueSize}
 use Rattle.server.specs.Table.{Table, noFunction, noJob, functionAt, jobAt, live, queued, best}
 use Rattle.server.specs.Rules.{textWithin, storedNumber, together}
 use Rattle.server.specs.Asked.{Event, Asked, connectionOf, asked}
 use Rattle.server.specs.Events.{Send, plain, copy, assign, Decision, refuse, settle, noop, dropped, toWake, hears, listenersOf}
 use Rattle.server.specs.Server.{Server, Sent, render, decided, answer}
 use Rattle.server.proofs.Lists.{length-fit}
+use Rattle.server.specs.Refusals.{isTold}
 use Rattle.outcomes.proofs.Cases.{All, cond-both, all-append, all-map, all-any}
 use Rattle.outcomes.proofs.Outcome.{Change, Outcome, outcome}
 use Rattle.rules_kept.proofs.Rows.{implies-use, all-at, all-row}
@@ -117,7 +119,7 @@ module _ (e : Event) (s : Server) where
 
   fits-refused : (c n : ℕ) (t : Table) → All Fits (refuse c n t .packets)
   unfolding refuse rulesOf responseShape
-  fits-refused c n t = cond-both (All Fits) (ltb n 9) All.none (All.more (fits-plain c 19 _ (omega arith) refl) All.none)
+  fits-refused c n t = cond-both (All Fits) (isTold n) (All.more (fits-plain c 19 _ (omega arith) refl) All.none) All.none
 
   fits-copies : (kind : ℕ) → Forwarded e kind → (ls : List ℕ) → All Fits (map (λ l. copy l kind) ls)
   fits-copies kind g ls = all-map (λ l. copy l kind) {Q = λ l. Unit {0}} (λ l x. fits-copy l kind g) (all-any (λ l. tt) ls)
@@ -137,10 +139,10 @@ texts n s h p i l =
     let j = jobAt t p in
     let o = obeyed t (h .rules) .sound in
     let f = functionAt t (j .row .function) .name in
-    let u : textWithin 64 (j .unique) && (storedNumber (j .numerator) && storedNumber (j .denominator)) ≡ true = implies-use (live (j .row)) _ (all-at _ (t .jobs) p noJob (o .texts) i) l in
+    let u : textWithin uniqueSize (j .unique) && (storedNumber (j .numerator) && storedNumber (j .denominator)) ≡ true = implies-use (live (j .row)) _ (all-at _ (t .jobs) p noJob (o .texts) i) l in
     record {
-      function = eqb-true _ _ (and-right (leb (length f) 32) (zeroFree f) (all-row (λ x. textWithin 32 (x .name)) (t .functions) (j .row .function) noFunction (o .names) refl));
-      unique = eqb-true _ _ (and-right (leb (length (j .unique)) 64) (zeroFree (j .unique)) (and-left (textWithin 64 (j .unique)) _ u));
+      function = eqb-true _ _ (and-right (leb (length f) 32) (zeroFree f) (all-row (λ x. textWithin nameSize (x .name)) (t .functions) (j .row .function) noFunction (o .names) refl));
+      unique = eqb-true _ _ (and-right (leb (length (j .unique)) 64) (zeroFree (j .unique)) (and-left (textWithin uniqueSize (j .unique)) _ u));
       small = leb-true _ 1022 (all-at (λ k. leb (together t k) 1022) (t .jobs) p noJob (o .sizes) i);
     }
 

@@ -7,23 +7,24 @@ use native.Mathlib.Omega.{arith}
 use borrow.Author.Tests.{ltb-true}
 use lib.ListN.{getD}
 use lib.Dec.{ltb}
-use Rattle.octets.specs.Bytes.{Bytes}
+use Rattle.octets.specs.Bytes.{Bytes, same}
+use Rattle.server.specs.Sizes.{connectionCount}
 use Rattle.server.specs.Table.{Table, closed}
 use Rattle.server.specs.Asked.{Event, connectionOf, Asked, toOpen, toClose, reset, preSleep, echo, bad, canDo, cantDo, grab, submit, work, getStatus, option, asked}
 use Rattle.server.specs.Events.{refuse, served, isOpening, admitted, decide}
 use Rattle.server.specs.Server.{decided}
 use Rattle.server.specs.Layout.{tableOf}
-use Rattle.server.specs.Call.{serverIn, tooShort, isSound, refusedBy, performed, call}
+use Rattle.server.specs.Call.{serverIn, tooShort, isSound, refusedBy, performed, call, left}
+use Rattle.server.specs.Refusals.{isTold}
 use Rattle.rules_kept.proofs.Rows.{clash}
 use Rattle.calls.proofs.Refusals.{Taken, taken, one-if}
-use Rattle.performing.specs.Concluded.{left}
 use Rattle.performing.proofs.Steps.{silent-laid}
 use Rattle.admitting.specs.Admission.{stateRefusal, admission}
 use Rattle.called.proofs.Conclusion.{sixteen, refusal-performed}
 
 -- ---- on usable bytes a call performs
 
-pub call-performed : (e : Event) (t w o : Bytes) → tooShort 16 t w o || not (isSound 16 t) ≡ false → performed e (serverIn 16 t w) t w o ≡ call 16 e t w o
+pub call-performed : (e : Event) (t w o : Bytes) → tooShort connectionCount t w o || not (isSound connectionCount t) ≡ false → performed e (serverIn connectionCount t w) t w o ≡ call connectionCount e t w o
 unfolding call
 call-performed e t w o h = rw h
 
@@ -59,27 +60,27 @@ module _ (c : ℕ) (a : Asked) (t : Table) where
   at-once false isOpen opens e z = refl
   at-once true isOpen opens e z = by-state isOpen opens e z
 
--- below 9: no ERROR packet
-state-silent : (isOpen opens inside : Bool) → cond (not inside) 2 (stateRefusal isOpen opens) < 9
-unfolding stateRefusal
-state-silent isOpen opens false = omega arith
-state-silent true true true = omega arith
-state-silent true false true = omega arith
-state-silent false true true = omega arith
-state-silent false false true = omega arith
+-- refusals 2 to 4 are silent
+state-silent : (isOpen opens inside : Bool) → isTold (cond (not inside) 2 (stateRefusal isOpen opens)) ≡ false
+unfolding isTold stateRefusal same
+state-silent isOpen opens false = refl
+state-silent true true true = refl
+state-silent true false true = refl
+state-silent false true true = refl
+state-silent false false true = refl
 
 -- ---- of a call
 
 -- what an event that none of the four refuses has
 pub record Admitted (opens : Bool) (c : ℕ) (t w o : Bytes) : Type 0 where
-  pub usable : tooShort 16 t w o || not (isSound 16 t) ≡ false
-  pub bytes : Taken 16 t w o
-  pub inside : c < 16
-  pub state : getD (tableOf 16 t .connections) c closed .opened ≡ not opens
+  pub usable : tooShort connectionCount t w o || not (isSound connectionCount t) ≡ false
+  pub bytes : Taken connectionCount t w o
+  pub inside : c < connectionCount
+  pub state : getD (tableOf connectionCount t .connections) c closed .opened ≡ not opens
 
 module _ (opens : Bool) (c : ℕ) (t w o : Bytes) where
   abbrev isOpen : Bool
-  isOpen = getD (tableOf 16 t .connections) c closed .opened
+  isOpen = getD (tableOf connectionCount t .connections) c closed .opened
 
   -- ---- admitted
 
@@ -94,36 +95,36 @@ module _ (opens : Bool) (c : ℕ) (t w o : Bytes) where
   inside-by true e = (refl, free-state isOpen opens e)
   inside-by false e = absurd (omega (arith, e))
 
-  admitted-by : (b : Bool) → tooShort 16 t w o || not (isSound 16 t) ≡ b → cond b 1 (cond (not (ltb c 16)) 2 (stateRefusal isOpen opens)) ≡ 0 → Admitted opens c t w o
+  admitted-by : (b : Bool) → tooShort connectionCount t w o || not (isSound connectionCount t) ≡ b → cond b 1 (cond (not (ltb c connectionCount)) 2 (stateRefusal isOpen opens)) ≡ 0 → Admitted opens c t w o
   admitted-by true h e = absurd (omega (arith, e))
   admitted-by false h e =
-      let i = inside-by (ltb c 16) e in
-      record { usable = h; bytes = taken 16 t w o h; inside = ltb-true c 16 (i .0); state = i .1 }
+      let i = inside-by (ltb c connectionCount) e in
+      record { usable = h; bytes = taken connectionCount t w o h; inside = ltb-true c connectionCount (i .0); state = i .1 }
 
   pub is-admitted : (n : ℕ) → n ≡ admission opens c t w o → n ≡ 0 → Admitted opens c t w o
   unfolding admission
-  is-admitted n e z = admitted-by (tooShort 16 t w o || not (isSound 16 t)) refl (sym e ∙ z)
+  is-admitted n e z = admitted-by (tooShort connectionCount t w o || not (isSound connectionCount t)) refl (sym e ∙ z)
 
   -- ---- refused
 
   module _ (e : Event) (from : connectionOf e ≡ c) (asks : isOpening (asked e) ≡ opens) where
-    decided-at-once : ¬ (cond (not (ltb c 16)) 2 (stateRefusal isOpen opens) ≡ 0)
-        → decided e (tableOf 16 t) ≡ refuse c (cond (not (ltb c 16)) 2 (stateRefusal isOpen opens)) (tableOf 16 t)
+    decided-at-once : ¬ (cond (not (ltb c connectionCount)) 2 (stateRefusal isOpen opens) ≡ 0)
+        → decided e (tableOf connectionCount t) ≡ refuse c (cond (not (ltb c connectionCount)) 2 (stateRefusal isOpen opens)) (tableOf connectionCount t)
     unfolding decided decide
-    decided-at-once z = rw (from, sixteen t) (at-once c (asked e) (tableOf 16 t) (ltb c 16) isOpen opens asks z)
+    decided-at-once z = rw (from, sixteen t) (at-once c (asked e) (tableOf connectionCount t) (ltb c connectionCount) isOpen opens asks z)
 
-    refused-by : (b : Bool) (n : ℕ) → tooShort 16 t w o || not (isSound 16 t) ≡ b → n ≡ cond b 1 (cond (not (ltb c 16)) 2 (stateRefusal isOpen opens)) → ¬ (n ≡ 0)
-        → left n 0 o t w ≡ call 16 e t w o
+    refused-by : (b : Bool) (n : ℕ) → tooShort connectionCount t w o || not (isSound connectionCount t) ≡ b → n ≡ cond b 1 (cond (not (ltb c connectionCount)) 2 (stateRefusal isOpen opens)) → ¬ (n ≡ 0)
+        → left n 0 o t w ≡ call connectionCount e t w o
     unfolding refusedBy
-    refused-by true n h g z = ap (λ (m : ℕ). left m 0 o t w) g ∙ sym (one-if 16 e t w o h)
+    refused-by true n h g z = ap (λ (m : ℕ). left m 0 o t w) g ∙ sym (one-if connectionCount e t w o h)
     refused-by false n h g z =
-        let m : ℕ = cond (not (ltb c 16)) 2 (stateRefusal isOpen opens) in
+        let m : ℕ = cond (not (ltb c connectionCount)) 2 (stateRefusal isOpen opens) in
         let y : ¬ (m ≡ 0) = λ q. z (g ∙ q) in
-        let l = silent-laid c m o (state-silent isOpen opens (ltb c 16)) in
+        let l = silent-laid c m o (state-silent isOpen opens (ltb c connectionCount)) in
         (λ i. left (g i) (l .0 i) (l .1 i) t w)
-        ∙ refusal-performed e t w o (taken 16 t w o h) c m y (decided-at-once y)
+        ∙ refusal-performed e t w o (taken connectionCount t w o h) c m y (decided-at-once y)
         ∙ call-performed e t w o h
 
-    pub refused-call : (n : ℕ) → n ≡ admission opens c t w o → ¬ (n ≡ 0) → left n 0 o t w ≡ call 16 e t w o
+    pub refused-call : (n : ℕ) → n ≡ admission opens c t w o → ¬ (n ≡ 0) → left n 0 o t w ≡ call connectionCount e t w o
     unfolding admission
-    refused-call n g z = refused-by (tooShort 16 t w o || not (isSound 16 t)) n refl g z
+    refused-call n g z = refused-by (tooShort connectionCount t w o || not (isSound connectionCount t)) n refl g z

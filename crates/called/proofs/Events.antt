@@ -21,11 +21,13 @@ use Rattle.packet_laws.proofs.Blindness.{opaque-at, opaque-none, answer-masked}
 use Rattle.packet_laws.proofs.Places.{argument-read}
 use Rattle.kinds.proofs.Tests.{bools, range-arm}
 use Rattle.kinds.proofs.Shapes.{at-most-five}
+use Rattle.server.specs.Sizes.{connectionCount}
 use Rattle.server.specs.Asked.{Event, opens, closes, sends, Asked, toOpen, toClose, bad, requested, fromReading, asked}
 use Rattle.server.specs.Events.{refuse, isOpening, served, admitted, decide}
 use Rattle.server.specs.Server.{opaqueOf, decided}
 use Rattle.server.specs.Layout.{tableOf}
-use Rattle.server.specs.Call.{serverIn, call}
+use Rattle.server.specs.Call.{serverIn, call, left}
+use Rattle.server.specs.Refusals.{lastNumber}
 use Rattle.serials.proofs.Refusals.{bad-within}
 use Rattle.plans.specs.declared.Plan.{Plan}
 use Rattle.plans.specs.declared.Change.the-variants as CV
@@ -39,7 +41,7 @@ use Rattle.packet_laws.proofs.Answers.{read-answer}
 use Rattle.sending.proofs.Forwarding.{served-below}
 use Rattle.applying.specs.Fitting.{Fitting}
 use Rattle.applying.proofs.Laid.{whole}
-use Rattle.carrying.proofs.Changes.{Whole}
+use Rattle.carrying.proofs.Laid.{Whole}
 use Rattle.answering.specs.Ordered.{bytesSent}
 use Rattle.suited.proofs.Served.{served-plan}
 use Rattle.suited.proofs.Requests.{request-suits, served-planned}
@@ -47,7 +49,7 @@ use Rattle.suited.proofs.Sizes.{sized, served-sized}
 use Rattle.suited.proofs.Places.{served-fitting, open-fitting, close-fitting}
 use Rattle.suited.proofs.Orders.{served-orderly, silent-orderly}
 use Rattle.requesting.proofs.Asks.{asks, good-arguments}
-use Rattle.performing.specs.Concluded.{Ready, concluded, left, opaqueIn, opaquePlace, refusalBytes}
+use Rattle.performing.specs.Concluded.{Ready, concluded, opaqueIn, opaquePlace, refusalBytes}
 use Rattle.called.proofs.Conclusion.{sixteen, sound, Follows, small-number, ready, concluded-performed, refusal-performed}
 use Rattle.called.proofs.Admitted.{Admitted, call-performed}
 
@@ -83,14 +85,14 @@ module _ (p : Bytes) (ends : Ends) (kind : ℕ) (came : answerOf (read requests 
 -- ---- a request
 
 module _ (c : ℕ) (p : Bytes) (ends : Ends) (kind : ℕ) (t w o : Bytes) (h : Admitted false c t w o) (came : answerOf (read requests p) ≡ RV.Packet kind ends)
-    (plan : Plan) (is : plan ≡ planServed c (asked (sends c p)) (tableOf 16 t)) where
+    (plan : Plan) (is : plan ≡ planServed c (asked (sends c p)) (tableOf connectionCount t)) where
   abbrev what : Asked
   what = requested kind (argumentAt p ends 0) (argumentAt p ends 1) (argumentAt p ends 2)
 
-  plan-is : plan ≡ planServed c what (tableOf 16 t)
-  plan-is = is ∙ ap (λ (a : Asked). planServed c a (tableOf 16 t)) (asks c p ends kind came)
+  plan-is : plan ≡ planServed c what (tableOf connectionCount t)
+  plan-is = is ∙ ap (λ (a : Asked). planServed c a (tableOf connectionCount t)) (asks c p ends kind came)
 
-  whole-table : Whole (tableOf 16 t)
+  whole-table : Whole (tableOf connectionCount t)
   whole-table = whole t (sound (h .bytes))
 
   follows : Follows (sends c p) t w o (h .bytes) plan c kind p ends
@@ -98,23 +100,23 @@ module _ (c : ℕ) (p : Bytes) (ends : Ends) (kind : ℕ) (t w o : Bytes) (h : A
   follows =
       record {
         plans = rw (plan-is, asks c p ends kind came)
-            (served-planned _ c (tableOf 16 t) (h .bytes .rules) (rw (sixteen t) (lt-ltb c 16 (h .inside))) (h .state) (request-suits kind _ _ _));
+            (served-planned _ c (tableOf connectionCount t) (h .bytes .rules) (rw (sixteen t) (lt-ltb c connectionCount (h .inside))) (h .state) (request-suits kind _ _ _));
         shows = refl;
         hides = opaque-is p ends kind came;
       }
 
-  pub request-small : plan .number ≤ 15
+  pub request-small : plan .number ≤ lastNumber
   request-small = small-number _ t w o (h .bytes) plan c kind p ends follows
 
   pub request-ready : plan .number ≡ 0 → Ready plan c kind p ends t w o
   request-ready z =
       ready _ t w o (h .bytes) plan c kind p ends follows z
-      (rw plan-is (served-fitting _ c (tableOf 16 t) whole-table (h .inside) (request-suits kind _ _ _) (good-arguments p ends kind came)))
-      (rw plan-is (served-sized c (tableOf 16 t) whole-table what))
-      (rw plan-is (served-orderly c (tableOf 16 t) whole-table p ends kind came))
+      (rw plan-is (served-fitting _ c (tableOf connectionCount t) whole-table (h .inside) (request-suits kind _ _ _) (good-arguments p ends kind came)))
+      (rw plan-is (served-sized c (tableOf connectionCount t) whole-table what))
+      (rw plan-is (served-orderly c (tableOf connectionCount t) whole-table p ends kind came))
       (opaque-small p ends kind came)
 
-  pub request-call : concluded plan c kind p ends t w o ≡ call 16 (sends c p) t w o
+  pub request-call : concluded plan c kind p ends t w o ≡ call connectionCount (sends c p) t w o
   request-call = concluded-performed _ t w o (h .bytes) plan c kind p ends follows ∙ call-performed (sends c p) t w o (h .usable)
 
 -- ---- no packet opens
@@ -152,14 +154,14 @@ module _ (c n : ℕ) (p t w o : Bytes) (h : Admitted false c t w o) (came : answ
   unfolding asked
   asks-nothing = bad-reading (read requests (masked requests p)) (sym (answer-masked requests requests-well p) ∙ came)
 
-  pub unread-small : n ≤ 15
+  pub unread-small : n ≤ lastNumber
   unread-small = omega (arith, bad-within (sends c p) n asks-nothing .1)
 
-  unread-decided : decided (sends c p) (tableOf 16 t) ≡ refuse c n (tableOf 16 t)
+  unread-decided : decided (sends c p) (tableOf connectionCount t) ≡ refuse c n (tableOf connectionCount t)
   unfolding decided decide admitted served
-  unread-decided = rw (asks-nothing, sixteen t, lt-ltb c 16 (h .inside), h .state)
+  unread-decided = rw (asks-nothing, sixteen t, lt-ltb c connectionCount (h .inside), h .state)
 
-  pub unread-call : left n (length (refusalBytes c n)) (put 0 (refusalBytes c n) o) t w ≡ call 16 (sends c p) t w o
+  pub unread-call : left n (length (refusalBytes c n)) (put 0 (refusalBytes c n) o) t w ≡ call connectionCount (sends c p) t w o
   unread-call =
       refusal-performed (sends c p) t w o (h .bytes) c n (λ z. absurd (omega (arith, bad-within (sends c p) n asks-nothing .0))) unread-decided
       ∙ call-performed (sends c p) t w o (h .usable)
@@ -175,9 +177,9 @@ unfolding opaqueIn opaquePlace requestShape rulesOf argumentAt between
 nothing-opaque = refl
 
 -- an event without a packet
-module _ (e : Event) (a : Asked) (way : Bool) (c : ℕ) (t w o : Bytes) (h : Admitted way c t w o) (plan : Plan) (is : plan ≡ planFor c a (tableOf 16 t))
-    (decides : decided e (tableOf 16 t) ≡ decide c a (tableOf 16 t)) (suits : (v : Words) → Suits v a) (bare : opaqueOf e ≡ []) (silent : plan .order ≡ OV.Nothing)
-    (fits : Fitting (planFor c a (tableOf 16 t) .change) (argumentAt [] noEnds 0) (argumentAt [] noEnds 1) (argumentAt [] noEnds 2)) where
+module _ (e : Event) (a : Asked) (way : Bool) (c : ℕ) (t w o : Bytes) (h : Admitted way c t w o) (plan : Plan) (is : plan ≡ planFor c a (tableOf connectionCount t))
+    (decides : decided e (tableOf connectionCount t) ≡ decide c a (tableOf connectionCount t)) (suits : (v : Words) → Suits v a) (bare : opaqueOf e ≡ []) (silent : plan .order ≡ OV.Nothing)
+    (fits : Fitting (planFor c a (tableOf connectionCount t) .change) (argumentAt [] noEnds 0) (argumentAt [] noEnds 1) (argumentAt [] noEnds 2)) where
   abbrev woken : List ℕ
   woken = toWakeIn (plan .values .able) (droppedRows (plan .values .rows)) (plan .values .connections)
 
@@ -186,30 +188,30 @@ module _ (e : Event) (a : Asked) (way : Bool) (c : ℕ) (t w o : Bytes) (h : Adm
   unfolding bytesSent ordered
   quiet-follows =
       record {
-        plans = rw (is, decides) (planned _ c (tableOf 16 t) (h .bytes .rules) (suits _));
-        shows = rw silent (sym (noops-rendered (sends c []) (serverIn 16 t w) woken) ∙ noops-rendered e (serverIn 16 t w) woken);
+        plans = rw (is, decides) (planned _ c (tableOf connectionCount t) (h .bytes .rules) (suits _));
+        shows = rw silent (sym (noops-rendered (sends c []) (serverIn connectionCount t w) woken) ∙ noops-rendered e (serverIn connectionCount t w) woken);
         hides = sym (bare ∙ nothing-opaque);
       }
 
-  quiet-small : plan .number ≤ 15
+  quiet-small : plan .number ≤ lastNumber
   quiet-small = small-number e t w o (h .bytes) plan c 0 [] noEnds quiet-follows
 
   quiet-ready : plan .number ≡ 0 → Ready plan c 0 [] noEnds t w o
   quiet-ready z =
       ready e t w o (h .bytes) plan c 0 [] noEnds quiet-follows z
       (rw is fits)
-      (rw is (sized c a (tableOf 16 t) (whole t (sound (h .bytes)))))
-      (silent-orderly (plan .order) silent (tableOf 16 t) [] noEnds 0 (argumentAt [] noEnds 0))
+      (rw is (sized c a (tableOf connectionCount t) (whole t (sound (h .bytes)))))
+      (silent-orderly (plan .order) silent (tableOf connectionCount t) [] noEnds 0 (argumentAt [] noEnds 0))
       (omega (arith, ap length nothing-opaque))
 
-  quiet-call : concluded plan c 0 [] noEnds t w o ≡ call 16 e t w o
+  quiet-call : concluded plan c 0 [] noEnds t w o ≡ call connectionCount e t w o
   quiet-call = concluded-performed e t w o (h .bytes) plan c 0 [] noEnds quiet-follows ∙ call-performed e t w o (h .usable)
 
 -- what the caller of a quiet event needs
 pub record Concludes (e : Event) (plan : Plan) (c : ℕ) (t w o : Bytes) (ends : Ends) : Type 0 where
-  pub small : plan .number ≤ 15
+  pub small : plan .number ≤ lastNumber
   pub carried : plan .number ≡ 0 → Ready plan c 0 [] ends t w o
-  pub is : concluded plan c 0 [] ends t w o ≡ call 16 e t w o
+  pub is : concluded plan c 0 [] ends t w o ≡ call connectionCount e t w o
 
 pub open-asks : (c : ℕ) → isOpening (asked (opens c)) ≡ true
 unfolding asked
@@ -220,13 +222,13 @@ unfolding asked
 close-asks c = refl
 
 module _ (c : ℕ) (t w o : Bytes) (plan : Plan) (ends : Ends) (none : ends ≡ noEnds) where
-  pub open-concludes : Admitted true c t w o → plan ≡ done (openedIn c (valuesOf (tableOf 16 t))) CV.Nothing OV.Nothing → Concludes (opens c) plan c t w o ends
+  pub open-concludes : Admitted true c t w o → plan ≡ done (openedIn c (valuesOf (tableOf connectionCount t))) CV.Nothing OV.Nothing → Concludes (opens c) plan c t w o ends
   unfolding planFor decided asked opaqueOf
   open-concludes h e =
-      let p : planFor c toOpen (tableOf 16 t) ≡ done (openedIn c (valuesOf (tableOf 16 t))) CV.Nothing OV.Nothing = rw (sixteen t, lt-ltb c 16 (h .inside), h .state) in
-      let q : plan ≡ planFor c toOpen (tableOf 16 t) = e ∙ sym p in
+      let p : planFor c toOpen (tableOf connectionCount t) ≡ done (openedIn c (valuesOf (tableOf connectionCount t))) CV.Nothing OV.Nothing = rw (sixteen t, lt-ltb c connectionCount (h .inside), h .state) in
+      let q : plan ≡ planFor c toOpen (tableOf connectionCount t) = e ∙ sym p in
       let s : plan .order ≡ OV.Nothing = ap (λ (x : Plan). x .order) e in
-      let f = open-fitting c (tableOf 16 t) (whole t (sound (h .bytes))) _ _ _ in
+      let f = open-fitting c (tableOf connectionCount t) (whole t (sound (h .bytes))) _ _ _ in
       subst (Concludes (opens c) plan c t w o) (sym none)
       (record {
         small = quiet-small (opens c) toOpen true c t w o h plan q refl (λ v. for-open) refl s f;
@@ -234,13 +236,13 @@ module _ (c : ℕ) (t w o : Bytes) (plan : Plan) (ends : Ends) (none : ends ≡ 
         is = quiet-call (opens c) toOpen true c t w o h plan q refl (λ v. for-open) refl s f;
       })
 
-  pub close-concludes : Admitted false c t w o → plan ≡ done (closedIn c (valuesOf (tableOf 16 t))) (CV.Left c) OV.Nothing → Concludes (closes c) plan c t w o ends
+  pub close-concludes : Admitted false c t w o → plan ≡ done (closedIn c (valuesOf (tableOf connectionCount t))) (CV.Left c) OV.Nothing → Concludes (closes c) plan c t w o ends
   unfolding planServed decided asked opaqueOf
   close-concludes h e =
-      let p : planFor c toClose (tableOf 16 t) ≡ planServed c toClose (tableOf 16 t) = served-plan c toClose (tableOf 16 t) (rw (sixteen t) (lt-ltb c 16 (h .inside))) (h .state) in
-      let q : plan ≡ planFor c toClose (tableOf 16 t) = e ∙ sym p in
+      let p : planFor c toClose (tableOf connectionCount t) ≡ planServed c toClose (tableOf connectionCount t) = served-plan c toClose (tableOf connectionCount t) (rw (sixteen t) (lt-ltb c connectionCount (h .inside))) (h .state) in
+      let q : plan ≡ planFor c toClose (tableOf connectionCount t) = e ∙ sym p in
       let s : plan .order ≡ OV.Nothing = ap (λ (x : Plan). x .order) e in
-      let f = close-fitting c (tableOf 16 t) (whole t (sound (h .bytes))) _ _ _ in
+      let f = close-fitting c (tableOf connectionCount t) (whole t (sound (h .bytes))) _ _ _ in
       subst (Concludes (closes c) plan c t w o) (sym none)
       (record {
         small = quiet-small (closes c) toClose false c t w o h plan q refl (λ v. for-close) refl s f;

@@ -11,10 +11,11 @@ use Rattle.octets.specs.Bytes.{Bytes}
 use Rattle.octets.specs.Put.{over, put}
 use Rattle.octets.proofs.Laying.{length-put}
 use Rattle.server.specs.Lists.{concat}
+use Rattle.server.specs.Sizes.{workloadsSize, outputSize}
 use Rattle.server.specs.Asked.{Event}
 use Rattle.server.specs.Server.{Server, next, answer}
 use Rattle.server.specs.Layout.{tableSize, tableOf, bytesOf}
-use Rattle.server.specs.Call.{Result, workloadsSize, outputSize, serverIn, tooShort, isSound, sentBytes, refusedBy, performed, call}
+use Rattle.server.specs.Call.{Result, serverIn, tooShort, isSound, sentBytes, refusedBy, performed, call}
 use Rattle.outcomes.proofs.Cases.{cond-cases}
 use Rattle.table_bytes.proofs.Columns.{length-places}
 use Rattle.calls.proofs.Workloads.{wide-places}
@@ -62,7 +63,7 @@ unfolding refusedBy
 left-refused n t w o =
     record { lengthTable = refl; lengthWorkloads = refl; lengthOutput = refl; beyondTable = refl; beyondWorkloads = refl; beyondOutput = refl; staysSound = λ h. h }
 
-left-performed : (n : ℕ) → n ≤ 32 → (e : Event) (s : Server) → Running n s → (t w o : Bytes) → tableSize n ≤ length t → Left n t w o (performed e s t w o)
+left-performed : (n : ℕ) → n ≤ 256 → (e : Event) (s : Server) → Running n s → (t w o : Bytes) → tableSize n ≤ length t → Left n t w o (performed e s t w o)
 unfolding performed
 left-performed n few e s h t w o l =
     let k = running-next n e s h in
@@ -76,23 +77,23 @@ left-performed n few e s h t w o l =
       staysSound = λ _. sound-with n few (next e s) k t l;
     }
 
-pub every-call : (n : ℕ) → n ≤ 32 → (e : Event) (t w o : Bytes) → Left n t w o (call n e t w o)
+pub every-call : (n : ℕ) → n ≤ 256 → (e : Event) (t w o : Bytes) → Left n t w o (call n e t w o)
 unfolding call
 every-call n few e t w o =
     cond-cases (Left n t w o) (tooShort n t w o || not (isSound n t)) (λ _. left-refused n t w o)
     (λ q. let k = taken n t w o q in left-performed n few e (serverIn n t w) (taken-running n t w o k) t w o (k .longTable))
 
--- with at most 16 connections the reported length is at most 16,592
-length-performed : (n : ℕ) → n ≤ 16 → (e : Event) (s : Server) → Running n s → (t w o : Bytes) → performed e s t w o .length′ ≤ outputSize
+-- the reported length is at most the output that a host lends
+length-performed : (n : ℕ) → n ≤ 256 → (e : Event) (s : Server) → Running n s → (t w o : Bytes) → performed e s t w o .length′ ≤ outputSize n
 unfolding performed
 length-performed n few e s h t w o = output-fits n few e s h
 
-length-refused : (t w o : Bytes) → refusedBy 1 t w o .length′ ≤ outputSize
+length-refused : (n : ℕ) (t w o : Bytes) → refusedBy 1 t w o .length′ ≤ outputSize n
 unfolding refusedBy
-length-refused t w o = omega arith
+length-refused n t w o = omega arith
 
-pub call-fits : (n : ℕ) → n ≤ 16 → (e : Event) (t w o : Bytes) → call n e t w o .length′ ≤ outputSize
+pub call-fits : (n : ℕ) → n ≤ 256 → (e : Event) (t w o : Bytes) → call n e t w o .length′ ≤ outputSize n
 unfolding call
 call-fits n few e t w o =
-    cond-cases (λ (r : Result). r .length′ ≤ outputSize) (tooShort n t w o || not (isSound n t)) (λ _. length-refused t w o)
+    cond-cases (λ (r : Result). r .length′ ≤ outputSize n) (tooShort n t w o || not (isSound n t)) (λ _. length-refused n t w o)
     (λ q. length-performed n few e (serverIn n t w) (taken-running n t w o (taken n t w o q)) t w o)

@@ -11,12 +11,13 @@ use Rattle.octets.specs.Bytes.{Bytes}
 use Rattle.octets.specs.Put.{put}
 use Rattle.octets.proofs.Laying.{length-put}
 use Rattle.server.specs.Lists.{concat}
+use Rattle.server.specs.Sizes.{workloadsSize, outputSize}
 use Rattle.server.specs.Table.{Table}
 use Rattle.server.specs.Rules.{obeys}
 use Rattle.server.specs.Asked.{Event}
 use Rattle.server.specs.Server.{Server, next, answer}
 use Rattle.server.specs.Layout.{tableSize, bytesOf}
-use Rattle.server.specs.Call.{Result, workloadsSize, outputSize, serverIn, tooShort, isSound, sentBytes, performed, call}
+use Rattle.server.specs.Call.{Result, serverIn, tooShort, isSound, sentBytes, performed, call}
 use Rattle.rules_kept.proofs.Lengths.{Shaped, shaped-kept}
 use Rattle.rules_kept.proofs.Kept.{obeys-kept}
 use Rattle.table_bytes.proofs.Laid.{length-bytes}
@@ -41,7 +42,7 @@ pub running-next : (n : ℕ) (e : Event) (s : Server) → Running n s → Runnin
 unfolding next
 running-next n e s h = record { shaped = shaped-kept n e s (h .shaped); rules = obeys-kept e (s .table) (h .rules) }
 
-module _ (n : ℕ) (few : n ≤ 32) where
+module _ (n : ℕ) (few : n ≤ 256) where
   pub fitting : (s : Server) → Running n s → Fitting (s .table)
   fitting s h = obeys-fitting (s .table) (h .shaped .functions) (h .shaped .jobs) (omega (arith, h .shaped .connections)) (h .rules)
 
@@ -64,13 +65,13 @@ module _ (n : ℕ) (few : n ≤ 32) where
         (table-put n (s .table) t (fitting s h) (h .shaped .connections) longTable)
         (places-back 1024 32 (s .workloads) w (h .shaped .workloads) (h .shaped .whole) longWorkloads)
 
-    long-with : (o : Bytes) → outputSize ≤ length o → tooShort n (tableWith s t) (workloadsWith s w) o ≡ false
+    long-with : (o : Bytes) → outputSize n ≤ length o → tooShort n (tableWith s t) (workloadsWith s w) o ≡ false
     unfolding tooShort
     long-with o l =
         rw (length-put 0 (bytesOf (s .table)) t, length-put 0 (concat (s .workloads)) w, le-ltb (length t) (tableSize n) longTable, le-ltb (length w) workloadsSize longWorkloads)
-        (le-ltb (length o) outputSize l)
+        (le-ltb (length o) (outputSize n) l)
 
-    module _ (e : Event) (o : Bytes) (longOutput : outputSize ≤ length o) where
+    module _ (e : Event) (o : Bytes) (longOutput : outputSize n ≤ length o) where
       follows : call n e (tableWith s t) (workloadsWith s w) o ≡ performed e s (tableWith s t) (workloadsWith s w) o
       unfolding call
       follows =

@@ -10,11 +10,12 @@ use lib.ListN.{length, drop, replicate}
 use Rattle.octets.specs.Bytes.{Bytes}
 use Rattle.octets.proofs.Laying.{put-start}
 use Rattle.server.specs.Lists.{concat}
+use Rattle.server.specs.Sizes.{connectionCount, workloadsSize, outputSize}
 use Rattle.server.specs.Table.{fresh}
 use Rattle.server.specs.Asked.{Event}
 use Rattle.server.specs.Server.{Server, next, answer, start, after, answers}
 use Rattle.server.specs.Layout.{tableSize, bytesOf}
-use Rattle.server.specs.Call.{Result, Made, workloadsSize, outputSize, sentBytes, performed, call, make}
+use Rattle.server.specs.Call.{Result, Made, sentBytes, performed, call, make}
 use Rattle.outcomes.proofs.Cases.{All}
 use Rattle.rules_kept.proofs.Kept.{obeys-after, shaped-after}
 use Rattle.calls.specs.History.{Request, events, calls, leaves, Says, Writes, Each}
@@ -52,8 +53,8 @@ make-start n t w lt lw =
 -- ---- histories
 
 -- every output is long enough
-abbrev pub LongOutputs : List Request → Type 0
-LongOutputs xs = All (λ (x : Request). outputSize ≤ length (x .output)) xs
+abbrev pub LongOutputs : ℕ → List Request → Type 0
+LongOutputs n xs = All (λ (x : Request). outputSize n ≤ length (x .output)) xs
 
 -- calls on buffers that hold the server s
 pub record Follow (n : ℕ) (s : Server) (xs : List Request) (t w : Bytes) : Type 0 where
@@ -65,7 +66,7 @@ performed-says : (e : Event) (s : Server) (t w o : Bytes) → Says (record { eve
 unfolding performed
 performed-says e s t w o = record { number = refl; length′ = refl; output = refl }
 
-module _ (n : ℕ) (few : n ≤ 32) (t w : Bytes) (longTable : tableSize n ≤ length t) (longWorkloads : workloadsSize ≤ length w) where
+module _ (n : ℕ) (few : n ≤ 256) (t w : Bytes) (longTable : tableSize n ≤ length t) (longWorkloads : workloadsSize ≤ length w) where
   more-calls : (x : Request) (xs : List Request) (s : Server) → call n (x .event) (tableWith s t) (workloadsWith s w) (x .output) ≡ performed (x .event) s t w (x .output)
       → Follow n (next (x .event) s) xs t w → Follow n s (x ∷ xs) t w
   unfolding calls leaves answers after performed
@@ -76,7 +77,7 @@ module _ (n : ℕ) (few : n ≤ 32) (t w : Bytes) (longTable : tableSize n ≤ l
         workloads = ap (λ (r : Result). leaves n xs (r .table) (r .workloads) .workloads) f ∙ h .workloads;
       }
 
-  pub calls-follow : (xs : List Request) (s : Server) → Running n s → LongOutputs xs → Follow n s xs t w
+  pub calls-follow : (xs : List Request) (s : Server) → Running n s → LongOutputs n xs → Follow n s xs t w
   unfolding calls leaves answers after
   calls-follow [] s h All.none = record { says = Each.none; table = refl; workloads = refl }
   calls-follow (x ∷ xs) s h (All.more l ls) =
@@ -91,13 +92,13 @@ none-one (x ∷ xs) s (Each.more a as′) = All.more (λ q. never-one (x .event)
 
 -- ---- every output holds its packets whole
 
-writes : (n : ℕ) → n ≤ 16 → (x : Request) (s : Server) (r : Result) → Running n s → outputSize ≤ length (x .output) → Says x (answer (x .event) s) r → Writes x (answer (x .event) s) r
+writes : (n : ℕ) → n ≤ 256 → (x : Request) (s : Server) (r : Result) → Running n s → outputSize n ≤ length (x .output) → Says x (answer (x .event) s) r → Writes x (answer (x .event) s) r
 writes n few x s r h l a =
     let f = output-fits n few (x .event) s h in
     let p = sentBytes (answer (x .event) s .sent) in
     record { fits = omega (arith, a .length′); output = a .output ∙ rw (a .length′) (put-start p (x .output) (omega arith)) }
 
-all-write : (n : ℕ) → n ≤ 16 → (xs : List Request) (s : Server) {rs : List Result} → Running n s → LongOutputs xs → Each Says xs (answers s (events xs)) rs → Each Writes xs (answers s (events xs)) rs
+all-write : (n : ℕ) → n ≤ 256 → (xs : List Request) (s : Server) {rs : List Result} → Running n s → LongOutputs n xs → Each Says xs (answers s (events xs)) rs → Each Writes xs (answers s (events xs)) rs
 unfolding answers
 all-write n few [] s h All.none Each.none = Each.none
 all-write n few (x ∷ xs) s h (All.more l ls) (Each.more a as′) =
@@ -113,8 +114,8 @@ pub record History (n : ℕ) (t w : Bytes) (xs : List Request) : Type 0 where
   pub table : leaves n xs (make n t w .table) (make n t w .workloads) .table ≡ tableWith (after (start n) (events xs)) t
   pub workloads : leaves n xs (make n t w .table) (make n t w .workloads) .workloads ≡ workloadsWith (after (start n) (events xs)) w
 
-module _ (n : ℕ) (t w : Bytes) (longTable : tableSize n ≤ length t) (longWorkloads : workloadsSize ≤ length w) (xs : List Request) (long : LongOutputs xs) where
-  pub history : n ≤ 32 → History n t w xs
+module _ (n : ℕ) (t w : Bytes) (longTable : tableSize n ≤ length t) (longWorkloads : workloadsSize ≤ length w) (xs : List Request) (long : LongOutputs n xs) where
+  pub history : n ≤ 256 → History n t w xs
   history few =
       let h = calls-follow n few t w longTable longWorkloads xs (start n) (running-start n) long in
       let m = make-start n t w longTable longWorkloads in
@@ -126,21 +127,21 @@ module _ (n : ℕ) (t w : Bytes) (longTable : tableSize n ≤ length t) (longWor
         workloads = rw m (h .workloads);
       }
 
-  -- with at most 16 connections every output holds its packets whole, and is unchanged beyond them
-  pub history-writes : n ≤ 16 → Each Writes xs (answers (start n) (events xs)) (calls n xs (make n t w .table) (make n t w .workloads))
+  -- every output holds its packets whole, and is unchanged beyond them
+  pub history-writes : n ≤ 256 → Each Writes xs (answers (start n) (events xs)) (calls n xs (make n t w .table) (make n t w .workloads))
   history-writes few = all-write n few xs (start n) (running-start n) long (history (omega arith) .says)
 
   -- "Bytes of table and workloads beyond what the layout uses are never written"
-  pub beyond-table : n ≤ 32 → drop (tableSize n) (leaves n xs (make n t w .table) (make n t w .workloads) .table) ≡ drop (tableSize n) t
+  pub beyond-table : n ≤ 256 → drop (tableSize n) (leaves n xs (make n t w .table) (make n t w .workloads) .table) ≡ drop (tableSize n) t
   beyond-table few =
       let s = after (start n) (events xs) in
       ap (drop (tableSize n)) (history few .table) ∙ drop-put (tableSize n) (bytesOf (s .table)) t (omega (arith, length-table n few s (running-after n (events xs))))
 
-  pub beyond-workloads : n ≤ 32 → drop workloadsSize (leaves n xs (make n t w .table) (make n t w .workloads) .workloads) ≡ drop workloadsSize w
+  pub beyond-workloads : n ≤ 256 → drop workloadsSize (leaves n xs (make n t w .table) (make n t w .workloads) .workloads) ≡ drop workloadsSize w
   beyond-workloads few =
       let s = after (start n) (events xs) in
       ap (drop workloadsSize) (history few .workloads) ∙ drop-put workloadsSize (concat (s .workloads)) w (omega (arith, length-workloads n few s (running-after n (events xs))))
 
 -- 16 connections: a table of 3,796 bytes and workloads of 32,768
-pub sixteen-history : (t w : Bytes) → 3796 ≤ length t → 32768 ≤ length w → (xs : List Request) → LongOutputs xs → History 16 t w xs
-sixteen-history t w lt lw xs l = history 16 t w lt lw xs l (omega arith)
+pub sixteen-history : (t w : Bytes) → tableSize connectionCount ≤ length t → workloadsSize ≤ length w → (xs : List Request) → LongOutputs connectionCount xs → History connectionCount t w xs
+sixteen-history t w lt lw xs l = history connectionCount t w lt lw xs l (omega arith)

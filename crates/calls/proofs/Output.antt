@@ -1,5 +1,5 @@
--- The output always fits: with at most 16 connections, and a table that obeys the rules, what an event sends has at most 16,592 bytes,
--- which is 16 copies of the longest request. Assumes nothing.
+-- The output always fits: with a table of n connections that obeys the rules, what an event sends has at most `outputSize n` bytes: a
+-- copy of the longest request for each connection, or one answer and a NOOP for each. Assumes nothing.
 use Prim.Native.Nat.{ℕ, zero, suc, _+_, _-_, _*_, _<_, _≤_}
 use mathlib.Core.Path.{_≡_, refl, ap}
 use mathlib.Core.Bool.{Bool, true, false, not}
@@ -17,12 +17,14 @@ use Rattle.handle.proofs.Handles.{handle-most}
 use Rattle.packet.specs.Arguments.{join}
 use Rattle.sets.specs.Sets.{has, members}
 use Rattle.server.specs.Lists.{find, filter, numbers}
+use Rattle.server.specs.Sizes.{outputSize}
 use Rattle.server.specs.Table.{Table, noJob, connectionAt, functionAt, jobAt, setJob, hasHandle}
 use Rattle.server.specs.Rules.{together}
+use Rattle.server.specs.Refusals.{refusalTexts, isTold}
 use Rattle.server.specs.Asked.{Event, Work, Asked, echo, work, getStatus, connectionOf, asked}
-use Rattle.server.specs.Events.{Send, plain, copy, assign, Decision, errorTexts, refuse, settle, dropped, wakes, toWake, noop, created, exceptionsName, flag, hears, listenersOf, worked, statusAt, served, admitted, decide}
+use Rattle.server.specs.Events.{Send, plain, copy, assign, Decision, refuse, settle, dropped, wakes, toWake, noop, created, exceptionsName, flag, hears, listenersOf, worked, statusAt, served, admitted, decide}
 use Rattle.server.specs.Server.{Server, shownBy, opaqueOf, render, decided, answer}
-use Rattle.server.specs.Call.{outputSize, sentBytes}
+use Rattle.server.specs.Call.{sentBytes}
 use Rattle.server.proofs.Lists.{length-numbers, length-fit}
 use Rattle.outcomes.proofs.Cases.{cond-both}
 use Rattle.outcomes.proofs.Outcome.{Change, Outcome, outcome}
@@ -118,14 +120,14 @@ module _ (e : Event) (s : Server) where
   refusal-weight : (c n : ℕ) (t : Table) → weighs e s (refuse c n t .packets) ≤ 25
   unfolding refuse join
   refusal-weight c n t =
-      let l = short-at 9 errorTexts (n - 9) refl in
-      cond-both (λ (ss : List Send). weighs e s ss ≤ 25) (ltb n 9) (rw (weigh-none e s) (omega arith)) (rw (plain-weight c 19 _) (omega arith))
+      let l = short-at 9 refusalTexts n refl in
+      cond-both (λ (ss : List Send). weighs e s ss ≤ 25) (isTold n) (rw (plain-weight c 19 _) (omega arith)) (rw (weigh-none e s) (omega arith))
 
 -- ---- every event
 
-module _ (n : ℕ) (few : n ≤ 16) (e : Event) (s : Server) (h : Running n s) where
+module _ (n : ℕ) (few : n ≤ 256) (e : Event) (s : Server) (h : Running n s) where
   -- the end of an event adds at most one NOOP for each connection
-  settled-weight : (ss : List Send) (u : Table) → decided e (s .table) ≡ settle ss u → weighs e s ss ≤ 16384 → weighs e s (settle ss u .packets) ≤ outputSize
+  settled-weight : (ss : List Send) (u : Table) → decided e (s .table) ≡ settle ss u → weighs e s ss ≤ 1063 → weighs e s (settle ss u .packets) ≤ outputSize n
   unfolding settle dropped
   settled-weight ss u q l =
       let a = long-settle ss u .connections in
@@ -135,10 +137,10 @@ module _ (n : ℕ) (few : n ≤ 16) (e : Event) (s : Server) (h : Running n s) w
       let k = h .shaped .connections in
       rw (weigh-append e s ss (map noop (toWake (dropped u))), weigh-noops e s (toWake (dropped u))) (omega arith)
 
-  silent-weight : (u : Table) → decided e (s .table) ≡ settle [] u → weighs e s (settle [] u .packets) ≤ outputSize
+  silent-weight : (u : Table) → decided e (s .table) ≡ settle [] u → weighs e s (settle [] u .packets) ≤ outputSize n
   silent-weight u q = settled-weight [] u q (rw (weigh-none e s) (omega arith))
 
-  one-weight : (x : Send) (u : Table) → decided e (s .table) ≡ settle (x ∷ []) u → weighs e s (x ∷ []) ≤ 1063 → weighs e s (settle (x ∷ []) u .packets) ≤ outputSize
+  one-weight : (x : Send) (u : Table) → decided e (s .table) ≡ settle (x ∷ []) u → weighs e s (x ∷ []) ≤ 1063 → weighs e s (settle (x ∷ []) u .packets) ≤ outputSize n
   one-weight x u q l = settled-weight (x ∷ []) u q (omega arith)
 
   job-together : (p : ℕ) → p < length (s .table .jobs) → together (s .table) (jobAt (s .table) p) ≤ 1022
@@ -146,7 +148,7 @@ module _ (n : ℕ) (few : n ≤ 16) (e : Event) (s : Server) (h : Running n s) w
 
   -- a worker packet: at most one copy for each connection, and no NOOP
   worker-weight : (how : Work) (kind : ℕ) (j x y : Bytes) (p : ℕ) → asked e ≡ work how kind j x y
-      → weighs e s (settle (map (λ l. copy l kind) (filter (hears how (s .table)) (listenersOf (s .table) (jobAt (s .table) p .row)))) (setJob (s .table) p (worked how x y (jobAt (s .table) p))) .packets) ≤ outputSize
+      → weighs e s (settle (map (λ l. copy l kind) (filter (hears how (s .table)) (listenersOf (s .table) (jobAt (s .table) p .row)))) (setJob (s .table) p (worked how x y (jobAt (s .table) p))) .packets) ≤ outputSize n
   unfolding settle
   worker-weight how kind j x y p q =
       let t = s .table in
@@ -158,7 +160,7 @@ module _ (n : ℕ) (few : n ≤ 16) (e : Event) (s : Server) (h : Running n s) w
       rw (worker-wakes-nobody t p how x y (obeyed t (h .rules) .idle), weigh-append e s (map (λ l. copy l kind) (filter (hears how t) ls)) [], weigh-none e s) (omega arith)
 
   status-at-weight : (c : ℕ) (j : Bytes) (o : Option ℕ) → find (λ k. hasHandle j (k .row)) (s .table .jobs) ≡ o → length j ≤ 1024
-      → decided e (s .table) ≡ statusAt o c j (s .table) → weighs e s (statusAt o c j (s .table) .packets) ≤ outputSize
+      → decided e (s .table) ≡ statusAt o c j (s .table) → weighs e s (statusAt o c j (s .table) .packets) ≤ outputSize n
   unfolding statusAt
   status-at-weight c j none f l q = one-weight _ (s .table) q (status-weight e s c j false false (flag false) (flag false) l (omega arith) (omega arith))
   status-at-weight c j (some p) f l q =
@@ -169,19 +171,19 @@ module _ (n : ℕ) (few : n ≤ 16) (e : Event) (s : Server) (h : Running n s) w
 
   -- asking for a status is refused, or answered with a status
   admitted-status : (b o : Bool) (c : ℕ) (j : Bytes) → length j ≤ 1024 → decided e (s .table) ≡ admitted b o c (getStatus j) (s .table)
-      → weighs e s (admitted b o c (getStatus j) (s .table) .packets) ≤ outputSize
+      → weighs e s (admitted b o c (getStatus j) (s .table) .packets) ≤ outputSize n
   unfolding admitted served
   admitted-status false o c j l q = omega (arith, refusal-weight e s c 2 (s .table))
   admitted-status true false c j l q = omega (arith, refusal-weight e s c 3 (s .table))
   admitted-status true true c j l q = status-at-weight c j _ refl l q
 
-  status-event : (j : Bytes) → asked e ≡ getStatus j → weighs e s (decided e (s .table) .packets) ≤ outputSize
+  status-event : (j : Bytes) → asked e ≡ getStatus j → weighs e s (decided e (s .table) .packets) ≤ outputSize n
   unfolding decided decide
   status-event j q =
       let d : decided e (s .table) ≡ decide (connectionOf e) (getStatus j) (s .table) = ap (λ (a : Asked). decide (connectionOf e) a (s .table)) q in
       rw d (admitted-status _ _ (connectionOf e) j (handle-short e j q) d)
 
-  event-weight : {a : Asked} {d : Decision} → asked e ≡ a → decided e (s .table) ≡ d → Outcome (connectionOf e) (s .table) a d → weighs e s (decided e (s .table) .packets) ≤ outputSize
+  event-weight : {a : Asked} {d : Decision} → asked e ≡ a → decided e (s .table) ≡ d → Outcome (connectionOf e) (s .table) a d → weighs e s (decided e (s .table) .packets) ≤ outputSize n
   unfolding join
   event-weight p q (Outcome.refused a m) = rw q (omega (arith, refusal-weight e s (connectionOf e) m (s .table)))
   event-weight p q (Outcome.opened a i l o) = rw q (silent-weight _ q)
@@ -200,6 +202,6 @@ module _ (n : ℕ) (few : n ≤ 16) (e : Event) (s : Server) (h : Running n s) w
   event-weight p q (Outcome.done a ss u l o (Change.optioned name r)) = rw q (one-weight _ _ q (option-weight e s (connectionOf e) name r))
   event-weight p q (Outcome.done a ss u l o Change.echoed) = rw q (one-weight _ _ q (omega (arith, copies-weight e s 17 (connectionOf e ∷ []) (data-short e echo p refl))))
 
-  pub output-fits : length (sentBytes (answer e s .sent)) ≤ outputSize
+  pub output-fits : length (sentBytes (answer e s .sent)) ≤ outputSize n
   unfolding answer decided weighs
   output-fits = event-weight refl refl (outcome (connectionOf e) (asked e) (s .table))

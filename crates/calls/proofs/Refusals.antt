@@ -9,21 +9,22 @@ use native.Mathlib.Omega.{arith}
 use borrow.Author.Tests.{ltb-false, leb-true, not-false}
 use lib.ListN.{length, getD, drop, length-append}
 use lib.Dec.{ltb, leb}
-use Rattle.octets.specs.Bytes.{Bytes}
+use Rattle.octets.specs.Bytes.{Bytes, same}
 use Rattle.octets.specs.Put.{put}
 use Rattle.octets.proofs.Strings.{and-left, and-right}
 use Rattle.octets.proofs.Laying.{put-start, put-none}
 use Rattle.packet.specs.Packet.{packet}
 use Rattle.server.specs.Lists.{all, concat}
+use Rattle.server.specs.Sizes.{workloadsSize, outputSize}
 use Rattle.server.specs.Rules.{obeys}
 use Rattle.server.specs.Asked.{Event, connectionOf}
-use Rattle.server.specs.Events.{errorTexts}
+use Rattle.server.specs.Refusals.{refusalTexts, lastNumber, isTold}
 use Rattle.server.specs.Server.{Server, Sent, addressed, answer}
 use Rattle.server.specs.Layout.{tableSize, tableOf, bytesOf, isImage}
-use Rattle.server.specs.Call.{Result, workloadsSize, outputSize, serverIn, tooShort, isSound, sentBytes, refusedBy, performed, call}
+use Rattle.server.specs.Call.{Result, serverIn, tooShort, isSound, sentBytes, refusedBy, performed, call}
 use Rattle.outcomes.proofs.Cases.{cond-cases}
 use Rattle.serials.proofs.Refusals.{errorPacket, Refusal, refusal, Fate, is-done, is-refused, fate}
-use Rattle.rules_kept.proofs.Rows.{or-false}
+use Rattle.rules_kept.proofs.Rows.{or-false, clash}
 use Rattle.table_bytes.proofs.Image.{image-back}
 use Rattle.calls.proofs.Workloads.{own-places}
 
@@ -33,7 +34,7 @@ use Rattle.calls.proofs.Workloads.{own-places}
 pub record Taken (n : ℕ) (t w o : Bytes) : Type 0 where
   pub longTable : tableSize n ≤ length t
   pub longWorkloads : workloadsSize ≤ length w
-  pub longOutput : outputSize ≤ length o
+  pub longOutput : outputSize n ≤ length o
   pub image : isImage n t ≡ true
   pub rules : obeys (tableOf n t) ≡ true
 
@@ -41,8 +42,8 @@ pub taken : (n : ℕ) (t w o : Bytes) → tooShort n t w o || not (isSound n t) 
 unfolding tooShort isSound
 taken n t w o e =
     let a = or-false (tooShort n t w o) (not (isSound n t)) e in
-    let b = or-false (ltb (length t) (tableSize n)) (ltb (length w) workloadsSize || ltb (length o) outputSize) (a .0) in
-    let c = or-false (ltb (length w) workloadsSize) (ltb (length o) outputSize) (b .1) in
+    let b = or-false (ltb (length t) (tableSize n)) (ltb (length w) workloadsSize || ltb (length o) (outputSize n)) (a .0) in
+    let c = or-false (ltb (length w) workloadsSize) (ltb (length o) (outputSize n)) (b .1) in
     let s : isImage n t && obeys (tableOf n t) ≡ true = not-false (isSound n t) (a .1) in
     record {
       longTable = ltb-false _ _ (b .0);
@@ -61,7 +62,7 @@ short-at k (x ∷ xs) (suc i) e = short-at k xs i (and-right (leb (length x) k) 
 
 pub error-short : (c n : ℕ) → length (addressed (errorPacket c n)) ≤ 25
 unfolding packet
-error-short c n = simp length-append (omega (arith, short-at 9 errorTexts (n - 9) refl))
+error-short c n = simp length-append (omega (arith, short-at 9 refusalTexts n refl))
 
 -- the server refuses nothing by 1
 pub never-one : (e : Event) (s : Server) → ¬ (answer e s .number ≡ 1)
@@ -76,9 +77,9 @@ never-one e s q = by (fate e s)
 pub record Refused (e : Event) (t w o : Bytes) (r : Result) : Type 0 where
   pub table : r .table ≡ t
   pub workloads : r .workloads ≡ w
-  pub most : r .number ≤ 15
-  pub silent : r .number ≤ 8 → (r .length′ ≡ 0) × (r .output ≡ o)
-  pub tells : 9 ≤ r .number → let p = addressed (errorPacket (connectionOf e) (r .number)) in (r .length′ ≡ length p) × (r .output ≡ p ++ drop (length p) o)
+  pub most : r .number ≤ lastNumber
+  pub silent : isTold (r .number) ≡ false → (r .length′ ≡ 0) × (r .output ≡ o)
+  pub tells : isTold (r .number) ≡ true → let p = addressed (errorPacket (connectionOf e) (r .number)) in (r .length′ ≡ length p) × (r .output ≡ p ++ drop (length p) o)
 
 module _ (n : ℕ) (e : Event) (t w o : Bytes) where
   -- the server read from the bytes, laid over them, changes nothing
@@ -107,8 +108,8 @@ module _ (n : ℕ) (e : Event) (t w o : Bytes) where
       }
 
   refused-by-one : Refused e t w o (refusedBy 1 t w o)
-  unfolding refusedBy
-  refused-by-one = record { table = refl; workloads = refl; most = omega arith; silent = λ h. (refl, refl); tells = λ h. absurd (omega arith) }
+  unfolding refusedBy isTold same
+  refused-by-one = record { table = refl; workloads = refl; most = omega arith; silent = λ h. (refl, refl); tells = λ h. clash h refl }
 
   number-of : ¬ (performed e (serverIn n t w) t w o .number ≡ 0) → ¬ (answer e (serverIn n t w) .number ≡ 0)
   unfolding performed
@@ -127,11 +128,11 @@ module _ (n : ℕ) (e : Event) (t w o : Bytes) where
   unfolding performed
   performed-number = refl
 
-  -- every number is at most 15
-  pub number-most : call n e t w o .number ≤ 15
+  -- every number is one of the table
+  pub number-most : call n e t w o .number ≤ lastNumber
   number-most = by (call n e t w o .number) refl
     where
-      by : (k : ℕ) → call n e t w o .number ≡ k → k ≤ 15
+      by : (k : ℕ) → call n e t w o .number ≡ k → k ≤ lastNumber
       by zero q = omega arith
       by (suc k) q = omega (arith, call-refused (λ z. absurd (omega arith)) .most)
 

@@ -1,107 +1,148 @@
--- The end of an event on bytes: the texts of free places and the names of forgotten functions set to zero, and the settled numbers
--- written: the bytes of the settled table. Assumes nothing.
-use Prim.Native.Nat.{ℕ, suc}
+-- Every place laid with the settled numbers over the bytes of a table: the bytes of the table that they make. Assumes nothing.
+use Prim.Native.Nat.{ℕ, zero, suc, _+_, _≤_}
 use mathlib.Core.Path.{_≡_, refl, sym, ap, ap₂, _∙_}
-use mathlib.Core.Bool.{Bool, true, false, cond, not}
-use mathlib.Core.List.{List, [], _∷_, map}
+use mathlib.Core.Bool.{Bool, false, cond}
+use mathlib.Core.List.{List, [], _∷_}
+use native.Mathlib.Nat.{add-zero, zero-add}
 use native.Mathlib.Omega.{arith}
-use lib.ListN.{length}
+use lib.ListN.{length, getD}
 use Rattle.octets.specs.Bytes.{Bytes}
 use Rattle.octets.specs.Put.{put}
+use Rattle.server.specs.declared.Connection.{Connection}
 use Rattle.server.specs.declared.JobRow.{JobRow}
-use Rattle.server.specs.Lists.{fit, numbers}
-use Rattle.server.specs.Table.{Function, Job, Table, noFunction, noJob, withRow, live}
-use Rattle.server.specs.Layout.{bytesOf}
+use Rattle.server.specs.Lists.{mapFrom}
+use Rattle.server.specs.Sizes.{connectionCount, functionCount, jobCount}
+use Rattle.server.specs.Table.{Function, Job, Table, closed, noRow, noFunction, withLastSerial, withConnections, withFunctions, withJobs, withAble}
+use Rattle.server.specs.Layout.{little, bytesOf}
+use Rattle.rules_kept.proofs.Rows.{length-mapFrom}
+use Rattle.places.proofs.Puts.{put-last}
 use Rattle.plans.specs.declared.Values.{Values}
-use Rattle.plans.specs.Values.{valuesOf}
-use Rattle.plans.specs.Settling.{settledValues, wantedIn, wantedMarks}
+use Rattle.plans.specs.Settling.{wantedIn, wantedMarks, settledValues}
 use Rattle.plans.specs.Plans.{rowed, rowedAll, ableAll, finalTable}
-use Rattle.rows.specs.Columns.{numberBytes, connectionBytes}
-use Rattle.texts.specs.Places.{cleared}
-use Rattle.carrying.specs.Written.{freeMarks, tidied, written}
-use Rattle.carrying.proofs.Regions.{Marked, none, more}
-use Rattle.carrying.proofs.Runs.{name32, unique64, numerator10, denominator10, wide32, wide64, wide10, wide10′, runs, bytes-runs, Sized, names-marked, uniques-marked, numerators-marked, denominators-marked, values-put}
-use Rattle.carrying.proofs.Changes.{Whole, sized}
+use Rattle.plans.proofs.Numbers.{number-made}
+use Rattle.carrying.specs.Laying.{laidJob, laidFunction, laidFlags}
+use Rattle.carrying.specs.Written.{laidJobs, laidFunctions, laidConnections, written}
+use Rattle.carrying.proofs.Laid.{Whole, job-laid, function-laid, flags-laid}
+use Rattle.carrying.proofs.Each.{eachJob, eachFunction, eachConnection, each-laid, all-jobs, all-functions, all-connections, job-whole, function-whole, connection-whole}
 
--- ---- which places are cleared
+-- ---- a list given place by place
 
-module _ (f : Job → Bytes) (w : ℕ) (wide : (j : Job) → length (f j) ≡ w) (blank : f noJob ≡ fit w []) (same : (r : JobRow) (j : Job) → f (withRow r j) ≡ f j) where
-  cleared-job : (r : JobRow) (j : Job) → f (rowed r j) ≡ cond (not (live r)) (fit w []) (f j)
-  cleared-job r j = go (live r)
-    where
-      go : (b : Bool) → f (cond b (withRow r j) noJob) ≡ cond (not b) (fit w []) (f j)
-      go true = same r j
-      go false = blank
+-- entry k of a longer list is entry 0 of the rest, and so on
+abbrev Rest : {A : Type 0} → A → List A → ℕ → List A → Type 0
+Rest d l k m = (i : ℕ) → getD l (k + i) d ≡ getD m i d
 
-  cleared-jobs : (rs : List JobRow) (js : List Job) → length rs ≡ length js → Marked f w wide [] (freeMarks rs) js (rowedAll rs js)
-  cleared-jobs [] [] e = none
-  cleared-jobs [] (j ∷ js) e = absurd (omega arith)
-  cleared-jobs (r ∷ rs) [] e = absurd (omega arith)
-  cleared-jobs (r ∷ rs) (j ∷ js) e = more (cleared-job r j) (cleared-jobs rs js (omega arith))
+rest-first : {A : Type 0} (d : A) (l : List A) (k : ℕ) (x : A) (m : List A) → Rest d l k (x ∷ m) → getD l k d ≡ x
+rest-first d l k x m e = ap (λ (n : ℕ). getD l n d) (sym (add-zero k)) ∙ e 0
 
-forgotten-names : (ables : List ℕ) (rs : List JobRow) (q : ℕ) (ss : List ℕ) (fs : List Function) → length ss ≡ length fs
-    → Marked name32 32 wide32 [] (map (λ k. not (wantedIn ables rs k)) (numbers q (length fs))) fs (ableAll ables rs q ss fs)
-forgotten-names ables rs q [] [] e = none
-forgotten-names ables rs q [] (f ∷ fs) e = absurd (omega arith)
-forgotten-names ables rs q (s ∷ ss) [] e = absurd (omega arith)
-forgotten-names ables rs q (s ∷ ss) (f ∷ fs) e = more (go (wantedIn ables rs q)) (forgotten-names ables rs (suc q) ss fs (omega arith))
-  where
-    go : (b : Bool) → name32 (cond b (record { name = f .name; able = s }) noFunction) ≡ cond (not b) (fit 32 []) (name32 f)
-    go true = refl
-    go false = refl
+rest-next : {A : Type 0} (d : A) (l : List A) (k : ℕ) (x : A) (m : List A) → Rest d l k (x ∷ m) → Rest d l (suc k) m
+rest-next d l k x m e i = let n : suc k + i ≡ k + suc i = omega arith in ap (λ (j : ℕ). getD l j d) n ∙ e (suc i)
 
-not-marks : (ables : List ℕ) (rs : List JobRow) (ks : List ℕ) → map not (map (wantedIn ables rs) ks) ≡ map (λ k. not (wantedIn ables rs k)) ks
-not-marks ables rs [] = refl
-not-marks ables rs (k ∷ ks) = ap (λ (l : List Bool). not (wantedIn ables rs k) ∷ l) (not-marks ables rs ks)
+rest-all : {A : Type 0} (d : A) (l : List A) → Rest d l 0 l
+rest-all d l i = ap (λ (n : ℕ). getD l n d) (zero-add i)
 
-length-rowed : (rs : List JobRow) (js : List Job) → length rs ≡ length js → length (rowedAll rs js) ≡ length js
-length-rowed [] [] e = refl
-length-rowed [] (j ∷ js) e = absurd (omega arith)
-length-rowed (r ∷ rs) [] e = absurd (omega arith)
-length-rowed (r ∷ rs) (j ∷ js) e = ap suc (length-rowed rs js (omega arith))
+-- ---- the three columns of places
 
-length-ableAll : (ables : List ℕ) (rs : List JobRow) (q : ℕ) (ss : List ℕ) (fs : List Function) → length ss ≡ length fs → length (ableAll ables rs q ss fs) ≡ length fs
-length-ableAll ables rs q [] [] e = refl
-length-ableAll ables rs q [] (f ∷ fs) e = absurd (omega arith)
-length-ableAll ables rs q (s ∷ ss) [] e = absurd (omega arith)
-length-ableAll ables rs q (s ∷ ss) (f ∷ fs) e = ap suc (length-ableAll ables rs (suc q) ss fs (omega arith))
+newJob : List JobRow → ℕ → Job → Job
+newJob rs p j = rowed (getD rs p noRow) j
+
+jobs-rowed : (all rs : List JobRow) (k : ℕ) (js : List Job) → length rs ≡ length js → Rest noRow all k rs → mapFrom (newJob all) k js ≡ rowedAll rs js
+unfolding newJob
+jobs-rowed all [] k [] e r = refl
+jobs-rowed all [] k (j ∷ js) e r = absurd (omega arith)
+jobs-rowed all (x ∷ rs) k [] e r = absurd (omega arith)
+jobs-rowed all (x ∷ rs) k (j ∷ js) e r = ap₂ _∷_ (ap (λ (y : JobRow). rowed y j) (rest-first noRow all k x rs r)) (jobs-rowed all rs (suc k) js (omega arith) (rest-next noRow all k x rs r))
+
+newFunction : List Bool → List ℕ → ℕ → Function → Function
+newFunction ms ss q x = cond (getD ms q false) (withAble (getD ss q 0) x) noFunction
+
+functions-able : (ables : List ℕ) (rs : List JobRow) (all ss : List ℕ) (k : ℕ) (fs : List Function) → length ss ≡ length fs → k + length fs ≤ functionCount → Rest 0 all k ss
+    → mapFrom (newFunction (wantedMarks ables rs) all) k fs ≡ ableAll ables rs k ss fs
+unfolding newFunction wantedMarks
+functions-able ables rs all [] k [] e h r = refl
+functions-able ables rs all [] k (x ∷ fs) e h r = absurd (omega arith)
+functions-able ables rs all (s ∷ ss) k [] e h r = absurd (omega arith)
+functions-able ables rs all (s ∷ ss) k (x ∷ fs) e h r =
+    ap₂ _∷_
+    (ap₂ (λ (m : Bool) (n : ℕ). cond m (withAble n x) noFunction) (number-made (wantedIn ables rs) false 0 functionCount k (omega arith) ∙ ap (wantedIn ables rs) (zero-add k)) (rest-first 0 all k s ss r))
+    (functions-able ables rs all ss (suc k) fs (omega arith) (omega arith) (rest-next 0 all k s ss r))
+
+newConnection : List Connection → ℕ → Connection → Connection
+newConnection cs c x = getD cs c closed
+
+connections-given : (all cs : List Connection) (k : ℕ) (xs : List Connection) → length cs ≡ length xs → Rest closed all k cs → mapFrom (newConnection all) k xs ≡ cs
+unfolding newConnection
+connections-given all [] k [] e r = refl
+connections-given all [] k (x ∷ xs) e r = absurd (omega arith)
+connections-given all (y ∷ cs) k [] e r = absurd (omega arith)
+connections-given all (y ∷ cs) k (x ∷ xs) e r = ap₂ _∷_ (rest-first closed all k y cs r) (connections-given all cs (suc k) xs (omega arith) (rest-next closed all k y cs r))
 
 -- ---- the whole
 
 module _ (v : Values) (s : Table) (w : Whole s) (b : Bytes) (u : Values) (eu : u ≡ settledValues v)
-    (lc : length (u .connections) ≡ 16) (la : length (u .able) ≡ 16) (lr : length (u .rows) ≡ 32)
-    (settles : valuesOf (finalTable v s) ≡ settledValues v) where
+    (lc : length (u .connections) ≡ connectionCount) (la : length (u .able) ≡ functionCount) (lr : length (u .rows) ≡ jobCount) where
+  marks : List Bool
+  marks = wantedMarks (u .able) (u .rows)
+
+  t₀ : Table
+  t₀ = withLastSerial (u .last) s
+
+  t₁ : Table
+  t₁ = withJobs (mapFrom (newJob (u .rows)) 0 (s .jobs)) t₀
+
+  t₂ : Table
+  t₂ = withFunctions (mapFrom (newFunction marks (u .able)) 0 (s .functions)) t₁
+
+  t₃ : Table
+  t₃ = withConnections (mapFrom (newConnection (u .connections)) 0 (s .connections)) t₂
+
+  w₀ : Whole t₀
+  unfolding t₀
+  w₀ = record { connections = w .connections; functions = w .functions; jobs = w .jobs }
+
+  w₁ : Whole t₁
+  unfolding t₀ t₁
+  w₁ = record { connections = w .connections; functions = w .functions; jobs = length-mapFrom (newJob (u .rows)) 0 (s .jobs) ∙ w .jobs }
+
+  w₂ : Whole t₂
+  unfolding t₀ t₁ t₂
+  w₂ = record { connections = w .connections; functions = length-mapFrom (newFunction marks (u .able)) 0 (s .functions) ∙ w .functions; jobs = w₁ .jobs }
+
+  jobs-laid : laidJobs (u .rows) (put 0 (bytesOf t₀) b) ≡ put 0 (bytesOf t₁) b
+  unfolding newJob t₀ t₁
+  jobs-laid =
+      each-laid (λ p. laidJob (getD (u .rows) p noRow) p) (eachJob (newJob (u .rows))) jobCount b
+      (λ p x y h. job-laid x y b (getD (u .rows) p noRow) p h) (job-whole (newJob (u .rows))) 0 jobCount t₀ w₀ (omega arith)
+      ∙ ap (λ (x : Table). put 0 (bytesOf x) b) (all-jobs (newJob (u .rows)) jobCount t₀ (w .jobs))
+
+  functions-laid : laidFunctions marks (u .able) (put 0 (bytesOf t₁) b) ≡ put 0 (bytesOf t₂) b
+  unfolding newFunction t₀ t₁ t₂
+  functions-laid =
+      each-laid (λ q. laidFunction (getD marks q false) (getD (u .able) q 0) q) (eachFunction (newFunction marks (u .able))) functionCount b
+      (λ q x y h. function-laid x y b (getD marks q false) (getD (u .able) q 0) q h) (function-whole (newFunction marks (u .able))) 0 functionCount t₁ w₁ (omega arith)
+      ∙ ap (λ (x : Table). put 0 (bytesOf x) b) (all-functions (newFunction marks (u .able)) functionCount t₁ (w .functions))
+
+  connections-laid : laidConnections (u .connections) (put 0 (bytesOf t₂) b) ≡ put 0 (bytesOf t₃) b
+  unfolding newConnection t₀ t₁ t₂ t₃
+  connections-laid =
+      each-laid (λ c. laidFlags c (getD (u .connections) c closed)) (eachConnection (newConnection (u .connections))) connectionCount b
+      (λ c x y h. flags-laid x y b c (getD (u .connections) c closed) h) (connection-whole (newConnection (u .connections))) 0 connectionCount t₂ w₂ (omega arith)
+      ∙ ap (λ (x : Table). put 0 (bytesOf x) b) (all-connections (newConnection (u .connections)) connectionCount t₂ (w .connections))
+
+  final-is : t₃ ≡ finalTable v s
+  unfolding finalTable marks t₀ t₁ t₂ t₃
+  final-is =
+      ap (λ (js : List Job). withConnections (mapFrom (newConnection (u .connections)) 0 (s .connections)) (withFunctions (mapFrom (newFunction (wantedMarks (u .able) (u .rows)) (u .able)) 0 (s .functions)) (withJobs js (withLastSerial (u .last) s))))
+      (jobs-rowed (u .rows) (u .rows) 0 (s .jobs) (lr ∙ sym (w .jobs)) (rest-all noRow (u .rows)))
+      ∙ ap₂ (λ (fs : List Function) (cs : List Connection). withConnections cs (withFunctions fs (withJobs (rowedAll (u .rows) (s .jobs)) (withLastSerial (u .last) s))))
+      (functions-able (u .able) (u .rows) (u .able) (u .able) 0 (s .functions) (la ∙ sym (w .functions)) (omega (arith, w .functions)) (rest-all 0 (u .able)))
+      (connections-given (u .connections) (u .connections) 0 (s .connections) (lc ∙ sym (w .connections)) (rest-all closed (u .connections)))
+      ∙ ap (λ (x : Values). withLastSerial (x .last) (withConnections (x .connections) (withFunctions (ableAll (x .able) (x .rows) 0 (x .able) (s .functions)) (withJobs (rowedAll (x .rows) (s .jobs)) s)))) eu
+
   pub final-bytes : written u (put 0 (bytesOf s) b) ≡ put 0 (bytesOf (finalTable v s)) b
-  unfolding finalTable wantedMarks written tidied
+  unfolding written marks t₀
   final-bytes =
-      let js : List Job = s .jobs in
-      let ks : List Job = rowedAll (u .rows) js in
-      let gs : List Function = ableAll (u .able) (u .rows) 0 (u .able) (s .functions) in
-      let z = sized s w in
-      let ej : length (u .rows) ≡ length js = lr ∙ sym (w .jobs) in
-      let ef : length (u .able) ≡ length (s .functions) = la ∙ sym (w .functions) in
-      let lk : length ks ≡ 32 = length-rowed (u .rows) js ej ∙ w .jobs in
-      let z1 : Sized (valuesOf s) (s .functions) ks js js = record { connections = z .connections; able = z .able; rows = z .rows; functions = z .functions; uniques = lk; numerators = w .jobs; denominators = w .jobs } in
-      let z2 : Sized (valuesOf s) (s .functions) ks ks js = record { connections = z .connections; able = z .able; rows = z .rows; functions = z .functions; uniques = lk; numerators = lk; denominators = w .jobs } in
-      let z3 : Sized (valuesOf s) (s .functions) ks ks ks = record { connections = z .connections; able = z .able; rows = z .rows; functions = z .functions; uniques = lk; numerators = lk; denominators = lk } in
-      let z4 : Sized (valuesOf s) gs ks ks ks = record { connections = z .connections; able = z .able; rows = z .rows; functions = length-ableAll (u .able) (u .rows) 0 (u .able) (s .functions) ef ∙ w .functions; uniques = lk; numerators = lk; denominators = lk } in
-      let m : map not (map (wantedIn (u .able) (u .rows)) (numbers 0 16)) ≡ map (λ k. not (wantedIn (u .able) (u .rows) k)) (numbers 0 (length (s .functions))) =
-      not-marks (u .able) (u .rows) (numbers 0 16) ∙ ap (λ (n : ℕ). map (λ k. not (wantedIn (u .able) (u .rows) k)) (numbers 0 n)) (sym (w .functions)) in
-      let free : List Bool = freeMarks (u .rows) in
-      let marks : List Bool = map not (map (wantedIn (u .able) (u .rows)) (numbers 0 16)) in
-      let a1 : cleared 1060 64 free (put 0 (bytesOf s) b) ≡ put 0 (runs (valuesOf s) (s .functions) ks js js) b =
-      ap (λ (c : Bytes). cleared 1060 64 free (put 0 c b)) (bytes-runs s) ∙ uniques-marked (valuesOf s) (s .functions) js js js z [] (cleared-jobs unique64 64 wide64 refl (λ r j. refl) (u .rows) js ej) b in
-      let a2 : cleared 3108 10 free (put 0 (runs (valuesOf s) (s .functions) ks js js) b) ≡ put 0 (runs (valuesOf s) (s .functions) ks ks js) b =
-      numerators-marked (valuesOf s) (s .functions) ks js js z1 [] (cleared-jobs numerator10 10 wide10 refl (λ r j. refl) (u .rows) js ej) b in
-      let a3 : cleared 3428 10 free (put 0 (runs (valuesOf s) (s .functions) ks ks js) b) ≡ put 0 (runs (valuesOf s) (s .functions) ks ks ks) b =
-      denominators-marked (valuesOf s) (s .functions) ks ks js z2 [] (cleared-jobs denominator10 10 wide10′ refl (λ r j. refl) (u .rows) js ej) b in
-      let a4 : cleared 548 32 marks (put 0 (runs (valuesOf s) (s .functions) ks ks ks) b) ≡ put 0 (runs (valuesOf s) gs ks ks ks) b =
-      ap (λ (l : List Bool). cleared 548 32 l (put 0 (runs (valuesOf s) (s .functions) ks ks ks) b)) m
-      ∙ names-marked (valuesOf s) (s .functions) ks ks ks z3 [] (forgotten-names (u .able) (u .rows) 0 (u .able) (s .functions) ef) b in
-      ap (λ (c : Bytes). put 0 (numberBytes u) (put 3748 (connectionBytes u) (cleared 548 32 marks c)))
-      (ap (λ (c : Bytes). cleared 3428 10 free (cleared 3108 10 free c)) a1 ∙ ap (cleared 3428 10 free) a2 ∙ a3)
-      ∙ ap (λ (c : Bytes). put 0 (numberBytes u) (put 3748 (connectionBytes u) c)) a4
-      ∙ values-put (valuesOf s) gs ks ks ks z4 u b lc la lr
-      ∙ ap (λ (c : Bytes). put 0 c b)
-      (ap₂ (λ (x y : Values). runs x (ableAll (y .able) (y .rows) 0 (y .able) (s .functions)) (rowedAll (y .rows) js) (rowedAll (y .rows) js) (rowedAll (y .rows) js)) (eu ∙ sym settles) eu
-      ∙ sym (bytes-runs (finalTable v s)))
+      ap (λ (x : Bytes). laidConnections (u .connections) (laidFunctions (wantedMarks (u .able) (u .rows)) (u .able) (laidJobs (u .rows) x))) (put-last s b (u .last))
+      ∙ ap (λ (x : Bytes). laidConnections (u .connections) (laidFunctions (wantedMarks (u .able) (u .rows)) (u .able) x)) jobs-laid
+      ∙ ap (laidConnections (u .connections)) functions-laid
+      ∙ connections-laid
+      ∙ ap (λ (x : Table). put 0 (bytesOf x) b) final-is

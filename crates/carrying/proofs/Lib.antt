@@ -1,4 +1,4 @@
-pub mod Regions
-pub mod Runs
+pub mod Laid
+pub mod Each
 pub mod Changes
 pub mod Final

@@ -2,25 +2,27 @@
 -- Assumes nothing.
 use mathlib.Core.Path.{_≡_, refl}
 use mathlib.Core.List.{List, [], _∷_, map}
+use Rattle.octets.specs.Bytes.{text}
 use Rattle.packet.specs.Packet.{packet}
-use Rattle.server.specs.Table.{fresh}
+use Rattle.server.specs.Sizes.{connectionCount}
+use Rattle.server.specs.Table.{fresh, withLastSerial}
 use Rattle.server.specs.Asked.{Event, opens}
 use Rattle.server.specs.Server.{Server, Answer, addressed, start}
-use Rattle.server.proofs.Histories.{text, request, response, answeredFrom}
+use Rattle.server.proofs.Histories.{request, response, answeredFrom}
 
 -- the last serial given out is 4,294,967,294
 pub nearlyUsedUp : Server
 unfolding start fresh
 nearlyUsedUp =
-    let t = start 16 .table in
+    let t = start connectionCount .table in
     record {
-      table = record { last = 4294967294; connections = t .connections; functions = t .functions; jobs = t .jobs };
-      workloads = start 16 .workloads;
+      table = withLastSerial 4294967294 t;
+      workloads = start connectionCount .workloads;
     }
 
 -- two submissions of a new job in the background
 pub lastTwo : List Event
-unfolding request text
+unfolding request
 lastTwo =
     let submission = request 0 18 (text "f" ∷ [] ∷ [] ∷ []) in
     opens 0 ∷ submission ∷ submission ∷ []
@@ -35,5 +37,5 @@ pub last-packets : map (λ (a : Answer). map addressed (a .sent)) (answeredFrom 
     ∷ (response 0 8 (text "H:lap:4294967295" ∷ []) ∷ [])
     ∷ (response 0 19 (text "13" ∷ text "serials" ∷ []) ∷ [])
     ∷ []
-unfolding answeredFrom nearlyUsedUp lastTwo response packet text
+unfolding answeredFrom nearlyUsedUp lastTwo response packet
 last-packets = refl

@@ -3,3 +3,4 @@ pub mod Edges
 pub mod WrongServers
 pub mod ReplayLines
 pub mod LastSerial
+pub mod Numbers

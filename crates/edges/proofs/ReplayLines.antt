@@ -4,14 +4,14 @@ use mathlib.Core.Path.{_≡_, refl}
 use mathlib.Core.Option.{Option, none, some}
 use mathlib.Core.List.{List, [], _∷_, _++_, map}
 use lib.ListN.{replicate}
-use Rattle.octets.specs.Bytes.{Bytes}
+use Rattle.octets.specs.Bytes.{Bytes, text}
 use Rattle.hex.specs.Hex.{unhex, hex}
 use Rattle.packet.specs.Packet.{packet}
 use Rattle.server.specs.Lists.{concat}
 use Rattle.server.specs.Asked.{Event}
 use Rattle.server.specs.Server.{Answer, addressed}
 use Rattle.server.specs.Replay.{frame, answerLines, noFrame}
-use Rattle.server.proofs.Histories.{text, answered}
+use Rattle.server.proofs.Histories.{answered}
 
 -- ---- lines to lines
 
@@ -60,7 +60,7 @@ pub replay-lines : printed
     ∷ text "00005245530000000d0000000c483a6c61703a310074736574\n"
     ∷ text "00\n"
     ∷ [])
-unfolding printed text
+unfolding printed
 replay-lines = refl
 
 -- ---- edges of the line format
@@ -71,25 +71,25 @@ unfolding printed
 no-lines = refl
 
 pub empty-line : printed ([] ∷ []) ≡ text "10\n"
-unfolding printed text
+unfolding printed
 empty-line = refl
 
 -- an odd number of digits; an uppercase digit, beside the same frame in lowercase; a digit that is none
 pub bad-digits : printed (text "010" ∷ text "010A" ∷ text "010a" ∷ text "010g" ∷ []) ≡ text "10\n10\n00\n10\n"
-unfolding printed text
+unfolding printed
 bad-digits = refl
 
 -- a kind byte alone; kinds 00 and 04; "for 03 alone the packet's bytes"
 pub bad-kinds : printed (text "01" ∷ text "0000" ∷ text "0400" ∷ text "01ff00" ∷ text "020000" ∷ []) ≡ text "10\n10\n10\n10\n10\n"
-unfolding printed text
+unfolding printed
 bad-kinds = refl
 
 -- "none or more": a packet of no bytes, from connection 204, is a frame
 pub no-packet-bytes : printed (text "03cc" ∷ []) ≡ text "02\n"
-unfolding printed text
+unfolding printed
 no-packet-bytes = refl
 
 -- "At most 2,080 digits": a packet of 1,038 bytes on a connection that isn't open; then one digit more, and two
 pub longest-line : printed ((text "0300" ++ replicate 2076 48) ∷ (text "0300" ++ replicate 2077 48) ∷ (text "0300" ++ replicate 2078 48) ∷ []) ≡ text "03\n10\n10\n"
-unfolding printed text
+unfolding printed
 longest-line = refl

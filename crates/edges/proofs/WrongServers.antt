@@ -11,10 +11,10 @@ use Rattle.packet.specs.Packet.{packet}
 use Rattle.server.specs.Lists.{all, numbers}
 use Rattle.server.specs.Asked.{Event, connectionOf}
 use Rattle.server.specs.Server.{Answer, addressed}
-use Rattle.server.specs.Events.{errorTexts}
 use Rattle.server.proofs.Histories.{response, answered}
 use Rattle.edges.proofs.Replay.{replay}
 use Rattle.server.proofs.Edge.{sameAll}
+use Rattle.server.specs.Refusals.{errorText, isTold}
 
 -- what one event is answered: its number, and the addressed packets
 pub record Said : Type 0 where
@@ -39,12 +39,12 @@ right h = map saidBy (answered h)
 
 abbrev refusal : ℕ → ℕ → Bytes
 unfolding response
-refusal c n = response c 19 (((n / 10 + 48) ∷ (n % 10 + 48) ∷ []) ∷ getD errorTexts (n - 9) [] ∷ [])
+refusal c n = response c 19 (((n / 10 + 48) ∷ (n % 10 + 48) ∷ []) ∷ errorText n ∷ [])
 
--- every event is refused by n, from 9 on with its ERROR packet
+-- every event is refused by n, with its ERROR packet where it is told
 pub refusesAll : ℕ → Hub
 unfolding response
-refusesAll n h = map (λ e. said n (cond (ltb n 9) [] (refusal (connectionOf e) n ∷ []))) h
+refusesAll n h = map (λ e. said n (cond (isTold n) (refusal (connectionOf e) n ∷ []) [])) h
 
 -- every event is done, and NO_JOB goes to its sender
 pub sendsNoJob : Hub

@@ -14,7 +14,7 @@ use Rattle.sets.proofs.Laws.{zero-has}
 use Rattle.server.specs.declared.Connection.{Connection}
 use Rattle.server.specs.declared.JobRow.{JobRow}
 use Rattle.server.specs.Lists.{any, mapFrom}
-use Rattle.server.specs.Table.{Function, Job, Table, closed, noJob, noFunction, connectionAt, functionAt, jobAt, queued, names, wanted, able, grabbable}
+use Rattle.server.specs.Table.{Function, Job, Table, closed, noJob, noFunction, connectionAt, functionAt, jobAt, queued, names, wanted, able, grabbable, withConnections, withFunctions, setConnection, setJob}
 use Rattle.server.specs.Events.{dropped, wakes, awake, woken, forgot, toWake}
 use Rattle.server.specs.Rules.{implies, queuedAwaited}
 use Rattle.outcomes.proofs.Cases.{cond-both}
@@ -67,7 +67,7 @@ module _ (u : Table) (e : Ending) (s : Settles u e) where
   unfolding forgot woken ended
   settles =
       ap (λ (x : Table). forgot (woken x)) (drops-none u (s .awaited))
-      ∙ (λ i. record { last = u .last; connections = connections-left i; functions = functions-left i; jobs = u .jobs })
+      ∙ (λ i. withConnections (connections-left i) (withFunctions (functions-left i) u))
 
   pub wakes-members : toWake (dropped u) ≡ members (length (u .connections)) (e .woken)
   unfolding toWake
@@ -130,11 +130,11 @@ module _ (t : Table) (o : Obeyed t) where
       → ((c : ℕ) → getD cs c closed .asleep ≡ true → connectionAt t c .asleep ≡ true)
       → p < length (t .jobs) → NoMore (jobAt t p) k → Awaited (k .row)
       → ((q : ℕ) → cond (wanted (set (t .jobs) p k) q (functionAt t q)) (functionAt t q) noFunction ≡ getD (without place (t .functions)) q noFunction)
-      → Settles (record { last = t .last; connections = cs; functions = t .functions; jobs = set (t .jobs) p k }) (record { woken = 0; forgotten = place })
+      → Settles (withConnections cs (setJob t p k)) (record { woken = 0; forgotten = place })
   job-settles cs p k place long awake inside m a f =
       record {
         awaited = all-set (λ j. implies (queued (j .row)) (j .row .background || not (isEmpty (j .row .listeners)))) (t .jobs) p k (o .awaited) a;
-        rouses = λ c l. sleeps (record { last = t .last; connections = cs; functions = t .functions; jobs = set (t .jobs) p k }) c (rw long at l) (awake c)
+        rouses = λ c l. sleeps (withConnections cs (setJob t p k)) c (rw long at l) (awake c)
             (any-set-less (λ j. grabbable (t .functions) c (j .row)) (t .jobs) p k noJob inside (m (t .functions) c));
         keeps = λ q h. f q;
       }
@@ -143,7 +143,7 @@ module _ (t : Table) (o : Obeyed t) where
 
   module _ (c : ℕ) (x : Connection) (woken′ : ℕ)
       (own : x .asleep && any (λ j. grabbable (t .functions) c (j .row)) (t .jobs) ≡ has woken′ c) (others : (k : ℕ) → ¬ (k ≡ c) → has woken′ k ≡ false) where
-    pub connection-settles : Settles (record { last = t .last; connections = set (t .connections) c x; functions = t .functions; jobs = t .jobs }) (record { woken = woken′; forgotten = Nowhere })
+    pub connection-settles : Settles (setConnection t c x) (record { woken = woken′; forgotten = Nowhere })
     connection-settles =
         record {
           awaited = o .awaited;

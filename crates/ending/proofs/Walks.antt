@@ -11,6 +11,7 @@ use Rattle.octets.specs.Bytes.{Bytes}
 use Rattle.sets.specs.Sets.{has}
 use Rattle.server.specs.declared.JobRow.{JobRow}
 use Rattle.server.specs.Lists.{any}
+use Rattle.server.specs.Sizes.{connectionCount}
 use Rattle.server.specs.Table.{noRow, queued, names}
 use Rattle.server.specs.Layout.{tableOf}
 use Rattle.outcomes.proofs.Cases.{cond-both}
@@ -34,12 +35,12 @@ module _ {A : Type 0} (f : A → Bool) (l : List A) (n i : ℕ) (r : Bool) (long
 -- ---- the rows of a table, with one over
 
 module _ (b : Bytes) where
-  pub left-long : (p : ℕ) → length (set (valuesOf (tableOf 16 b) .rows) p noRow) ≡ 32
-  left-long p = length-set (valuesOf (tableOf 16 b) .rows) p noRow ∙ rows-long b
+  pub left-long : (p : ℕ) → length (set (valuesOf (tableOf connectionCount b) .rows) p noRow) ≡ 32
+  left-long p = length-set (valuesOf (tableOf connectionCount b) .rows) p noRow ∙ rows-long b
 
   -- place 32 is none
-  pub none-over : set (valuesOf (tableOf 16 b) .rows) 32 noRow ≡ valuesOf (tableOf 16 b) .rows
-  none-over = set-out (valuesOf (tableOf 16 b) .rows) 32 noRow (omega (arith, rows-long b))
+  pub none-over : set (valuesOf (tableOf connectionCount b) .rows) 32 noRow ≡ valuesOf (tableOf connectionCount b) .rows
+  none-over = set-out (valuesOf (tableOf connectionCount b) .rows) 32 noRow (omega (arith, rows-long b))
 
 module _ (rs : List JobRow) (q over i : ℕ) where
   pub names-none : i < length rs → i ≡ over → false ≡ names q (getD (set rs over noRow) i noRow)

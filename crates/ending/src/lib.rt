@@ -1,6 +1,8 @@
 // What the end of an event does beyond its step, from the table's lent bytes before the event: the sleepers that wake, and the
 // function that is forgotten. An inner crate: its callers lend a table's bytes and a step inside it, and it refuses nothing.
 use plans::Place;
+use server::CONNECTIONS;
+use server::JOBS;
 use server::JobRow;
 use steps::Ending;
 use steps::Step;
@@ -10,8 +12,9 @@ ghost use Prim.Native.Nat.{_≤_, _<_};
 ghost use lib.ListN.{length, getD, set};
 ghost use Rattle.sets.specs.Sets.{insert};
 ghost use Rattle.server.specs.Lists.{any};
+ghost use Rattle.server.specs.Sizes.{connectionCount, jobCount};
 ghost use Rattle.server.specs.Table.{names, noRow};
-ghost use Rattle.server.specs.Layout.{tableOf};
+ghost use Rattle.server.specs.Layout.{tableOf, tableSize};
 ghost use Rattle.plans.specs.declared.Place.the-variants as PV;
 ghost use Rattle.plans.specs.Values.{canGrab, valuesOf};
 ghost use Rattle.plans.specs.Plans.{rowIn};
@@ -21,12 +24,12 @@ ghost use Rattle.steps.specs.Steps as S;
 
 // The sleepers of a set.
 fn sleepers(table: &[u8], able: u32) -> u32
-    requires { ⌜ 3796 ≤ length (now table) ⌝ }
-    ensures { λ r. ⌜ r ≡ toWakeSet able (valuesOf (tableOf 16 (now (table .entry))) .connections) ⌝ }
+    requires { ⌜ tableSize connectionCount ≤ length (now table) ⌝ }
+    ensures { λ r. ⌜ r ≡ toWakeSet able (valuesOf (tableOf connectionCount (now (table .entry))) .connections) ⌝ }
 {
     let mut s = 0;
     let mut c = 0;
-    while c < 16 {
+    while c < CONNECTIONS {
         s = sets::union(s, settling::waking(rows::connection_at(table, c), able, c));
         c += 1;
     }
@@ -42,12 +45,12 @@ fn waits(r: JobRow, q: usize) -> bool
 
 // Whether some queued job names the function.
 fn some_wait(table: &[u8], q: usize) -> bool
-    requires { ⌜ 3796 ≤ length (now table) ⌝ }
-    ensures { λ b. ⌜ b ≡ any (S.waits q) (valuesOf (tableOf 16 (now (table .entry))) .rows) ⌝ }
+    requires { ⌜ tableSize connectionCount ≤ length (now table) ⌝ }
+    ensures { λ b. ⌜ b ≡ any (S.waits q) (valuesOf (tableOf connectionCount (now (table .entry))) .rows) ⌝ }
 {
     let mut found = false;
     let mut i = 0;
-    while i < 32 {
+    while i < JOBS {
         found = found | waits(rows::row_at(table, i), q);
         i += 1;
     }
@@ -56,8 +59,8 @@ fn some_wait(table: &[u8], q: usize) -> bool
 
 // Whether the job at place i names the function, unless it is the one at place `over`.
 fn names_still(table: &[u8], q: usize, over: usize, i: usize) -> bool
-    requires { ⌜ (3796 ≤ length (now table)) × (i < 32) ⌝ }
-    ensures { λ b. ⌜ b ≡ names q (getD (set (valuesOf (tableOf 16 (now (table .entry))) .rows) over noRow) i noRow) ⌝ }
+    requires { ⌜ (tableSize connectionCount ≤ length (now table)) × (i < jobCount) ⌝ }
+    ensures { λ b. ⌜ b ≡ names q (getD (set (valuesOf (tableOf connectionCount (now (table .entry))) .rows) over noRow) i noRow) ⌝ }
 {
     if i == over {
         return false;
@@ -68,12 +71,12 @@ fn names_still(table: &[u8], q: usize, over: usize, i: usize) -> bool
 
 // Whether some job but the one at place `over` names the function.
 fn some_name(table: &[u8], q: usize, over: usize) -> bool
-    requires { ⌜ 3796 ≤ length (now table) ⌝ }
-    ensures { λ b. ⌜ b ≡ any (names q) (set (valuesOf (tableOf 16 (now (table .entry))) .rows) over noRow) ⌝ }
+    requires { ⌜ tableSize connectionCount ≤ length (now table) ⌝ }
+    ensures { λ b. ⌜ b ≡ any (names q) (set (valuesOf (tableOf connectionCount (now (table .entry))) .rows) over noRow) ⌝ }
 {
     let mut found = false;
     let mut i = 0;
-    while i < 32 {
+    while i < JOBS {
         found = found | names_still(table, q, over, i);
         i += 1;
     }
@@ -82,8 +85,8 @@ fn some_name(table: &[u8], q: usize, over: usize) -> bool
 
 // Whether the connection can grab the job at place i.
 fn grabs(table: &[u8], c: usize, i: usize) -> bool
-    requires { ⌜ (3796 ≤ length (now table)) × (c < 16) ⌝ }
-    ensures { λ b. ⌜ b ≡ canGrab (valuesOf (tableOf 16 (now (table .entry))) .able) c (rowIn (valuesOf (tableOf 16 (now (table .entry)))) i) ⌝ }
+    requires { ⌜ (tableSize connectionCount ≤ length (now table)) × (c < connectionCount) ⌝ }
+    ensures { λ b. ⌜ b ≡ canGrab (valuesOf (tableOf connectionCount (now (table .entry))) .able) c (rowIn (valuesOf (tableOf connectionCount (now (table .entry)))) i) ⌝ }
 {
     let r = rows::row_at(table, i);
     ((r.serial != 0) & (r.holder == 0)) & sets::has(rows::able_at(table, r.function as usize), c)
@@ -91,12 +94,12 @@ fn grabs(table: &[u8], c: usize, i: usize) -> bool
 
 // Whether the connection can grab some job.
 fn some_grab(table: &[u8], c: usize) -> bool
-    requires { ⌜ (3796 ≤ length (now table)) × (c < 16) ⌝ }
-    ensures { λ b. ⌜ b ≡ any (canGrab (valuesOf (tableOf 16 (now (table .entry))) .able) c) (valuesOf (tableOf 16 (now (table .entry))) .rows) ⌝ }
+    requires { ⌜ (tableSize connectionCount ≤ length (now table)) × (c < connectionCount) ⌝ }
+    ensures { λ b. ⌜ b ≡ any (canGrab (valuesOf (tableOf connectionCount (now (table .entry))) .able) c) (valuesOf (tableOf connectionCount (now (table .entry))) .rows) ⌝ }
 {
     let mut found = false;
     let mut i = 0;
-    while i < 32 {
+    while i < JOBS {
         found = found | grabs(table, c, i);
         i += 1;
     }
@@ -105,8 +108,8 @@ fn some_grab(table: &[u8], c: usize) -> bool
 
 // The function, if nobody is able to do it and no job but the one at place `over` names it.
 fn forgotten(table: &[u8], q: usize, able: u32, over: usize) -> Place
-    requires { ⌜ 3796 ≤ length (now table) ⌝ }
-    ensures { λ r. ⌜ r ≡ unwanted q able (set (valuesOf (tableOf 16 (now (table .entry))) .rows) over noRow) ⌝ }
+    requires { ⌜ tableSize connectionCount ≤ length (now table) ⌝ }
+    ensures { λ r. ⌜ r ≡ unwanted q able (set (valuesOf (tableOf connectionCount (now (table .entry))) .rows) over noRow) ⌝ }
 {
     if able != 0 {
         return Place::Nowhere;
@@ -129,8 +132,8 @@ fn woken(s: u32) -> Ending
 
 // A connection that falls asleep, or not, as a set if it wakes at once.
 fn roused(table: &[u8], c: usize, asleep: bool) -> u32
-    requires { ⌜ (3796 ≤ length (now table)) × (c < 16) ⌝ }
-    ensures { λ r. ⌜ r ≡ cond (asleep && any (canGrab (valuesOf (tableOf 16 (now (table .entry))) .able) c) (valuesOf (tableOf 16 (now (table .entry))) .rows)) (insert 0 c) 0 ⌝ }
+    requires { ⌜ (tableSize connectionCount ≤ length (now table)) × (c < connectionCount) ⌝ }
+    ensures { λ r. ⌜ r ≡ cond (asleep && any (canGrab (valuesOf (tableOf connectionCount (now (table .entry))) .able) c) (valuesOf (tableOf connectionCount (now (table .entry))) .rows)) (insert 0 c) 0 ⌝ }
 {
     if asleep {
         if some_grab(table, c) {
@@ -142,8 +145,8 @@ fn roused(table: &[u8], c: usize, asleep: bool) -> u32
 
 // The sleepers of the set that is able to do a function now, if a job of it waits.
 fn enabled(table: &[u8], q: usize, able: u32) -> u32
-    requires { ⌜ 3796 ≤ length (now table) ⌝ }
-    ensures { λ r. ⌜ r ≡ cond (any (S.waits q) (valuesOf (tableOf 16 (now (table .entry))) .rows)) (toWakeSet able (valuesOf (tableOf 16 (now (table .entry))) .connections)) 0 ⌝ }
+    requires { ⌜ tableSize connectionCount ≤ length (now table) ⌝ }
+    ensures { λ r. ⌜ r ≡ cond (any (S.waits q) (valuesOf (tableOf connectionCount (now (table .entry))) .rows)) (toWakeSet able (valuesOf (tableOf connectionCount (now (table .entry))) .connections)) 0 ⌝ }
 {
     let s = sleepers(table, able);
     if s == 0 {
@@ -179,8 +182,8 @@ pub fn is_lean(step: Step) -> bool
 
 // The end of an event with this step.
 pub fn of_step(table: &[u8], step: Step) -> Ending
-    requires { ⌜ (3796 ≤ length (now table)) × Inside step ⌝ }
-    ensures { λ r. ⌜ r ≡ S.ending step (valuesOf (tableOf 16 (now (table .entry)))) ⌝ }
+    requires { ⌜ (tableSize connectionCount ≤ length (now table)) × Inside step ⌝ }
+    ensures { λ r. ⌜ r ≡ S.ending step (valuesOf (tableOf connectionCount (now (table .entry)))) ⌝ }
 {
     match step {
         Step::Nothing => woken(0),
@@ -206,7 +209,7 @@ pub fn of_step(table: &[u8], step: Step) -> Ending
         Step::Flags { connection, flags } => woken(roused(table, connection, flags.asleep)),
         Step::Able { function, set } => Ending {
             woken: enabled(table, function, set),
-            forgotten: forgotten(table, function, set, 32),
+            forgotten: forgotten(table, function, set, JOBS),
         },
         Step::Reset { connection } => woken(0),
         Step::Leave { connection } => woken(0),

@@ -12,9 +12,10 @@ use lib.Dec.{eqb, leb, ltb}
 use Rattle.octets.specs.Bytes.{Bytes, same, zeroFree}
 use Rattle.octets.proofs.Strings.{and-false, and-left, and-right, same-is, same-lengths, same-refl}
 use Rattle.server.specs.Lists.{find, fit, numbers}
+use Rattle.server.specs.Sizes.{connectionCount, jobCount, uniqueSize}
 use Rattle.server.specs.Table.{Table, noFunction, noJob, functionAt, jobAt, live, known, joins, joined}
 use Rattle.server.specs.Rules.{rowHasMeaning, namesApart}
-use Rattle.server.specs.Layout.{tableOf, rowIn, jobIn}
+use Rattle.server.specs.Layout.{tableOf, rowIn, jobIn, uniquesAt}
 use Rattle.server.specs.Call.{isSound}
 use Rattle.plans.specs.declared.Place.{Place}
 use Rattle.plans.specs.declared.Place.the-variants.{Nowhere}
@@ -31,12 +32,12 @@ use Rattle.finding.proofs.Names.{within-by, place-agrees, unique-place,
 -- ---- jobs as they lie in the bytes
 
 -- a row that the code skips, and one whose unique it compares
-module _ (b : Bytes) (q : ℕ) (w : Bytes) (p serial of : ℕ) (es : serial ≡ rowIn b p .serial) (eo : of ≡ rowIn b p .function) where
+module _ (b : Bytes) (q : ℕ) (w : Bytes) (p serial of : ℕ) (es : serial ≡ rowIn connectionCount b p .serial) (eo : of ≡ rowIn connectionCount b p .function) where
   pub other-job : eqb serial 0 || not (eqb of q) ≡ true → false ≡ liesFor b q w p
   unfolding liesFor
   other-job h = let k = skipped (eqb serial 0) (eqb of q) h in rw (← es, ← eo, k)
 
-  pub same-job : (x : Bool) → eqb serial 0 || not (eqb of q) ≡ false → x ≡ agree 64 (take 64 (drop (1060 + 64 * p) b)) w → x ≡ liesFor b q w p
+  pub same-job : (x : Bool) → eqb serial 0 || not (eqb of q) ≡ false → x ≡ agree 64 (take 64 (drop (uniquesAt + uniqueSize * p) b)) w → x ≡ liesFor b q w p
   unfolding liesFor
   same-job x h g = let k = not-skipped (eqb serial 0) (eqb of q) h in g ∙ rw (← es, ← eo, k)
 
@@ -45,13 +46,13 @@ same-if true a x y h = ap (λ (z : Bool). a && z) (h refl)
 same-if false a x y h = refl
 
 -- the search in the bytes is the search among the jobs
-pub unique-found : (b : Bytes) (sound : isSound 16 b ≡ true) (q : ℕ) (u w : Bytes) (r : Place) → length u ≤ 64 → zeroFree u ≡ true → w ≡ fit 64 u
-    → r ≡ placed (find (liesFor b q w) (numbers 0 32)) → r ≡ placed (find (isFor q u) (tableOf 16 b .jobs))
+pub unique-found : (b : Bytes) (sound : isSound connectionCount b ≡ true) (q : ℕ) (u w : Bytes) (r : Place) → length u ≤ 64 → zeroFree u ≡ true → w ≡ fit uniqueSize u
+    → r ≡ placed (find (liesFor b q w) (numbers 0 jobCount)) → r ≡ placed (find (isFor q u) (tableOf connectionCount b .jobs))
 unfolding tableOf liesFor isFor
 unique-found b sound q u w r h z e g =
-    let k : find (liesFor b q w) (numbers 0 32) ≡ find (isFor q u) (tableOf 16 b .jobs) = rw e (find-numbers (liesFor b q (fit 64 u)) (isFor q u) (jobIn b) 32
-    (λ p i. same-if (live (jobIn b p .row)) (eqb (jobIn b p .row .function) q) _ _
-    (λ v. place-agrees 64 _ (jobIn b p .unique) u (unique-place b sound p i) (unique-within b sound p i v) (within-by 64 u h z)))) in
+    let k : find (liesFor b q w) (numbers 0 jobCount) ≡ find (isFor q u) (tableOf connectionCount b .jobs) = rw e (find-numbers (liesFor b q (fit uniqueSize u)) (isFor q u) (jobIn connectionCount b) 32
+    (λ p i. same-if (live (jobIn connectionCount b p .row)) (eqb (jobIn connectionCount b p .row .function) q) _ _
+    (λ v. place-agrees 64 _ (jobIn connectionCount b p .unique) u (unique-place b sound p i) (unique-within b sound p i v) (within-by 64 u h z)))) in
     g ∙ ap placed k
 
 -- ---- tests in two orders
@@ -141,7 +142,7 @@ pub some-unique : (t : Table) (u : Bytes) (q : ℕ) (r : Place) → (length u �
 unfolding joinedAt
 some-unique t u q r n g = g ∙ rw (same-lengths u [] n)
 
-pub joined-found : (b : Bytes) → isSound 16 b ≡ true → (f u : Bytes) (p r : Place) → 1 ≤ length f → p ≡ placed (known (tableOf 16 b .functions) f)
-    → r ≡ placed (joinedAt (unplaced p) u (tableOf 16 b)) → r ≡ placed (joined (tableOf 16 b) f u)
+pub joined-found : (b : Bytes) → isSound connectionCount b ≡ true → (f u : Bytes) (p r : Place) → 1 ≤ length f → p ≡ placed (known (tableOf connectionCount b .functions) f)
+    → r ≡ placed (joinedAt (unplaced p) u (tableOf connectionCount b)) → r ≡ placed (joined (tableOf connectionCount b) f u)
 joined-found b sound f u p r h e g =
-    g ∙ rw (searched (known (tableOf 16 b .functions) f) p e) (ap placed (joined-is (tableOf 16 b) (sound-table b sound) f u h))
+    g ∙ rw (searched (known (tableOf connectionCount b .functions) f) p e) (ap placed (joined-is (tableOf connectionCount b) (sound-table b sound) f u h))

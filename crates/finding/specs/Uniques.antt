@@ -7,6 +7,7 @@ use lib.ListN.{take, drop}
 use lib.Dec.{eqb}
 use Rattle.octets.specs.Bytes.{Bytes, same}
 use Rattle.server.specs.Lists.{find}
+use Rattle.server.specs.Sizes.{uniqueSize, connectionCount}
 use Rattle.server.specs.Table.{Job, Table, live}
 use Rattle.server.specs.Layout.{uniquesAt, rowIn}
 use Rattle.texts.specs.Places.{agree}
@@ -17,7 +18,7 @@ isFor q u j = (live (j .row) && eqb (j .row .function) q) && same (j .unique) u
 
 -- the same in the bytes: the job at place p, with the padded unique w
 unfoldable pub liesFor : Bytes → ℕ → Bytes → ℕ → Bool
-liesFor b q w p = (not (eqb (rowIn b p .serial) 0) && eqb (rowIn b p .function) q) && agree 64 (take 64 (drop (uniquesAt + 64 * p) b)) w
+liesFor b q w p = (not (eqb (rowIn connectionCount b p .serial) 0) && eqb (rowIn connectionCount b p .function) q) && agree uniqueSize (take uniqueSize (drop (uniquesAt + uniqueSize * p) b)) w
 
 -- the job that a submission with the unique u joins, if its function has a place: none, if the unique is empty
 unfoldable pub joinedAt : Option ℕ → Bytes → Table → Option ℕ

@@ -4,9 +4,9 @@ use mathlib.Core.Path.{_≡_, sym, ap, _∙_}
 use mathlib.Core.Option.{Option, some}
 use lib.ListN.{take, drop}
 use Rattle.octets.specs.Bytes.{Bytes}
+use Rattle.server.specs.Sizes.{connectionCount}
 use Rattle.server.specs.Asked.{Event, opens, closes, sends}
-use Rattle.server.specs.Call.{Result, refusedBy, call}
-use Rattle.performing.specs.Concluded.{left}
+use Rattle.server.specs.Call.{Result, refusedBy, call, left}
 use Rattle.framing.specs.declared.Frame as F
 use Rattle.framing.specs.declared.Frame.the-variants as FV
 use Rattle.framing.specs.Frames.{Bounded, eventOf}
@@ -27,7 +27,7 @@ pub packet-bounded : (f : F.Frame) (c end : ℕ) → f ≡ FV.Packet c end → B
 packet-bounded f c end e h = rw e at h
 
 module _ (t w o : Bytes) where
-  pub frame-answered : (e : Event) (r : Result) → r ≡ call 16 e t w o → (v : Option Event) → v ≡ some e → r ≡ answeredTo v t w o
+  pub frame-answered : (e : Event) (r : Result) → r ≡ call connectionCount e t w o → (v : Option Event) → v ≡ some e → r ≡ answeredTo v t w o
   unfolding answeredTo
   frame-answered e r q v f = rw f q
 

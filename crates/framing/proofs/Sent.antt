@@ -12,9 +12,10 @@ use Rattle.octets.proofs.Strings.{number-written}
 use Rattle.octets.proofs.Laying.{put-start, length-put}
 use Rattle.packet.specs.Packet.{packet}
 use Rattle.server.specs.Lists.{concat}
+use Rattle.server.specs.Sizes.{connectionCount, outputSize}
 use Rattle.server.specs.Asked.{Event}
 use Rattle.server.specs.Server.{Sent, addressed, answer}
-use Rattle.server.specs.Call.{Result, outputSize, serverIn, tooShort, isSound, sentBytes, refusedBy, performed, call}
+use Rattle.server.specs.Call.{Result, serverIn, tooShort, isSound, sentBytes, refusedBy, performed, call}
 use Rattle.calls.proofs.Refusals.{taken}
 use Rattle.calls.proofs.Output.{output-fits}
 use Rattle.calls.proofs.EveryCall.{taken-running}
@@ -43,22 +44,22 @@ record Answered (r : Result) (ps : List Bytes) : Type 0 where
   formed : Addressed ps
   whole : take (r .length′) (r .output) ≡ concat ps
   inside : r .length′ ≤ length (r .output)
-  few : r .length′ ≤ outputSize
+  few : r .length′ ≤ outputSize connectionCount
 
 module _ (t w o : Bytes) where
   answered-refused : (n : ℕ) → Answered (refusedBy n t w o) []
   unfolding refusedBy
   answered-refused n = record { formed = tt; whole = refl; inside = omega arith; few = omega arith }
 
-  answered-performed : (e : Event) → tooShort 16 t w o || not (isSound 16 t) ≡ false → Answered (performed e (serverIn 16 t w) t w o) (map addressed (answer e (serverIn 16 t w) .sent))
+  answered-performed : (e : Event) → tooShort connectionCount t w o || not (isSound connectionCount t) ≡ false → Answered (performed e (serverIn connectionCount t w) t w o) (map addressed (answer e (serverIn connectionCount t w) .sent))
   unfolding performed sentBytes
   answered-performed e q =
-      let k = taken 16 t w o q in
-      let s = sentBytes (answer e (serverIn 16 t w) .sent) in
-      let f : length s ≤ outputSize = output-fits 16 (omega arith) e (serverIn 16 t w) (taken-running 16 t w o k) in
+      let k = taken connectionCount t w o q in
+      let s = sentBytes (answer e (serverIn connectionCount t w) .sent) in
+      let f : length s ≤ outputSize connectionCount = output-fits connectionCount (omega arith) e (serverIn connectionCount t w) (taken-running connectionCount t w o k) in
       let l : length s ≤ length o = omega (arith, k .longOutput) in
       record {
-        formed = all-formed (answer e (serverIn 16 t w) .sent) (omega (arith, f));
+        formed = all-formed (answer e (serverIn connectionCount t w) .sent) (omega (arith, f));
         whole = ap (take (length s)) (put-start s o l) ∙ take-append-seam s _;
         inside = rw length-put l;
         few = f;
@@ -67,10 +68,10 @@ module _ (t w o : Bytes) where
   answered : (f : Option Event) → Answered (answeredTo f t w o) (packetsTo f t w o)
   unfolding answeredTo packetsTo call
   answered none = answered-refused 16
-  answered (some e) = go (tooShort 16 t w o || not (isSound 16 t)) refl
+  answered (some e) = go (tooShort connectionCount t w o || not (isSound connectionCount t)) refl
     where
-      go : (b : Bool) → tooShort 16 t w o || not (isSound 16 t) ≡ b
-          → Answered (cond b (refusedBy 1 t w o) (performed e (serverIn 16 t w) t w o)) (cond b [] (map addressed (answer e (serverIn 16 t w) .sent)))
+      go : (b : Bool) → tooShort connectionCount t w o || not (isSound connectionCount t) ≡ b
+          → Answered (cond b (refusedBy 1 t w o) (performed e (serverIn connectionCount t w) t w o)) (cond b [] (map addressed (answer e (serverIn connectionCount t w) .sent)))
       go true q = answered-refused 1
       go false q = answered-performed e q
 
@@ -82,7 +83,7 @@ module _ (t w o : Bytes) where
     pub output-inside : r .length′ ≤ length (r .output)
     output-inside = known .inside
 
-    pub output-few : r .length′ ≤ outputSize
+    pub output-few : r .length′ ≤ outputSize connectionCount
     output-few = known .few
 
     pub output-packed : Packed (take (r .length′) (r .output))

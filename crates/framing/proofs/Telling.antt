@@ -10,11 +10,11 @@ use lib.ListN.{length, take}
 use lib.Seq.{length-take-le}
 use Rattle.octets.specs.Bytes.{Bytes}
 use Rattle.octets.specs.Put.{put}
+use Rattle.server.specs.Sizes.{connectionCount, outputSize}
 use Rattle.server.specs.Asked.{Event}
 use Rattle.server.specs.Layout.{tableOf}
-use Rattle.server.specs.Call.{Result, outputSize}
+use Rattle.server.specs.Call.{Result, left}
 use Rattle.server.specs.Replay.{frame}
-use Rattle.performing.specs.Concluded.{left}
 use Rattle.framing.specs.Packets.{Packed, packetsIn}
 use Rattle.framing.specs.Spoken.{Speech, answeredTo, packetsTo, saying, telling, toldOf, told}
 use Rattle.framing.proofs.Sent.{output-few, output-inside, output-packed, output-packets}
@@ -31,13 +31,13 @@ module _ (t w o : Bytes) where
     pub sent-packed : Packed (take l p)
     sent-packed = output-packed t w o v (left n l p u s) q
 
-    pub sent-few : length (take l p) ≤ outputSize
+    pub sent-few : length (take l p) ≤ outputSize connectionCount
     sent-few = omega (arith, length-take-le l p sent-inside, output-few t w o v (left n l p u s) q)
 
     pub frame-told : (room : ℕ) (say : Speech) (line x : Bytes) → room ≤ length x → v ≡ frame line → (r : ℕ) (y : Bytes)
-        → (r ≡ 0 + length (say v (packetsIn (take l p)) n (tableOf 16 u))) × (y ≡ put 0 (say v (packetsIn (take l p)) n (tableOf 16 u)) x)
+        → (r ≡ 0 + length (say v (packetsIn (take l p)) n (tableOf connectionCount u))) × (y ≡ put 0 (say v (packetsIn (take l p)) n (tableOf connectionCount u)) x)
         → telling r y p u s ≡ told room say line t w o x
     unfolding told toldOf
     frame-told room say line x h e r y g =
         rw (le-ltb (length x) room h, ← e, g .0, zero-add, g .1, output-packets t w o v (left n l p u s) q)
-        (ap (λ (z : Result). saying (say v (packetsTo v t w o) (z .number) (tableOf 16 (z .table))) x (z .output) (z .table) (z .workloads)) q)
+        (ap (λ (z : Result). saying (say v (packetsTo v t w o) (z .number) (tableOf connectionCount (z .table))) x (z .output) (z .table) (z .workloads)) q)

@@ -8,6 +8,7 @@ use lib.ListN.{length, take}
 use lib.Dec.{ltb}
 use Rattle.octets.specs.Bytes.{Bytes}
 use Rattle.octets.specs.Put.{put}
+use Rattle.server.specs.Sizes.{connectionCount}
 use Rattle.server.specs.Table.{Table}
 use Rattle.server.specs.Asked.{Event}
 use Rattle.server.specs.Server.{Server, addressed, next, answer}
@@ -20,12 +21,12 @@ use Rattle.server.specs.Replay.{frame}
 -- a frame's event is called; what isn't a frame the server does not see, and 01 gives it the number 16
 unfoldable pub answeredTo : Option Event → Bytes → Bytes → Bytes → Result
 answeredTo none t w o = refusedBy 16 t w o
-answeredTo (some e) t w o = call 16 e t w o
+answeredTo (some e) t w o = call connectionCount e t w o
 
 -- the packets that are sent; none, where the call is refused by 1
 unfoldable pub packetsTo : Option Event → Bytes → Bytes → Bytes → List Bytes
 packetsTo none t w o = []
-packetsTo (some e) t w o = cond (tooShort 16 t w o || not (isSound 16 t)) [] (map addressed (answer e (serverIn 16 t w) .sent))
+packetsTo (some e) t w o = cond (tooShort connectionCount t w o || not (isSound connectionCount t)) [] (map addressed (answer e (serverIn connectionCount t w) .sent))
 
 -- ---- what is said
 
@@ -51,7 +52,7 @@ saying words text output table workloads = telling (length words) (put 0 words t
 unfoldable pub toldOf : Speech → Option Event → Bytes → Bytes → Bytes → Bytes → Told
 toldOf say f t w o x =
     let r = answeredTo f t w o in
-    saying (say f (packetsTo f t w o) (r .number) (tableOf 16 (r .table))) x (r .output) (r .table) (r .workloads)
+    saying (say f (packetsTo f t w o) (r .number) (tableOf connectionCount (r .table))) x (r .output) (r .table) (r .workloads)
 
 -- a text with too little room: nothing is said, and nothing changed
 unfoldable pub told : ℕ → Speech → Bytes → Bytes → Bytes → Bytes → Bytes → Told

@@ -7,7 +7,7 @@ ghost use mathlib.Core.Option.{some};
 ghost use Prim.Native.Nat.{_≤_};
 ghost use lib.ListN.{length, take};
 ghost use Rattle.server.specs.Replay.{frame, framed};
-ghost use Rattle.performing.specs.Concluded.{left};
+ghost use Rattle.server.specs.Call.{left};
 ghost use Rattle.framing.specs.Frames.{Bounded, eventOf};
 ghost use Rattle.framing.specs.Packets.{packetLength};
 ghost use Rattle.framing.specs.Spoken.{answeredTo};

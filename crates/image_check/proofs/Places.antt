@@ -13,6 +13,7 @@ use lib.Seq.{drop-cons}
 use lib.Dec.{eqb, leb}
 use Rattle.octets.specs.Bytes.{Bytes, same, firstZero, every}
 use Rattle.server.specs.Lists.{all, numbers}
+use Rattle.server.specs.Sizes.{uniqueSize}
 use Rattle.server.specs.Layout.{textAt}
 use Rattle.table_bytes.specs.Tests.{part, isZero, isFlag, isPadded, areFlags, arePadded}
 use Rattle.table_bytes.proofs.Same.{field-inside}
@@ -161,7 +162,7 @@ insides-padded n b at i (suc m) h =
     (insides-padded n b at (suc i) m e)
 
 module _ (last b : Bytes) (at : ℕ) where
-  pub one-of-64 : last ≡ lastOf64 → at + 64 ≤ length b → all (lastOrFollowed last b at) (numbers 0 64) ≡ isPadded 64 b at
+  pub one-of-64 : last ≡ lastOf64 → at + 64 ≤ length b → all (lastOrFollowed last b at) (numbers 0 64) ≡ isPadded uniqueSize b at
   one-of-64 e h = ap (λ (m : Bytes). all (lastOrFollowed m b at) (numbers 0 64)) e ∙ sym (padded-each 63 b at (omega arith))
 
   pub two-of-32 : last ≡ lastOf32 → at + 64 ≤ length b → all (lastOrFollowed last b at) (numbers 0 64) ≡ arePadded 32 2 b at
@@ -172,7 +173,7 @@ pub eight-of-64 : (last b : Bytes) (at : ℕ) → last ≡ lastOf64 → at + 512
     → all (λ i. all (lastOrFollowed last b (at + 64 * i)) (numbers 0 64)) (numbers 0 8) ≡ arePadded 64 8 b at
 unfolding arePadded
 eight-of-64 last b at e h =
-    same-below (λ i. all (lastOrFollowed last b (at + 64 * i)) (numbers 0 64)) (λ i. isPadded 64 b (at + 64 * i)) 8 (λ i g. one-of-64 last b (at + 64 * i) e (omega arith))
+    same-below (λ i. all (lastOrFollowed last b (at + 64 * i)) (numbers 0 64)) (λ i. isPadded uniqueSize b (at + 64 * i)) 8 (λ i g. one-of-64 last b (at + 64 * i) e (omega arith))
 
 pub four-of-32 : (last b : Bytes) (at : ℕ) → last ≡ lastOf32 → at + 128 ≤ length b
     → all (λ i. all (lastOrFollowed last b (at + 64 * i)) (numbers 0 64)) (numbers 0 2) ≡ arePadded 32 4 b at

@@ -1,18 +1,29 @@
 // What refusal 1 asks of flags and texts as bytes: a flag is 0 or 1, and after a text's first zero byte only zeros follow. No loop has an
 // exit, so that each becomes vector code, and a run of texts that are all empty is compared with zeros alone. Whatever the bytes are, the
 // answer is `true` or `false`; each function asks only that its bytes are there.
+use server::NAME_SIZE;
+use server::NAMES_AT;
+use server::UNIQUE_SIZE;
+use server::UNIQUES_AT;
 ghost use mathlib.Core.Path.{_≡_};
 ghost use Prim.Native.Nat.{_+_, _*_, _<_, _≤_};
 ghost use lib.ListN.{length};
 ghost use Rattle.server.specs.Lists.{all, numbers};
+ghost use Rattle.server.specs.Sizes.{connectionCount, functionCount, jobCount, nameSize, uniqueSize};
+ghost use Rattle.server.specs.Layout.{namesAt, tableSize, uniquesAt};
 ghost use Rattle.table_bytes.specs.Tests.{areFlags, arePadded};
 ghost use Rattle.image_check.specs.Padded.{afterEnd, emptyAt, lastOf32, lastOf64, lastOrFollowed, zeroAt};
 
+// Eight places of uniques, and four of names: what one step of a pass looks at.
+const EIGHT_UNIQUES: usize = 8 * UNIQUE_SIZE;
+
+const FOUR_NAMES: usize = 4 * NAME_SIZE;
+
 // The last byte of each place of 64 and of 32 bytes.
-const LAST_OF_64: [u8; 64] =
+const LAST_OF_64: [u8; UNIQUE_SIZE] =
     *b"\0\0\0\0\0\0\0\0\0\0\0\0\0\0\0\0\0\0\0\0\0\0\0\0\0\0\0\0\0\0\0\0\0\0\0\0\0\0\0\0\0\0\0\0\0\0\0\0\0\0\0\0\0\0\0\0\0\0\0\0\0\0\0\x01";
 
-const LAST_OF_32: [u8; 64] =
+const LAST_OF_32: [u8; UNIQUE_SIZE] =
     *b"\0\0\0\0\0\0\0\0\0\0\0\0\0\0\0\0\0\0\0\0\0\0\0\0\0\0\0\0\0\0\0\x01\0\0\0\0\0\0\0\0\0\0\0\0\0\0\0\0\0\0\0\0\0\0\0\0\0\0\0\0\0\0\0\x01";
 
 // ---- zeros and flags
@@ -72,13 +83,13 @@ pub fn after_end(x: u8, y: u8) -> u8
 }
 
 // Whether each of 64 bytes is the last of its place, or not zero, or followed by a zero.
-fn followed(table: &[u8], at: usize, last: &[u8; 64]) -> bool
+fn followed(table: &[u8], at: usize, last: &[u8; UNIQUE_SIZE]) -> bool
     requires { ⌜ at + 65 ≤ length (now table) ⌝ }
-    ensures { λ r. ⌜ r ≡ all (lastOrFollowed (now (last .entry)) (now (table .entry)) at) (numbers 0 64) ⌝ }
+    ensures { λ r. ⌜ r ≡ all (lastOrFollowed (now (last .entry)) (now (table .entry)) at) (numbers 0 uniqueSize) ⌝ }
 {
     let mut slack = 0;
     let mut k = 0;
-    while k < 64 {
+    while k < UNIQUE_SIZE {
         slack = slack | after_end(table[at + k] | last[k], table[at + k + 1]);
         k += 1;
     }
@@ -86,66 +97,66 @@ fn followed(table: &[u8], at: usize, last: &[u8; 64]) -> bool
 }
 
 // The same of `m` times 64 bytes.
-fn all_followed(table: &[u8], at: usize, m: usize, last: &[u8; 64]) -> bool
-    requires { ⌜ at + 64 * m + 1 ≤ length (now table) ⌝ }
-    ensures { λ r. ⌜ r ≡ all (λ i. all (lastOrFollowed (now (last .entry)) (now (table .entry)) (at + 64 * i)) (numbers 0 64)) (numbers 0 m) ⌝ }
+fn all_followed(table: &[u8], at: usize, m: usize, last: &[u8; UNIQUE_SIZE]) -> bool
+    requires { ⌜ at + uniqueSize * m + 1 ≤ length (now table) ⌝ }
+    ensures { λ r. ⌜ r ≡ all (λ i. all (lastOrFollowed (now (last .entry)) (now (table .entry)) (at + uniqueSize * i)) (numbers 0 uniqueSize)) (numbers 0 m) ⌝ }
 {
     let mut ok = true;
     let mut i = 0;
     while i < m {
-        ok = ok & followed(table, at + 64 * i, last);
+        ok = ok & followed(table, at + UNIQUE_SIZE * i, last);
         i += 1;
     }
     ok
 }
 
 // Whether eight uniques are followed by zeros.
-fn eight_padded(table: &[u8], at: usize, last: &[u8; 64]) -> bool
+fn eight_padded(table: &[u8], at: usize, last: &[u8; UNIQUE_SIZE]) -> bool
     requires { ⌜ (at + 513 ≤ length (now table)) × (now last ≡ lastOf64) ⌝ }
-    ensures { λ r. ⌜ r ≡ arePadded 64 8 (now (table .entry)) at ⌝ }
+    ensures { λ r. ⌜ r ≡ arePadded uniqueSize 8 (now (table .entry)) at ⌝ }
 {
-    if all_empty(table, at, 64, 8) {
-        return zeros(table, at, 512);
+    if all_empty(table, at, UNIQUE_SIZE, 8) {
+        return zeros(table, at, EIGHT_UNIQUES);
     }
     all_followed(table, at, 8, last)
 }
 
 // Whether each unique is followed by zeros.
 pub fn uniques_padded(table: &[u8]) -> bool
-    requires { ⌜ 3796 ≤ length (now table) ⌝ }
-    ensures { λ r. ⌜ r ≡ arePadded 64 32 (now (table .entry)) 1060 ⌝ }
+    requires { ⌜ tableSize connectionCount ≤ length (now table) ⌝ }
+    ensures { λ r. ⌜ r ≡ arePadded uniqueSize jobCount (now (table .entry)) uniquesAt ⌝ }
 {
     let last = LAST_OF_64;
     let mut ok = true;
     let mut i = 0;
     while i < 4 {
-        ok = ok & eight_padded(table, 1060 + 512 * i, &last);
+        ok = ok & eight_padded(table, UNIQUES_AT + EIGHT_UNIQUES * i, &last);
         i += 1;
     }
     ok
 }
 
 // Whether four names are followed by zeros.
-fn four_padded(table: &[u8], at: usize, last: &[u8; 64]) -> bool
+fn four_padded(table: &[u8], at: usize, last: &[u8; UNIQUE_SIZE]) -> bool
     requires { ⌜ (at + 129 ≤ length (now table)) × (now last ≡ lastOf32) ⌝ }
-    ensures { λ r. ⌜ r ≡ arePadded 32 4 (now (table .entry)) at ⌝ }
+    ensures { λ r. ⌜ r ≡ arePadded nameSize 4 (now (table .entry)) at ⌝ }
 {
-    if all_empty(table, at, 32, 4) {
-        return zeros(table, at, 128);
+    if all_empty(table, at, NAME_SIZE, 4) {
+        return zeros(table, at, FOUR_NAMES);
     }
     all_followed(table, at, 2, last)
 }
 
 // Whether each name is followed by zeros.
 pub fn names_padded(table: &[u8]) -> bool
-    requires { ⌜ 3796 ≤ length (now table) ⌝ }
-    ensures { λ r. ⌜ r ≡ arePadded 32 16 (now (table .entry)) 548 ⌝ }
+    requires { ⌜ tableSize connectionCount ≤ length (now table) ⌝ }
+    ensures { λ r. ⌜ r ≡ arePadded nameSize functionCount (now (table .entry)) namesAt ⌝ }
 {
     let last = LAST_OF_32;
     let mut ok = true;
     let mut i = 0;
     while i < 4 {
-        ok = ok & four_padded(table, 548 + 128 * i, &last);
+        ok = ok & four_padded(table, NAMES_AT + FOUR_NAMES * i, &last);
         i += 1;
     }
     ok

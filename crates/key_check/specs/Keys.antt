@@ -6,7 +6,8 @@ use lib.ListN.{getD}
 use lib.Bits.{bitXor}
 use lib.Dec.{eqb}
 use Rattle.octets.specs.Bytes.{Bytes}
-use Rattle.server.specs.Layout.{littleAt}
+use Rattle.server.specs.Sizes.{nameSize, uniqueSize}
+use Rattle.server.specs.Layout.{littleAt, functionsAt, namesAt, uniquesAt}
 use Rattle.image_check.specs.Padded.{emptyAt}
 
 -- ---- keys
@@ -25,17 +26,17 @@ folded x = (x % 4294967296 + 5 * (x / 4294967296)) % 4294967296
 
 -- a unique and, in the four highest bits, its job's function
 unfoldable pub foldedUnique : Bytes → ℕ → ℕ
-foldedUnique b k = bitXor (folded (bitXor (wordsAt b (1060 + 64 * k)) (wordsAt b (1092 + 64 * k)))) (getD b (516 + k) 0 % 16 * 268435456)
+foldedUnique b k = bitXor (folded (bitXor (wordsAt b (uniquesAt + uniqueSize * k)) (wordsAt b (uniquesAt + 32 + uniqueSize * k)))) (getD b (functionsAt + k) 0 % 16 * 268435456)
 
 -- a key of each place, from what its bytes fold to: an empty place has its own number, which no other empty place has
 abbrev pub placeKey : Bytes → ℕ → ℕ → (ℕ → ℕ) → ℕ → ℕ
 placeKey b at w fold k = cond (emptyAt b at w k) k (fold k)
 
 unfoldable pub nameKey : Bytes → ℕ → ℕ
-nameKey b = placeKey b 548 32 (λ k. folded (wordsAt b (548 + 32 * k)))
+nameKey b = placeKey b namesAt nameSize (λ k. folded (wordsAt b (namesAt + nameSize * k)))
 
 unfoldable pub uniqueKey : Bytes → ℕ → ℕ
-uniqueKey b = placeKey b 1060 64 (foldedUnique b)
+uniqueKey b = placeKey b uniquesAt uniqueSize (foldedUnique b)
 
 -- ---- keys at a distance
 

@@ -1,16 +1,16 @@
 // The job server for a host in C: include/lap.h has these functions with their promises in words. Format: the table of docs/TABLE.md,
 // 32 workloads of 1,024 bytes, and addressed packets in the output. Each function answers document 01's number: 0 is done, 1 to 15
 // refuse, and then table and workloads are as they were. No caller has to check anything first but that the buffers do not overlap.
+use performing::Answer;
 ghost use mathlib.Core.Path.{_≡_};
+ghost use Rattle.server.specs.Sizes.{connectionCount};
 ghost use Rattle.server.specs.Asked.{closes, opens, sends};
-ghost use Rattle.server.specs.Call.{call, make};
-ghost use Rattle.making.specs.Made.{made};
-ghost use Rattle.performing.specs.Concluded.{left};
+ghost use Rattle.server.specs.Call.{call, left, made, make};
 
 // Makes a fresh table.
 #[no_mangle]
 pub extern "C" fn lap_fresh(table: &mut [u8], workloads: &mut [u8]) -> u32
-    ensures { λ r. ⌜ made r (now (table .exit)) (now (workloads .exit)) ≡ make 16 (now (table .entry)) (now (workloads .entry)) ⌝ }
+    ensures { λ r. ⌜ made r (now (table .exit)) (now (workloads .exit)) ≡ make connectionCount (now (table .entry)) (now (workloads .entry)) ⌝ }
 {
     making::fresh(table, workloads) as u32
 }
@@ -25,9 +25,9 @@ pub extern "C" fn lap_open(
     length: &mut u32,
 ) -> u32
     ensures { λ r. ⌜ left r (now (length .exit)) (now (output .exit)) (now (table .exit)) (now (workloads .exit))
-        ≡ call 16 (opens connection) (now (table .entry)) (now (workloads .entry)) (now (output .entry)) ⌝ }
+        ≡ call connectionCount (opens connection) (now (table .entry)) (now (workloads .entry)) (now (output .entry)) ⌝ }
 {
-    let opened = serving::open(table, workloads, output, connection);
+    let opened: Answer = serving::open(table, workloads, output, connection);
     *length = opened.length as u32;
     opened.number as u32
 }
@@ -42,9 +42,9 @@ pub extern "C" fn lap_close(
     length: &mut u32,
 ) -> u32
     ensures { λ r. ⌜ left r (now (length .exit)) (now (output .exit)) (now (table .exit)) (now (workloads .exit))
-        ≡ call 16 (closes connection) (now (table .entry)) (now (workloads .entry)) (now (output .entry)) ⌝ }
+        ≡ call connectionCount (closes connection) (now (table .entry)) (now (workloads .entry)) (now (output .entry)) ⌝ }
 {
-    let closed = serving::close(table, workloads, output, connection);
+    let closed: Answer = serving::close(table, workloads, output, connection);
     *length = closed.length as u32;
     closed.number as u32
 }
@@ -60,9 +60,9 @@ pub extern "C" fn lap_packet(
     length: &mut u32,
 ) -> u32
     ensures { λ r. ⌜ left r (now (length .exit)) (now (output .exit)) (now (table .exit)) (now (workloads .exit))
-        ≡ call 16 (sends connection (now (packet .entry))) (now (table .entry)) (now (workloads .entry)) (now (output .entry)) ⌝ }
+        ≡ call connectionCount (sends connection (now (packet .entry))) (now (table .entry)) (now (workloads .entry)) (now (output .entry)) ⌝ }
 {
-    let taken = serving::packet(table, workloads, output, connection, packet);
+    let taken: Answer = serving::packet(table, workloads, output, connection, packet);
     *length = taken.length as u32;
     taken.number as u32
 }

@@ -2,6 +2,8 @@
 // value. An inner crate: its callers name connections below 16.
 use plans::Values;
 use server::Connection;
+use server::FUNCTIONS;
+use server::JOBS;
 use server::JobRow;
 use steps::Step;
 ghost use mathlib.Core.Path.{_≡_};
@@ -9,48 +11,42 @@ ghost use mathlib.Core.Bool.{false};
 ghost use mathlib.Core.List.{map};
 ghost use Prim.Native.Nat.{_<_};
 ghost use Rattle.sets.specs.Sets as S;
+ghost use Rattle.server.specs.Sizes.{connectionCount};
 ghost use Rattle.server.specs.Events.{deafTo};
 ghost use Rattle.plans.specs.Plans as P;
-ghost use Rattle.plans.specs.Plans.{closedIn, withAble};
+ghost use Rattle.plans.specs.Plans.{closedIn};
+ghost use Rattle.plans.specs.Values.{withAbles};
 ghost use Rattle.steps.specs.Steps.{Inside, isLean, stepped};
 
 // The row without the connection among its listeners.
 fn deaf(row: JobRow, c: usize) -> JobRow
-    requires { ⌜ c < 16 ⌝ }
+    requires { ⌜ c < connectionCount ⌝ }
     ensures { λ r. ⌜ r ≡ deafTo c row ⌝ }
 {
-    JobRow {
-        serial: row.serial,
-        function: row.function,
-        priority: row.priority,
-        background: row.background,
-        listeners: sets::remove(row.listeners, c),
-        holder: row.holder,
-        size: row.size,
-    }
+    server::with_listeners(row, sets::remove(row.listeners, c))
 }
 
 // The row that the connection leaves: without it among the listeners, and back in the queue if it was the holder.
 fn left_row(row: JobRow, c: usize) -> JobRow
-    requires { ⌜ c < 16 ⌝ }
+    requires { ⌜ c < connectionCount ⌝ }
     ensures { λ r. ⌜ r ≡ P.leftRow c row ⌝ }
 {
     let quiet = deaf(row, c);
     let holder = (c + 1) as u16;
     if (row.serial != 0) & (row.holder == holder) {
-        return amending::with_holder(quiet, 0);
+        return server::with_holder(quiet, 0);
     }
     quiet
 }
 
 // Each row as the connection leaves it.
-fn left_rows(rows: [JobRow; 32], c: usize) -> [JobRow; 32]
-    requires { ⌜ c < 16 ⌝ }
+fn left_rows(rows: [JobRow; JOBS], c: usize) -> [JobRow; JOBS]
+    requires { ⌜ c < connectionCount ⌝ }
     ensures { λ r. ⌜ r ≡ map (P.leftRow c) rows ⌝ }
 {
     let mut next = rows;
     let mut i = 0;
-    while i < 32 {
+    while i < JOBS {
         let row = rows[i];
         next[i] = left_row(row, c);
         i += 1;
@@ -59,13 +55,13 @@ fn left_rows(rows: [JobRow; 32], c: usize) -> [JobRow; 32]
 }
 
 // The able sets without the connection.
-fn unable_all(able: [u32; 16], c: usize) -> [u32; 16]
-    requires { ⌜ c < 16 ⌝ }
+fn unable_all(able: [u32; FUNCTIONS], c: usize) -> [u32; FUNCTIONS]
+    requires { ⌜ c < connectionCount ⌝ }
     ensures { λ r. ⌜ r ≡ map (λ s. S.remove s c) able ⌝ }
 {
     let mut next = able;
     let mut i = 0;
-    while i < 16 {
+    while i < FUNCTIONS {
         let s = able[i];
         next[i] = sets::remove(s, c);
         i += 1;
@@ -75,8 +71,8 @@ fn unable_all(able: [u32; 16], c: usize) -> [u32; 16]
 
 // The numbers without a connection's abilities.
 fn reset(v: Values, c: usize) -> Values
-    requires { ⌜ c < 16 ⌝ }
-    ensures { λ r. ⌜ r ≡ withAble (map (λ s. S.remove s c) (v .able)) v ⌝ }
+    requires { ⌜ c < connectionCount ⌝ }
+    ensures { λ r. ⌜ r ≡ withAbles (map (λ s. S.remove s c) (v .able)) v ⌝ }
 {
     let able = v.able;
     amending::with_able(v, unable_all(able, c))
@@ -84,26 +80,20 @@ fn reset(v: Values, c: usize) -> Values
 
 // The numbers that a closed connection leaves.
 fn left(v: Values, c: usize) -> Values
-    requires { ⌜ c < 16 ⌝ }
+    requires { ⌜ c < connectionCount ⌝ }
     ensures { λ r. ⌜ r ≡ closedIn c v ⌝ }
 {
     let old = v.connections;
     let able = v.able;
     let rows = v.rows;
-    let x = Connection {
-        opened: false,
-        asleep: false,
-        exceptions: false,
-    };
-    let connections = amending::set_connection(old, c, x);
-    let next = unable_all(able, c);
+    let connections = amending::set_connection(old, c, server::closed());
+    let without = unable_all(able, c);
     let after = left_rows(rows, c);
-    Values {
-        last: v.last,
-        connections,
-        able: next,
-        rows: after,
-    }
+    let mut next = v;
+    next.connections = connections;
+    next.able = without;
+    next.rows = after;
+    next
 }
 
 // All numbers after a step that is not lean.

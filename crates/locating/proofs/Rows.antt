@@ -15,9 +15,10 @@ use Rattle.octets.proofs.Strings.{and-false, and-left, and-right}
 use Rattle.sets.specs.Sets.{has}
 use Rattle.server.specs.declared.JobRow.{JobRow}
 use Rattle.server.specs.Lists.{find, numbers}
+use Rattle.server.specs.Sizes.{connectionCount, jobCount}
 use Rattle.server.specs.Table.{Job, noRow, noJob, jobAt, live}
 use Rattle.server.specs.Rules.{serialsApart, serialsDistinct}
-use Rattle.server.specs.Layout.{littleAt, rowIn, jobIn, tableOf, isImage}
+use Rattle.server.specs.Layout.{littleAt, rowIn, jobIn, tableOf, isImage, serialsAt}
 use Rattle.server.specs.Call.{isSound}
 use Rattle.table_bytes.proofs.Columns.{length-places}
 use Rattle.outcomes.proofs.Searches.{found}
@@ -59,24 +60,24 @@ none-numbered rs s e =
     ap placed (sym q)
 
 -- the column of serials, searched
-module _ (b : Bytes) (s : ℕ) (l : List ℕ) (p : Place) (e : l ≡ map (λ k. littleAt 4 b (68 + 4 * k)) (numbers 0 32)) (g : p ≡ placed (find (λ k. eqb (getD l k 0) s) (numbers 0 32))) where
-  in-column : p ≡ placed (find (λ r. eqb (r .serial) s) (rowsOf (tableOf 16 b)))
+module _ (b : Bytes) (s : ℕ) (l : List ℕ) (p : Place) (e : l ≡ map (λ k. littleAt 4 b (serialsAt + 4 * k)) (numbers 0 jobCount)) (g : p ≡ placed (find (λ k. eqb (getD l k 0) s) (numbers 0 jobCount))) where
+  in-column : p ≡ placed (find (λ r. eqb (r .serial) s) (rowsOf (tableOf connectionCount b)))
   in-column =
-      let q : find (λ k. eqb (getD l k 0) s) (numbers 0 32) ≡ find (λ r. eqb (r .serial) s) (rowsOf (tableOf 16 b))
-      = rw (rows-are b) (find-numbers (λ k. eqb (getD l k 0) s) (λ (r : JobRow). eqb (r .serial) s) (rowIn b) 32
-      (λ k h. ap (λ (x : ℕ). eqb x s) (column-at (λ k. littleAt 4 b (68 + 4 * k)) 0 32 l k e h))) in
+      let q : find (λ k. eqb (getD l k 0) s) (numbers 0 jobCount) ≡ find (λ r. eqb (r .serial) s) (rowsOf (tableOf connectionCount b))
+      = rw (rows-are b) (find-numbers (λ k. eqb (getD l k 0) s) (λ (r : JobRow). eqb (r .serial) s) (rowIn connectionCount b) 32
+      (λ k h. ap (λ (x : ℕ). eqb x s) (column-at (λ k. littleAt 4 b (serialsAt + 4 * k)) 0 32 l k e h))) in
       g ∙ ap placed q
 
-  pub free-found : s ≡ 0 → p ≡ placed (freeRow (rowsOf (tableOf 16 b)))
+  pub free-found : s ≡ 0 → p ≡ placed (freeRow (rowsOf (tableOf connectionCount b)))
   unfolding freeRow
   free-found z =
-      let q : find (λ r. eqb (r .serial) s) (rowsOf (tableOf 16 b)) ≡ find (λ r. not (live r)) (rowsOf (tableOf 16 b))
-      = rw z (find-by (λ r. eqb (r .serial) 0) (λ r. not (live r)) (λ r. not-not (eqb (r .serial) 0)) (rowsOf (tableOf 16 b))) in
+      let q : find (λ r. eqb (r .serial) s) (rowsOf (tableOf connectionCount b)) ≡ find (λ r. not (live r)) (rowsOf (tableOf connectionCount b))
+      = rw z (find-by (λ r. eqb (r .serial) 0) (λ r. not (live r)) (λ r. not-not (eqb (r .serial) 0)) (rowsOf (tableOf connectionCount b))) in
       in-column ∙ ap placed q
 
-  pub serial-found : (s ≡ 0 → ⊥) → p ≡ placed (serialRow s (rowsOf (tableOf 16 b)))
+  pub serial-found : (s ≡ 0 → ⊥) → p ≡ placed (serialRow s (rowsOf (tableOf connectionCount b)))
   unfolding serialRow
-  serial-found n = in-column ∙ ap placed (find-by (λ r. eqb (r .serial) s) (numbered s) (λ r. serial-some (r .serial) s n) (rowsOf (tableOf 16 b)))
+  serial-found n = in-column ∙ ap placed (find-by (λ r. eqb (r .serial) s) (numbered s) (λ r. serial-some (r .serial) s n) (rowsOf (tableOf connectionCount b)))
 
 -- ---- by serial and holder
 
@@ -92,43 +93,43 @@ placed-if true p = refl
 placed-if false p = refl
 
 module _ (b : Bytes) where
-  thirty-two : length (tableOf 16 b .jobs) ≡ 32
+  thirty-two : length (tableOf connectionCount b .jobs) ≡ 32
   unfolding tableOf
-  thirty-two = length-places (jobIn b) 0 32
+  thirty-two = length-places (jobIn connectionCount b) 0 32
 
-  pub rows-long : length (rowsOf (tableOf 16 b)) ≡ 32
-  rows-long = length-map (tableOf 16 b .jobs) (λ j. j .row) ∙ thirty-two
+  pub rows-long : length (rowsOf (tableOf connectionCount b)) ≡ 32
+  rows-long = length-map (tableOf connectionCount b .jobs) (λ j. j .row) ∙ thirty-two
 
-  job-row : (i : ℕ) → getD (rowsOf (tableOf 16 b)) i noRow ≡ jobAt (tableOf 16 b) i .row
-  job-row i = List·getD-map (λ (j : Job). j .row) (tableOf 16 b .jobs) i noJob
+  job-row : (i : ℕ) → getD (rowsOf (tableOf connectionCount b)) i noRow ≡ jobAt (tableOf connectionCount b) i .row
+  job-row i = List·getD-map (λ (j : Job). j .row) (tableOf connectionCount b .jobs) i noJob
 
-module _ (b : Bytes) (sound : isSound 16 b ≡ true) where
-  distinct : serialsDistinct (tableOf 16 b) ≡ true
+module _ (b : Bytes) (sound : isSound connectionCount b ≡ true) where
+  distinct : serialsDistinct (tableOf connectionCount b) ≡ true
   unfolding isSound
-  distinct = obeyed (tableOf 16 b) (and-right (isImage 16 b) _ sound) .sound .serials
+  distinct = obeyed (tableOf connectionCount b) (and-right (isImage connectionCount b) _ sound) .sound .serials
 
   -- two rows of one serial
-  serials-clash : (s i k : ℕ) → i < k → k < 32 → numbered s (jobAt (tableOf 16 b) i .row) ≡ true → numbered s (jobAt (tableOf 16 b) k .row) ≡ true → ⊥
+  serials-clash : (s i k : ℕ) → i < k → k < jobCount → numbered s (jobAt (tableOf connectionCount b) i .row) ≡ true → numbered s (jobAt (tableOf connectionCount b) k .row) ≡ true → ⊥
   serials-clash s i k l m x y =
-      let j = jobAt (tableOf 16 b) i .row in
-      let n = jobAt (tableOf 16 b) k .row in
-      let a : serialsApart (jobAt (tableOf 16 b) i) (jobAt (tableOf 16 b) k) ≡ true
-      = pairwise-at serialsApart (tableOf 16 b .jobs) i k noJob distinct l (rw (thirty-two b) m) in
+      let j = jobAt (tableOf connectionCount b) i .row in
+      let n = jobAt (tableOf connectionCount b) k .row in
+      let a : serialsApart (jobAt (tableOf connectionCount b) i) (jobAt (tableOf connectionCount b) k) ≡ true
+      = pairwise-at serialsApart (tableOf connectionCount b .jobs) i k noJob distinct l (rw (thirty-two b) m) in
       let f : j .serial ≡ s = eqb-true _ _ (and-right (live j) _ x) in
       let g : n .serial ≡ s = eqb-true _ _ (and-right (live n) _ y) in
       clash a (rw (and-left (live j) _ x, f, g, eq-eqb s s refl))
 
-  one-row : (s i k : ℕ) → i < 32 → k < 32 → numbered s (getD (rowsOf (tableOf 16 b)) i noRow) ≡ true → numbered s (getD (rowsOf (tableOf 16 b)) k noRow) ≡ true → k ≡ i
+  one-row : (s i k : ℕ) → i < jobCount → k < jobCount → numbered s (getD (rowsOf (tableOf connectionCount b)) i noRow) ≡ true → numbered s (getD (rowsOf (tableOf connectionCount b)) k noRow) ≡ true → k ≡ i
   one-row s i k h m x y =
-      let f : numbered s (jobAt (tableOf 16 b) i .row) ≡ true = rw (job-row b i) at x in
-      let g : numbered s (jobAt (tableOf 16 b) k .row) ≡ true = rw (job-row b k) at y in
+      let f : numbered s (jobAt (tableOf connectionCount b) i .row) ≡ true = rw (job-row b i) at x in
+      let g : numbered s (jobAt (tableOf connectionCount b) k .row) ≡ true = rw (job-row b k) at y in
       let p : i < k → ⊥ = λ l. serials-clash s i k l m f g in
       let q : k < i → ⊥ = λ l. serials-clash s k i l h g f in
       omega arith
 
-  module _ (c s : ℕ) (o : Place) (e : o ≡ placed (serialRow s (rowsOf (tableOf 16 b)))) where
+  module _ (c s : ℕ) (o : Place) (e : o ≡ placed (serialRow s (rowsOf (tableOf connectionCount b)))) where
     abbrev rs : List JobRow
-    rs = rowsOf (tableOf 16 b)
+    rs = rowsOf (tableOf connectionCount b)
 
     held : heldRow c s rs ≡ find (λ r. numbered s r && eqb (r .holder) (suc c)) rs
     unfolding heldRow
@@ -143,7 +144,7 @@ module _ (b : Bytes) (sound : isSound 16 b ≡ true) where
         (λ i h. rw (not-true (numbered s (getD rs i noRow)) (all-at (λ r. not (numbered s r)) rs i noRow (found (numbered s) noRow rs none q) h))) in
         ap placed (sym (held ∙ n))
 
-    pub held-at : (p : ℕ) (row : JobRow) (r : Place) → o ≡ At p → row ≡ P.rowIn (valuesOf (tableOf 16 b)) p → r ≡ cond (eqb (row .holder) (c + 1)) (At p) Nowhere
+    pub held-at : (p : ℕ) (row : JobRow) (r : Place) → o ≡ At p → row ≡ P.rowIn (valuesOf (tableOf connectionCount b)) p → r ≡ cond (eqb (row .holder) (c + 1)) (At p) Nowhere
         → r ≡ placed (heldRow c s rs)
     unfolding serialRow valuesOf
     held-at p row r g k m =

@@ -8,6 +8,7 @@ use lib.ListN.{take}
 use lib.Dec.{eqb, leb, ltb}
 use Rattle.octets.specs.Bytes.{Bytes}
 use Rattle.server.specs.declared.JobRow.{JobRow}
+use Rattle.server.specs.Sizes.{connectionCount}
 use Rattle.server.specs.Table.{greatest}
 use Rattle.server.specs.Layout.{tableOf}
 use Rattle.plans.specs.Values.{ablesOf, rowsOf, rankIn, bestRow, placed}
@@ -24,5 +25,5 @@ staysBehind priority serial r = ltb (r .priority) priority || (eqb (r .priority)
 -- v is the best of the first i rows for connection c
 abbrev pub BestOf : Bytes → ℕ → ℕ → Q′.Best → Type 0
 BestOf b c i v =
-    (v .rank ≡ greatest (map (rankIn (ablesOf (tableOf 16 b)) c) (take i (rowsOf (tableOf 16 b)))))
-    × (v .place ≡ placed (bestRow (ablesOf (tableOf 16 b)) (take i (rowsOf (tableOf 16 b))) c))
+    (v .rank ≡ greatest (map (rankIn (ablesOf (tableOf connectionCount b)) c) (take i (rowsOf (tableOf connectionCount b)))))
+    × (v .place ≡ placed (bestRow (ablesOf (tableOf connectionCount b)) (take i (rowsOf (tableOf connectionCount b))) c))

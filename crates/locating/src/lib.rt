@@ -5,6 +5,10 @@ mod queue;
 
 use plans::Place;
 use queue::Best;
+use server::ABLE_AT;
+use server::FUNCTIONS;
+use server::JOBS;
+use server::SERIALS_AT;
 ghost use mathlib.Core.Path.{_≡_};
 ghost use mathlib.Core.Bool.{cond, true};
 ghost use mathlib.Core.Option.{some};
@@ -12,16 +16,17 @@ ghost use Prim.Native.Nat.{_≤_, _<_};
 ghost use lib.ListN.{length, getD};
 ghost use lib.Dec.{eqb};
 ghost use Rattle.server.specs.Lists.{find, numbers};
-ghost use Rattle.server.specs.Layout.{tableOf};
+ghost use Rattle.server.specs.Sizes.{connectionCount, jobCount};
+ghost use Rattle.server.specs.Layout.{tableOf, tableSize};
 ghost use Rattle.server.specs.Call.{isSound};
 ghost use Rattle.plans.specs.Values.{ablesOf, bestRow, freeRow, heldRow, placed, rowsOf, serialRow};
 
 // The lowest place where the number stands.
-fn lowest(column: &[u32; 32], x: u32) -> Place
-    ensures { λ p. ⌜ p ≡ placed (find (λ k. eqb (getD (now (column .entry)) k 0) x) (numbers 0 32)) ⌝ }
+fn lowest(column: &[u32; JOBS], x: u32) -> Place
+    ensures { λ p. ⌜ p ≡ placed (find (λ k. eqb (getD (now (column .entry)) k 0) x) (numbers 0 jobCount)) ⌝ }
 {
     let mut i = 0;
-    while i < 32 {
+    while i < JOBS {
         if column[i] == x {
             return Place::At(i);
         }
@@ -32,29 +37,29 @@ fn lowest(column: &[u32; 32], x: u32) -> Place
 
 // The lowest free place: a free row has serial 0.
 pub fn free_row(table: &[u8]) -> Place
-    requires { ⌜ 3796 ≤ length (now table) ⌝ }
-    ensures { λ p. ⌜ p ≡ placed (freeRow (rowsOf (tableOf 16 (now (table .entry))))) ⌝ }
+    requires { ⌜ tableSize connectionCount ≤ length (now table) ⌝ }
+    ensures { λ p. ⌜ p ≡ placed (freeRow (rowsOf (tableOf connectionCount (now (table .entry))))) ⌝ }
 {
-    let serials = columns::fours(table, 68);
+    let serials = columns::fours(table, SERIALS_AT);
     lowest(&serials, 0)
 }
 
 // The place of the unfinished job with this serial: no job has serial 0.
 pub fn serial_row(table: &[u8], serial: u32) -> Place
-    requires { ⌜ 3796 ≤ length (now table) ⌝ }
-    ensures { λ p. ⌜ p ≡ placed (serialRow serial (rowsOf (tableOf 16 (now (table .entry))))) ⌝ }
+    requires { ⌜ tableSize connectionCount ≤ length (now table) ⌝ }
+    ensures { λ p. ⌜ p ≡ placed (serialRow serial (rowsOf (tableOf connectionCount (now (table .entry))))) ⌝ }
 {
     if serial == 0 {
         return Place::Nowhere;
     }
-    let serials = columns::fours(table, 68);
+    let serials = columns::fours(table, SERIALS_AT);
     lowest(&serials, serial)
 }
 
 // The place of the job with this serial, if connection c holds it. Serials are distinct, so no other row is asked.
 pub fn held_row(table: &[u8], c: usize, serial: u32) -> Place
-    requires { ⌜ (isSound 16 (now table) ≡ true) × (3796 ≤ length (now table)) × (c < 16) ⌝ }
-    ensures { λ p. ⌜ p ≡ placed (heldRow c serial (rowsOf (tableOf 16 (now (table .entry))))) ⌝ }
+    requires { ⌜ (isSound connectionCount (now table) ≡ true) × (tableSize connectionCount ≤ length (now table)) × (c < connectionCount) ⌝ }
+    ensures { λ p. ⌜ p ≡ placed (heldRow c serial (rowsOf (tableOf connectionCount (now (table .entry))))) ⌝ }
 {
     match serial_row(table, serial) {
         Place::Nowhere => Place::Nowhere,
@@ -78,10 +83,10 @@ fn either(new: bool, i: usize, before: Place) -> Place
 // The place of the job that connection c is given: of the highest priority, then of the lowest serial. A connection that can do nothing is
 // given none, and no row is looked at.
 pub fn best_row(table: &[u8], c: usize) -> Place
-    requires { ⌜ (3796 ≤ length (now table)) × (c < 16) ⌝ }
-    ensures { λ p. ⌜ p ≡ placed (bestRow (ablesOf (tableOf 16 (now (table .entry)))) (rowsOf (tableOf 16 (now (table .entry)))) c) ⌝ }
+    requires { ⌜ (tableSize connectionCount ≤ length (now table)) × (c < connectionCount) ⌝ }
+    ensures { λ p. ⌜ p ≡ placed (bestRow (ablesOf (tableOf connectionCount (now (table .entry)))) (rowsOf (tableOf connectionCount (now (table .entry)))) c) ⌝ }
 {
-    if !sets::has(columns::joined(table, 4, 16), c) {
+    if !sets::has(columns::joined(table, ABLE_AT, FUNCTIONS), c) {
         return Place::Nowhere;
     }
     let mut v = Best {
@@ -89,7 +94,7 @@ pub fn best_row(table: &[u8], c: usize) -> Place
         rank: 0,
     };
     let mut p = 0;
-    while p < 32 {
+    while p < JOBS {
         v = queue::next_group(v, table, p, c);
         p += 8;
     }

@@ -5,20 +5,21 @@ use borrow.Author.Tests.{lt-ltb, le-ltb}
 use lib.ListN.{length}
 use Rattle.octets.specs.Bytes.{Bytes}
 use Rattle.octets.specs.Put.{put}
-use Rattle.server.specs.Call.{make}
+use Rattle.server.specs.Sizes.{connectionCount, workloadsSize}
+use Rattle.server.specs.Layout.{tableSize}
+use Rattle.server.specs.Call.{make, made}
 use Rattle.texts.specs.Places.{zeros}
-use Rattle.making.specs.Made.{made}
 use Rattle.making.proofs.Zeros.{fresh-zeros}
 
 module _ (t w : Bytes) where
-  pub short-table : length t < 3796 → made 1 t w ≡ make 16 t w
+  pub short-table : length t < tableSize connectionCount → made 1 t w ≡ make connectionCount t w
   unfolding make
-  short-table h = rw (lt-ltb (length t) 3796 h)
+  short-table h = rw (lt-ltb (length t) (tableSize connectionCount) h)
 
-  pub short-workloads : 3796 ≤ length t → length w < 32768 → made 1 t w ≡ make 16 t w
+  pub short-workloads : tableSize connectionCount ≤ length t → length w < workloadsSize → made 1 t w ≡ make connectionCount t w
   unfolding make
-  short-workloads g h = rw (le-ltb (length t) 3796 g, lt-ltb (length w) 32768 h)
+  short-workloads g h = rw (le-ltb (length t) (tableSize connectionCount) g, lt-ltb (length w) workloadsSize h)
 
-  pub made-fresh : (x y : Bytes) → 3796 ≤ length t → 32768 ≤ length w → x ≡ put 0 (zeros 3796) t → y ≡ put 0 (zeros 32768) w → made 0 x y ≡ make 16 t w
+  pub made-fresh : (x y : Bytes) → tableSize connectionCount ≤ length t → workloadsSize ≤ length w → x ≡ put 0 (zeros (tableSize connectionCount)) t → y ≡ put 0 (zeros workloadsSize) w → made 0 x y ≡ make connectionCount t w
   unfolding make zeros
-  made-fresh x y g h e f = rw (le-ltb (length t) 3796 g, le-ltb (length w) 32768 h, e, f, fresh-zeros 16)
+  made-fresh x y g h e f = rw (le-ltb (length t) (tableSize connectionCount) g, le-ltb (length w) workloadsSize h, e, f, fresh-zeros 16)

@@ -4,12 +4,14 @@ use mathlib.Core.Path.{_≡_, refl, ap, ap₂, _∙_}
 use mathlib.Core.List.{[], _∷_, _++_}
 use native.Mathlib.Nat.{mul-suc, mul-zero}
 use native.Mathlib.Omega.{arith}
-use lib.ListN.{replicate, replicate-append-replicate}
+use lib.ListN.{length, replicate, replicate-append-replicate, length-replicate}
 use Rattle.octets.specs.Bytes.{Bytes}
 use Rattle.octets.specs.Put.{put}
+use Rattle.server.specs.declared.Connection.{Connection}
 use Rattle.server.specs.Lists.{fit}
+use Rattle.server.specs.Sizes.{functionCount, jobCount, nameSize, uniqueSize, numberSize}
 use Rattle.server.specs.Table.{Table, closed, noFunction, noJob, fresh}
-use Rattle.server.specs.Layout.{little, column, tableSize, bytesOf}
+use Rattle.server.specs.Layout.{little, column, setSize, tableSize, bytesOf}
 use Rattle.server.proofs.Lists.{fit-none}
 use Rattle.texts.specs.Places.{zeros}
 
@@ -51,26 +53,31 @@ rows f x k e (suc m) =
 abbrev empty : ℕ → ℕ → ℕ → Table
 empty n q p = record { last = 0; connections = replicate n closed; functions = replicate q noFunction; jobs = replicate p noJob }
 
-empty-zeros : (n q p : ℕ) → bytesOf (empty n q p) ≡ zeros (4 + (4 * q + (4 * p + (4 * p + (2 * p + (2 * p + (1 * p + (1 * p + (1 * p + (32 * q + (64 * p + (10 * p + (10 * p + (1 * n + (1 * n + 1 * n)))))))))))))))
+-- the bytes of a set
+abbrev sets : ℕ → ℕ
+sets n = setSize (length (replicate n closed))
+
+empty-zeros : (n q p : ℕ) → bytesOf (empty n q p)
+    ≡ zeros (4 + (4 * p + (2 * p + (2 * p + (1 * p + (1 * p + (1 * p + (nameSize * q + (uniqueSize * p + (numberSize * p + (numberSize * p + (sets n * q + (sets n * p + (1 * n + (1 * n + 1 * n)))))))))))))))
 unfolding bytesOf
 empty-zeros n q p =
     then 4 _ (little-zeros 4)
-    (then (4 * q) _ (rows _ noFunction 4 (little-zeros 4) q)
-    (then (4 * p) _ (rows _ noJob 4 (little-zeros 4) p)
     (then (4 * p) _ (rows _ noJob 4 (little-zeros 4) p)
     (then (2 * p) _ (rows _ noJob 2 (little-zeros 2) p)
     (then (2 * p) _ (rows _ noJob 2 (little-zeros 2) p)
     (then (1 * p) _ (rows _ noJob 1 (little-zeros 1) p)
     (then (1 * p) _ (rows _ noJob 1 flag-zeros p)
     (then (1 * p) _ (rows _ noJob 1 (little-zeros 1) p)
-    (then (32 * q) _ (rows _ noFunction 32 (text-zeros 32) q)
-    (then (64 * p) _ (rows _ noJob 64 (text-zeros 64) p)
-    (then (10 * p) _ (rows _ noJob 10 (text-zeros 10) p)
-    (then (10 * p) _ (rows _ noJob 10 (text-zeros 10) p)
+    (then (nameSize * q) _ (rows _ noFunction nameSize (text-zeros nameSize) q)
+    (then (uniqueSize * p) _ (rows _ noJob uniqueSize (text-zeros uniqueSize) p)
+    (then (numberSize * p) _ (rows _ noJob numberSize (text-zeros numberSize) p)
+    (then (numberSize * p) _ (rows _ noJob numberSize (text-zeros numberSize) p)
+    (then (sets n * q) _ (rows _ noFunction (sets n) (little-zeros (sets n)) q)
+    (then (sets n * p) _ (rows _ noJob (sets n) (little-zeros (sets n)) p)
     (then (1 * n) _ (rows _ closed 1 flag-zeros n)
     (then (1 * n) _ (rows _ closed 1 flag-zeros n) (rows _ closed 1 flag-zeros n)))))))))))))))
 
 -- a fresh table of n connections
 pub fresh-zeros : (n : ℕ) → bytesOf (fresh n) ≡ zeros (tableSize n)
 unfolding fresh
-fresh-zeros n = empty-zeros n 16 32 ∙ ap (λ (k : ℕ). zeros k) (omega arith)
+fresh-zeros n = empty-zeros n functionCount jobCount ∙ ap (λ (k : ℕ). zeros k) (omega (arith, length-replicate {A = Connection} n closed))

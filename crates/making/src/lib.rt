@@ -1,13 +1,15 @@
 // Making a fresh table over lent bytes: the table's 3,796 bytes and the workloads' 32,768 are set to zero, and no byte beyond them is
 // written. Format: docs/TABLE.md. Buffers that are too short are refused by document 01's number 1, and nothing is changed then. No
 // caller has to check anything first.
+use server::TABLE_SIZE;
+use server::WORKLOADS_SIZE;
 ghost use mathlib.Core.Path.{_≡_};
 ghost use Prim.Native.Nat.{_≤_};
 ghost use lib.ListN.{length};
 ghost use Rattle.octets.specs.Put.{put};
-ghost use Rattle.server.specs.Call.{make};
+ghost use Rattle.server.specs.Sizes.{connectionCount};
+ghost use Rattle.server.specs.Call.{made, make};
 ghost use Rattle.texts.specs.Places.{zeros};
-ghost use Rattle.making.specs.Made.{made};
 
 const LENT: u8 = 1; // a lent buffer is too short
 
@@ -21,15 +23,15 @@ fn clear(b: &mut [u8], n: usize)
 
 // Makes a fresh table.
 pub fn fresh(table: &mut [u8], workloads: &mut [u8]) -> u8
-    ensures { λ r. ⌜ made r (now (table .exit)) (now (workloads .exit)) ≡ make 16 (now (table .entry)) (now (workloads .entry)) ⌝ }
+    ensures { λ r. ⌜ made r (now (table .exit)) (now (workloads .exit)) ≡ make connectionCount (now (table .entry)) (now (workloads .entry)) ⌝ }
 {
-    if table.len() < 3796 {
+    if table.len() < TABLE_SIZE {
         return LENT;
     }
-    if workloads.len() < 32768 {
+    if workloads.len() < WORKLOADS_SIZE {
         return LENT;
     }
-    clear(table, 3796);
-    clear(workloads, 32768);
+    clear(table, TABLE_SIZE);
+    clear(workloads, WORKLOADS_SIZE);
     0
 }

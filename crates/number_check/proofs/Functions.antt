@@ -11,8 +11,9 @@ use Rattle.octets.proofs.Strings.{and-left, and-right, and-both}
 use Rattle.sets.specs.Sets.{has, union, isEmpty}
 use Rattle.sets.proofs.Laws.{has-union}
 use Rattle.server.specs.Lists.{any, all, numbers}
+use Rattle.server.specs.Sizes.{connectionCount, functionCount, jobCount, nameSize}
 use Rattle.server.specs.Table.{Function, live, queued, names, wanted, grabbable}
-use Rattle.server.specs.Layout.{functionIn, rowIn, tableOf}
+use Rattle.server.specs.Layout.{functionIn, rowIn, tableOf, namesAt, tableSize}
 use Rattle.server.specs.Rules.{isKnown, functionsAsDefined}
 use Rattle.passes.proofs.Tests.{iff, below-at, some-at, some-by, same-below, any-below, any-or}
 use Rattle.passes.proofs.Rows.{jobs-any, function-at, defined-all}
@@ -27,36 +28,36 @@ use Rattle.number_check.specs.Numbers.{ableIf, agrees, isDefined}
 module _ (b : Bytes) (rows : rowsMean b ≡ true) where
   -- ---- what each row says by itself
 
-  mean-at : (k : ℕ) → k < 32 → numbersMean (rowIn b k) ≡ true
+  mean-at : (k : ℕ) → k < jobCount → numbersMean (rowIn connectionCount b k) ≡ true
   unfolding rowsMean
-  mean-at k h = and-left (numbersMean (rowIn b k)) (isAwaited (rowIn b k)) (below-at (λ k. numbersMean (rowIn b k) && isAwaited (rowIn b k)) 32 k rows h)
+  mean-at k h = and-left (numbersMean (rowIn connectionCount b k)) (isAwaited (rowIn connectionCount b k)) (below-at (λ k. numbersMean (rowIn connectionCount b k) && isAwaited (rowIn connectionCount b k)) 32 k rows h)
 
-  live-at : (k : ℕ) → k < 32 → live (rowIn b k) ≡ true → leb (rowIn b k .priority) 2 && (ltb (rowIn b k .function) 16 && leb (rowIn b k .holder) 16) ≡ true
+  live-at : (k : ℕ) → k < jobCount → live (rowIn connectionCount b k) ≡ true → leb (rowIn connectionCount b k .priority) 2 && (ltb (rowIn connectionCount b k .function) 16 && leb (rowIn connectionCount b k .holder) 16) ≡ true
   live-at k h l = rw l at (mean-at k h)
 
-  pub function-small : (k : ℕ) → k < 32 → live (rowIn b k) ≡ true → rowIn b k .function < 16
+  pub function-small : (k : ℕ) → k < jobCount → live (rowIn connectionCount b k) ≡ true → rowIn connectionCount b k .function < 16
   function-small k h l =
-      ltb-true (rowIn b k .function) 16
-      (and-left (ltb (rowIn b k .function) 16) (leb (rowIn b k .holder) 16) (and-right (leb (rowIn b k .priority) 2) (ltb (rowIn b k .function) 16 && leb (rowIn b k .holder) 16) (live-at k h l)))
+      ltb-true (rowIn connectionCount b k .function) 16
+      (and-left (ltb (rowIn connectionCount b k .function) 16) (leb (rowIn connectionCount b k .holder) 16) (and-right (leb (rowIn connectionCount b k .priority) 2) (ltb (rowIn connectionCount b k .function) 16 && leb (rowIn connectionCount b k .holder) 16) (live-at k h l)))
 
-  pub holder-small : (k : ℕ) → k < 32 → live (rowIn b k) ≡ true → rowIn b k .holder ≤ 16
+  pub holder-small : (k : ℕ) → k < jobCount → live (rowIn connectionCount b k) ≡ true → rowIn connectionCount b k .holder ≤ 16
   holder-small k h l =
-      leb-true (rowIn b k .holder) 16
-      (and-right (ltb (rowIn b k .function) 16) (leb (rowIn b k .holder) 16) (and-right (leb (rowIn b k .priority) 2) (ltb (rowIn b k .function) 16 && leb (rowIn b k .holder) 16) (live-at k h l)))
+      leb-true (rowIn connectionCount b k .holder) 16
+      (and-right (ltb (rowIn connectionCount b k .function) 16) (leb (rowIn connectionCount b k .holder) 16) (and-right (leb (rowIn connectionCount b k .priority) 2) (ltb (rowIn connectionCount b k .function) 16 && leb (rowIn connectionCount b k .holder) 16) (live-at k h l)))
 
   -- a free row has no holder
-  pub held-live : (k : ℕ) → k < 32 → (rowIn b k .holder ≡ 0 → ⊥) → live (rowIn b k) ≡ true
-  held-live k h n = go (live (rowIn b k)) refl
+  pub held-live : (k : ℕ) → k < jobCount → (rowIn connectionCount b k .holder ≡ 0 → ⊥) → live (rowIn connectionCount b k) ≡ true
+  held-live k h n = go (live (rowIn connectionCount b k)) refl
     where
-      go : (t : Bool) → live (rowIn b k) ≡ t → t ≡ true
+      go : (t : Bool) → live (rowIn connectionCount b k) ≡ t → t ≡ true
       go true q = refl
-      go false q = absurd (n (eqb-true (rowIn b k .holder) 0 (holder-of (rw q at (mean-at k h)))))
+      go false q = absurd (n (eqb-true (rowIn connectionCount b k .holder) 0 (holder-of (rw q at (mean-at k h)))))
         where
-          holder-of : eqb (rowIn b k .function) 0 && (eqb (rowIn b k .priority) 0 && (not (rowIn b k .background) && (isEmpty (rowIn b k .listeners) && (eqb (rowIn b k .holder) 0 && eqb (rowIn b k .size) 0)))) ≡ true
-              → eqb (rowIn b k .holder) 0 ≡ true
+          holder-of : eqb (rowIn connectionCount b k .function) 0 && (eqb (rowIn connectionCount b k .priority) 0 && (not (rowIn connectionCount b k .background) && (isEmpty (rowIn connectionCount b k .listeners) && (eqb (rowIn connectionCount b k .holder) 0 && eqb (rowIn connectionCount b k .size) 0)))) ≡ true
+              → eqb (rowIn connectionCount b k .holder) 0 ≡ true
           holder-of e =
-              and-left (eqb (rowIn b k .holder) 0) (eqb (rowIn b k .size) 0) (and-right (isEmpty (rowIn b k .listeners)) _ (and-right (not (rowIn b k .background)) _
-              (and-right (eqb (rowIn b k .priority) 0) _ (and-right (eqb (rowIn b k .function) 0) _ e))))
+              and-left (eqb (rowIn connectionCount b k .holder) 0) (eqb (rowIn connectionCount b k .size) 0) (and-right (isEmpty (rowIn connectionCount b k .listeners)) _ (and-right (not (rowIn connectionCount b k .background)) _
+              (and-right (eqb (rowIn connectionCount b k .priority) 0) _ (and-right (eqb (rowIn connectionCount b k .function) 0) _ e))))
 
   -- ---- functions that jobs name
 
@@ -67,56 +68,56 @@ module _ (b : Bytes) (rows : rowsMean b ≡ true) where
   names-one false h f g e = refl
 
   module _ (v : S.Survey) (s : Surveyed b 32 v) where
-    pub named-is : (q : ℕ) → has (union (v .queued) (v .grabbed)) q ≡ any (λ j. names q (j .row)) (tableOf 16 b .jobs)
+    pub named-is : (q : ℕ) → has (union (v .queued) (v .grabbed)) q ≡ any (λ j. names q (j .row)) (tableOf connectionCount b .jobs)
     named-is q =
-        has-union (v .queued) (v .grabbed) q ∙ ap₂ _||_ (s .queued q) (s .grabbed q) ∙ any-or (queuedFor b q) (grabbedFor b q) (numbers 0 32)
-        ∙ any-below (λ k. queuedFor b q k || grabbedFor b q k) (λ k. names q (rowIn b k)) 32
-        (λ k h. names-one (live (rowIn b k)) (eqb (rowIn b k .holder) 0) (eqb (rowIn b k .function) q) (eqb (rowIn b k .function % 32) q)
-        (λ l. let f = function-small k h l in let m : rowIn b k .function % 32 ≡ rowIn b k .function = omega arith in ap (λ (x : ℕ). eqb x q) m))
-        ∙ sym (jobs-any 16 b (λ j. names q (j .row)))
+        has-union (v .queued) (v .grabbed) q ∙ ap₂ _||_ (s .queued q) (s .grabbed q) ∙ any-or (queuedFor b q) (grabbedFor b q) (numbers 0 jobCount)
+        ∙ any-below (λ k. queuedFor b q k || grabbedFor b q k) (λ k. names q (rowIn connectionCount b k)) 32
+        (λ k h. names-one (live (rowIn connectionCount b k)) (eqb (rowIn connectionCount b k .holder) 0) (eqb (rowIn connectionCount b k .function) q) (eqb (rowIn connectionCount b k .function % 32) q)
+        (λ l. let f = function-small k h l in let m : rowIn connectionCount b k .function % 32 ≡ rowIn connectionCount b k .function = omega arith in ap (λ (x : ℕ). eqb x q) m))
+        ∙ sym (jobs-any connectionCount b (λ j. names q (j .row)))
 
     -- ---- connections able to do what is queued
 
     module _ (busy : ℕ) (jb : Joined (ableIf b (v .queued)) 16 busy) (c : ℕ) where
-      able-at : (k : ℕ) → k < 32 → live (rowIn b k) ≡ true → grabbable (tableOf 16 b .functions) c (rowIn b k) ≡ queued (rowIn b k) && has (functionIn b (rowIn b k .function) .able) c
-      able-at k h l = ap (λ (x : Function). queued (rowIn b k) && has (x .able) c) (function-at 16 b (rowIn b k .function) (function-small k h l))
+      able-at : (k : ℕ) → k < jobCount → live (rowIn connectionCount b k) ≡ true → grabbable (tableOf connectionCount b .functions) c (rowIn connectionCount b k) ≡ queued (rowIn connectionCount b k) && has (functionIn connectionCount b (rowIn connectionCount b k .function) .able) c
+      able-at k h l = ap (λ (x : Function). queued (rowIn connectionCount b k) && has (x .able) c) (function-at connectionCount b (rowIn connectionCount b k .function) (function-small k h l))
 
-      to-busy : any (λ k. grabbable (tableOf 16 b .functions) c (rowIn b k)) (numbers 0 32) ≡ true → has busy c ≡ true
-      to-busy e = some-at (λ k. grabbable (tableOf 16 b .functions) c (rowIn b k)) 32 e (λ k h q. found k h q)
+      to-busy : any (λ k. grabbable (tableOf connectionCount b .functions) c (rowIn connectionCount b k)) (numbers 0 jobCount) ≡ true → has busy c ≡ true
+      to-busy e = some-at (λ k. grabbable (tableOf connectionCount b .functions) c (rowIn connectionCount b k)) 32 e (λ k h q. found k h q)
         where
-          found : (k : ℕ) → k < 32 → grabbable (tableOf 16 b .functions) c (rowIn b k) ≡ true → has busy c ≡ true
+          found : (k : ℕ) → k < jobCount → grabbable (tableOf connectionCount b .functions) c (rowIn connectionCount b k) ≡ true → has busy c ≡ true
           found k h q =
-              let wait : queued (rowIn b k) ≡ true = and-left (queued (rowIn b k)) _ q in
-              let l : live (rowIn b k) ≡ true = and-left (live (rowIn b k)) (eqb (rowIn b k .holder) 0) wait in
+              let wait : queued (rowIn connectionCount b k) ≡ true = and-left (queued (rowIn connectionCount b k)) _ q in
+              let l : live (rowIn connectionCount b k) ≡ true = and-left (live (rowIn connectionCount b k)) (eqb (rowIn connectionCount b k .holder) 0) wait in
               let f = function-small k h l in
-              let m : rowIn b k .function % 32 ≡ rowIn b k .function = omega arith in
-              let can : has (functionIn b (rowIn b k .function) .able) c ≡ true = and-right (queued (rowIn b k)) _ (sym (able-at k h l) ∙ q) in
-              let there : has (v .queued) (rowIn b k .function) ≡ true =
-              s .queued (rowIn b k .function) ∙ some-by (queuedFor b (rowIn b k .function)) 32 k h (and-both _ _ wait (eq-eqb (rowIn b k .function % 32) (rowIn b k .function) m)) in
-              jb c ∙ some-by (λ q. has (ableIf b (v .queued) q) c) 16 (rowIn b k .function) f
-              (has-if (has (v .queued) (rowIn b k .function)) (functionIn b (rowIn b k .function) .able) c ∙ and-both _ _ there can)
+              let m : rowIn connectionCount b k .function % 32 ≡ rowIn connectionCount b k .function = omega arith in
+              let can : has (functionIn connectionCount b (rowIn connectionCount b k .function) .able) c ≡ true = and-right (queued (rowIn connectionCount b k)) _ (sym (able-at k h l) ∙ q) in
+              let there : has (v .queued) (rowIn connectionCount b k .function) ≡ true =
+              s .queued (rowIn connectionCount b k .function) ∙ some-by (queuedFor b (rowIn connectionCount b k .function)) 32 k h (and-both _ _ wait (eq-eqb (rowIn connectionCount b k .function % 32) (rowIn connectionCount b k .function) m)) in
+              jb c ∙ some-by (λ q. has (ableIf b (v .queued) q) c) 16 (rowIn connectionCount b k .function) f
+              (has-if (has (v .queued) (rowIn connectionCount b k .function)) (functionIn connectionCount b (rowIn connectionCount b k .function) .able) c ∙ and-both _ _ there can)
 
-      from-busy : has busy c ≡ true → any (λ k. grabbable (tableOf 16 b .functions) c (rowIn b k)) (numbers 0 32) ≡ true
-      from-busy e = some-at (λ q. has (ableIf b (v .queued) q) c) 16 (sym (jb c) ∙ e) (λ q h r. able q h (sym (has-if (has (v .queued) q) (functionIn b q .able) c) ∙ r))
+      from-busy : has busy c ≡ true → any (λ k. grabbable (tableOf connectionCount b .functions) c (rowIn connectionCount b k)) (numbers 0 jobCount) ≡ true
+      from-busy e = some-at (λ q. has (ableIf b (v .queued) q) c) 16 (sym (jb c) ∙ e) (λ q h r. able q h (sym (has-if (has (v .queued) q) (functionIn connectionCount b q .able) c) ∙ r))
         where
-          row : (q k : ℕ) → k < 32 → has (functionIn b q .able) c ≡ true → queuedFor b q k ≡ true → any (λ k. grabbable (tableOf 16 b .functions) c (rowIn b k)) (numbers 0 32) ≡ true
+          row : (q k : ℕ) → k < jobCount → has (functionIn connectionCount b q .able) c ≡ true → queuedFor b q k ≡ true → any (λ k. grabbable (tableOf connectionCount b .functions) c (rowIn connectionCount b k)) (numbers 0 jobCount) ≡ true
           row q k h can r =
-              let wait : queued (rowIn b k) ≡ true = and-left (queued (rowIn b k)) (eqb (rowIn b k .function % 32) q) r in
-              let l : live (rowIn b k) ≡ true = and-left (live (rowIn b k)) (eqb (rowIn b k .holder) 0) wait in
+              let wait : queued (rowIn connectionCount b k) ≡ true = and-left (queued (rowIn connectionCount b k)) (eqb (rowIn connectionCount b k .function % 32) q) r in
+              let l : live (rowIn connectionCount b k) ≡ true = and-left (live (rowIn connectionCount b k)) (eqb (rowIn connectionCount b k .holder) 0) wait in
               let f = function-small k h l in
-              let e : rowIn b k .function % 32 ≡ q = eqb-true (rowIn b k .function % 32) q (and-right (queued (rowIn b k)) (eqb (rowIn b k .function % 32) q) r) in
-              let m : rowIn b k .function ≡ q = omega arith in
-              some-by (λ k. grabbable (tableOf 16 b .functions) c (rowIn b k)) 32 k h (able-at k h l ∙ and-both _ _ wait (ap (λ (x : ℕ). has (functionIn b x .able) c) m ∙ can))
+              let e : rowIn connectionCount b k .function % 32 ≡ q = eqb-true (rowIn connectionCount b k .function % 32) q (and-right (queued (rowIn connectionCount b k)) (eqb (rowIn connectionCount b k .function % 32) q) r) in
+              let m : rowIn connectionCount b k .function ≡ q = omega arith in
+              some-by (λ k. grabbable (tableOf connectionCount b .functions) c (rowIn connectionCount b k)) 32 k h (able-at k h l ∙ and-both _ _ wait (ap (λ (x : ℕ). has (functionIn connectionCount b x .able) c) m ∙ can))
 
-          able : (q : ℕ) → q < 16 → has (v .queued) q && has (functionIn b q .able) c ≡ true → any (λ k. grabbable (tableOf 16 b .functions) c (rowIn b k)) (numbers 0 32) ≡ true
+          able : (q : ℕ) → q < functionCount → has (v .queued) q && has (functionIn connectionCount b q .able) c ≡ true → any (λ k. grabbable (tableOf connectionCount b .functions) c (rowIn connectionCount b k)) (numbers 0 jobCount) ≡ true
           able q h r =
-              some-at (queuedFor b q) 32 (sym (s .queued q) ∙ and-left (has (v .queued) q) (has (functionIn b q .able) c) r)
-              (λ k g t. row q k g (and-right (has (v .queued) q) (has (functionIn b q .able) c) r) t)
+              some-at (queuedFor b q) 32 (sym (s .queued q) ∙ and-left (has (v .queued) q) (has (functionIn connectionCount b q .able) c) r)
+              (λ k g t. row q k g (and-right (has (v .queued) q) (has (functionIn connectionCount b q .able) c) r) t)
 
-      pub busy-is : any (λ j. grabbable (tableOf 16 b .functions) c (j .row)) (tableOf 16 b .jobs) ≡ has busy c
+      pub busy-is : any (λ j. grabbable (tableOf connectionCount b .functions) c (j .row)) (tableOf connectionCount b .jobs) ≡ has busy c
       busy-is =
-          jobs-any 16 b (λ j. grabbable (tableOf 16 b .functions) c (j .row))
-          ∙ iff (any (λ k. grabbable (tableOf 16 b .functions) c (rowIn b k)) (numbers 0 32)) (has busy c) to-busy from-busy
+          jobs-any connectionCount b (λ j. grabbable (tableOf connectionCount b .functions) c (j .row))
+          ∙ iff (any (λ k. grabbable (tableOf connectionCount b .functions) c (rowIn connectionCount b k)) (numbers 0 jobCount)) (has busy c) to-busy from-busy
 
     -- ---- functions as defined
 
@@ -125,8 +126,8 @@ module _ (b : Bytes) (rows : rowsMean b ≡ true) where
     agrees-is true false = refl
     agrees-is false y = refl
 
-    pub defined-is : 3796 ≤ length b → (n : ℕ) → n ≡ union (v .queued) (v .grabbed) → all (isDefined b n) (numbers 0 16) ≡ functionsAsDefined (tableOf 16 b)
+    pub defined-is : tableSize connectionCount ≤ length b → (n : ℕ) → n ≡ union (v .queued) (v .grabbed) → all (isDefined b n) (numbers 0 16) ≡ functionsAsDefined (tableOf connectionCount b)
     defined-is long n e =
-        same-below (isDefined b n) (λ q. cond (isKnown (functionIn b q)) (wanted (tableOf 16 b .jobs) q (functionIn b q)) (not (wanted (tableOf 16 b .jobs) q (functionIn b q)))) 16
-        (λ q h. rw (e, named-is q, ← empty-text 31 b (548 + 32 * q) (omega arith)) (agrees-is (isKnown (functionIn b q)) (wanted (tableOf 16 b .jobs) q (functionIn b q))))
-        ∙ sym (defined-all 16 b)
+        same-below (isDefined b n) (λ q. cond (isKnown (functionIn connectionCount b q)) (wanted (tableOf connectionCount b .jobs) q (functionIn connectionCount b q)) (not (wanted (tableOf connectionCount b .jobs) q (functionIn connectionCount b q)))) 16
+        (λ q h. rw (e, named-is q, ← empty-text 31 b (namesAt + nameSize * q) (omega arith)) (agrees-is (isKnown (functionIn connectionCount b q)) (wanted (tableOf connectionCount b .jobs) q (functionIn connectionCount b q))))
+        ∙ sym (defined-all connectionCount b)

@@ -7,8 +7,9 @@ use lib.Dec.{eqb}
 use Rattle.octets.specs.Bytes.{Bytes}
 use Rattle.sets.specs.Sets.{has, insert, union}
 use Rattle.server.specs.Lists.{any, all, numbers}
+use Rattle.server.specs.Sizes.{uniqueSize, connectionCount}
 use Rattle.server.specs.Table.{live, queued}
-use Rattle.server.specs.Layout.{rowIn}
+use Rattle.server.specs.Layout.{rowIn, uniquesAt}
 use Rattle.number_check.specs.declared.Survey as S
 
 -- ---- the survey with one row more
@@ -31,29 +32,29 @@ withFree v clear =
 -- ---- what each row adds
 
 abbrev pub hasResidue : Bytes → ℕ → ℕ → Bool
-hasResidue b r k = live (rowIn b k) && eqb (rowIn b k .serial % 32) r
+hasResidue b r k = live (rowIn connectionCount b k) && eqb (rowIn connectionCount b k .serial % 32) r
 
 abbrev pub queuedFor : Bytes → ℕ → ℕ → Bool
-queuedFor b q k = queued (rowIn b k) && eqb (rowIn b k .function % 32) q
+queuedFor b q k = queued (rowIn connectionCount b k) && eqb (rowIn connectionCount b k .function % 32) q
 
 abbrev pub isHeld : Bytes → ℕ → Bool
-isHeld b k = live (rowIn b k) && not (eqb (rowIn b k .holder) 0)
+isHeld b k = live (rowIn connectionCount b k) && not (eqb (rowIn connectionCount b k .holder) 0)
 
 abbrev pub grabbedFor : Bytes → ℕ → ℕ → Bool
-grabbedFor b q k = isHeld b k && eqb (rowIn b k .function % 32) q
+grabbedFor b q k = isHeld b k && eqb (rowIn connectionCount b k .function % 32) q
 
 abbrev pub heldBy : Bytes → ℕ → ℕ → Bool
-heldBy b c k = isHeld b k && eqb ((rowIn b k .holder - 1) % 32) c
+heldBy b c k = isHeld b k && eqb ((rowIn connectionCount b k .holder - 1) % 32) c
 
 abbrev pub freeOrJob : Bytes → ℕ → Bool
-freeOrJob b k = live (rowIn b k) || eqb (getD b (1060 + 64 * k) 0) 0
+freeOrJob b k = live (rowIn connectionCount b k) || eqb (getD b (uniquesAt + uniqueSize * k) 0) 0
 
 -- what the rows before place i say. Residues that are their own sum are distinct, and so are the serials.
 pub record Surveyed (b : Bytes) (i : ℕ) (v : S.Survey) : Type 0 where
   pub residues : (r : ℕ) → has (v .residues) r ≡ any (hasResidue b r) (numbers 0 i)
   pub least : v .residues ≤ v .sum
   pub fits : v .sum ≤ i * 4294967295
-  pub distinct : v .residues ≡ v .sum → (x y : ℕ) → x < y → y < i → live (rowIn b x) ≡ true → rowIn b x .serial ≡ rowIn b y .serial → ⊥
+  pub distinct : v .residues ≡ v .sum → (x y : ℕ) → x < y → y < i → live (rowIn connectionCount b x) ≡ true → rowIn connectionCount b x .serial ≡ rowIn connectionCount b y .serial → ⊥
   pub queued : (q : ℕ) → has (v .queued) q ≡ any (queuedFor b q) (numbers 0 i)
   pub grabbed : (q : ℕ) → has (v .grabbed) q ≡ any (grabbedFor b q) (numbers 0 i)
   pub holding : (c : ℕ) → has (v .holding) c ≡ any (heldBy b c) (numbers 0 i)

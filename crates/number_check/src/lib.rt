@@ -1,15 +1,30 @@
 // What refusal 1 asks of numbers that belong together: serials below the last one and distinct, functions known exactly if they are wanted,
 // abilities, listeners, holders, options and sleep only on open connections, and no sleeper with a grabbable job. One walk over the rows that
 // passes over free ones gathers the sets that these rules speak of; a rule of all jobs is then one of a set.
+use server::ABLE_AT;
+use server::ASLEEP_AT;
+use server::CONNECTIONS;
+use server::EXCEPTIONS_AT;
+use server::FUNCTIONS;
+use server::FUNCTIONS_AT;
+use server::JOBS;
+use server::LISTENERS_AT;
+use server::NAME_SIZE;
+use server::NAMES_AT;
+use server::OPENED_AT;
+use server::SERIALS_AT;
+use server::UNIQUE_SIZE;
+use server::UNIQUES_AT;
 ghost use mathlib.Core.Path.{_≡_};
 ghost use mathlib.Core.Bool.{cond, true, _&&_};
-ghost use Prim.Native.Nat.{_+_, _<_, _≤_};
+ghost use Prim.Native.Nat.{_+_, _<_, _≤_, _*_, _^_};
 ghost use lib.ListN.{length};
 ghost use lib.Dec.{ltb};
 ghost use Rattle.sets.specs.Sets.{has};
 ghost use Rattle.server.specs.Lists.{all, numbers};
-ghost use Rattle.server.specs.Layout.{tableOf};
+ghost use Rattle.server.specs.Sizes.{connectionCount, functionCount, jobCount};
 ghost use Rattle.server.specs.Rules.{functionsAsDefined, serialsBelow, serialsDistinct};
+ghost use Rattle.server.specs.Layout.{openedAt, tableOf, tableSize};
 ghost use Rattle.table_bytes.specs.Tests.{areFlags};
 ghost use Rattle.passes.specs.Arrays.{Twice};
 ghost use Rattle.passes.specs.Unions.{Joined};
@@ -78,19 +93,19 @@ fn with_free(v: Survey, clear: bool) -> Survey
 
 // The survey with the row at place `i`.
 fn next_row(v: Survey, table: &[u8], i: usize) -> Survey
-    requires { ⌜ (3796 ≤ length (now table)) × (i < 32) × Surveyed (now table) i v ⌝ }
+    requires { ⌜ (tableSize connectionCount ≤ length (now table)) × (i < jobCount) × Surveyed (now table) i v ⌝ }
     ensures { λ r. ⌜ Surveyed (now (table .entry)) (i + 1) r ⌝ }
 {
     let serial = fields::serial(table, i);
     if serial == 0 {
-        return with_free(v, table[1060 + 64 * i] == 0);
+        return with_free(v, table[UNIQUES_AT + UNIQUE_SIZE * i] == 0);
     }
-    with_job(v, serial, table[516 + i], fields::holder(table, i))
+    with_job(v, serial, table[FUNCTIONS_AT + i], fields::holder(table, i))
 }
 
 // The survey with the eight rows from place `p` on.
 fn next_rows(start: Survey, table: &[u8], p: usize) -> Survey
-    requires { ⌜ (3796 ≤ length (now table)) × (p + 8 ≤ 32) × Surveyed (now table) p start ⌝ }
+    requires { ⌜ (tableSize connectionCount ≤ length (now table)) × (p + 8 ≤ jobCount) × Surveyed (now table) p start ⌝ }
     ensures { λ r. ⌜ Surveyed (now (table .entry)) (p + 8) r ⌝ }
 {
     let mut v = start;
@@ -104,19 +119,22 @@ fn next_rows(start: Survey, table: &[u8], p: usize) -> Survey
 
 // The same; eight free rows are passed at once.
 fn next_group(v: Survey, table: &[u8], p: usize) -> Survey
-    requires { ⌜ (3796 ≤ length (now table)) × (p + 8 ≤ 32) × Surveyed (now table) p v ⌝ }
+    requires { ⌜ (tableSize connectionCount ≤ length (now table)) × (p + 8 ≤ jobCount) × Surveyed (now table) p v ⌝ }
     ensures { λ r. ⌜ Surveyed (now (table .entry)) (p + 8) r ⌝ }
 {
-    if image_check::zeros(table, 68 + 4 * p, 32) {
-        return with_free(v, image_check::all_empty(table, 1060 + 64 * p, 64, 8));
+    if image_check::zeros(table, SERIALS_AT + 4 * p, 32) {
+        return with_free(
+            v,
+            image_check::all_empty(table, UNIQUES_AT + UNIQUE_SIZE * p, UNIQUE_SIZE, 8),
+        );
     }
     next_rows(v, table, p)
 }
 
 // The survey of all rows.
 fn all_surveyed(table: &[u8]) -> Survey
-    requires { ⌜ 3796 ≤ length (now table) ⌝ }
-    ensures { λ r. ⌜ Surveyed (now (table .entry)) 32 r ⌝ }
+    requires { ⌜ tableSize connectionCount ≤ length (now table) ⌝ }
+    ensures { λ r. ⌜ Surveyed (now (table .entry)) jobCount r ⌝ }
 {
     let mut v = Survey {
         residues: 0,
@@ -127,7 +145,7 @@ fn all_surveyed(table: &[u8]) -> Survey
         clear: true,
     };
     let mut p = 0;
-    while p < 32 {
+    while p < JOBS {
         v = next_group(v, table, p);
         p += 8;
     }
@@ -138,12 +156,12 @@ fn all_surveyed(table: &[u8]) -> Survey
 
 // Whether no serial is above the last one given out.
 fn serials_below(table: &[u8], last: u32) -> bool
-    requires { ⌜ 3796 ≤ length (now table) ⌝ }
-    ensures { λ r. ⌜ r ≡ all (serialBelow (now (table .entry)) last) (numbers 0 32) ⌝ }
+    requires { ⌜ tableSize connectionCount ≤ length (now table) ⌝ }
+    ensures { λ r. ⌜ r ≡ all (serialBelow (now (table .entry)) last) (numbers 0 jobCount) ⌝ }
 {
     let mut ok = true;
     let mut i = 0;
-    while i < 32 {
+    while i < JOBS {
         ok = ok & (fields::serial(table, i) <= last);
         i += 1;
     }
@@ -151,29 +169,29 @@ fn serials_below(table: &[u8], last: u32) -> bool
 }
 
 // The serials twice, one after the other.
-fn serials_twice(table: &[u8]) -> [u32; 64]
-    requires { ⌜ 3796 ≤ length (now table) ⌝ }
-    ensures { λ r. ⌜ Twice 32 (serialIn (now (table .entry))) r ⌝ }
+fn serials_twice(table: &[u8]) -> [u32; 2 * JOBS]
+    requires { ⌜ tableSize connectionCount ≤ length (now table) ⌝ }
+    ensures { λ r. ⌜ Twice jobCount (serialIn (now (table .entry))) r ⌝ }
 {
-    let mut w = [0u32; 64];
+    let mut w = [0u32; 2 * JOBS];
     let mut i = 0;
-    while i < 32 {
+    while i < JOBS {
         let serial = fields::serial(table, i);
         w[i] = serial;
-        w[32 + i] = serial;
+        w[JOBS + i] = serial;
         i += 1;
     }
     w
 }
 
 // Whether no serial stands `d` places further on once more.
-fn apart_by(w: &[u32; 64], d: usize) -> bool
-    requires { ⌜ d ≤ 32 ⌝ }
-    ensures { λ r. ⌜ r ≡ all (apartAt (now (w .entry)) d) (numbers 0 32) ⌝ }
+fn apart_by(w: &[u32; 2 * JOBS], d: usize) -> bool
+    requires { ⌜ d ≤ jobCount ⌝ }
+    ensures { λ r. ⌜ r ≡ all (apartAt (now (w .entry)) d) (numbers 0 jobCount) ⌝ }
 {
     let mut ok = true;
     let mut i = 0;
-    while i < 32 {
+    while i < JOBS {
         ok = ok & ((w[i] == 0) | (w[i] != w[i + d]));
         i += 1;
     }
@@ -181,8 +199,8 @@ fn apart_by(w: &[u32; 64], d: usize) -> bool
 }
 
 // The same at each distance up to 16, around.
-fn all_apart(w: &[u32; 64]) -> bool
-    ensures { λ r. ⌜ r ≡ all (λ d. all (apartAt (now (w .entry)) (d + 1)) (numbers 0 32)) (numbers 0 16) ⌝ }
+fn all_apart(w: &[u32; 2 * JOBS]) -> bool
+    ensures { λ r. ⌜ r ≡ all (λ d. all (apartAt (now (w .entry)) (d + 1)) (numbers 0 jobCount)) (numbers 0 16) ⌝ }
 {
     let mut ok = true;
     let mut d = 0;
@@ -195,8 +213,8 @@ fn all_apart(w: &[u32; 64]) -> bool
 
 // Whether no two jobs have one serial. Where the residues are distinct, so are the serials: the bits of distinct residues add up to their set.
 fn serials_distinct(table: &[u8], v: Survey) -> bool
-    requires { ⌜ (3796 ≤ length (now table)) × Surveyed (now table) 32 v ⌝ }
-    ensures { λ r. ⌜ r ≡ serialsDistinct (tableOf 16 (now (table .entry))) ⌝ }
+    requires { ⌜ (tableSize connectionCount ≤ length (now table)) × Surveyed (now table) jobCount v ⌝ }
+    ensures { λ r. ⌜ r ≡ serialsDistinct (tableOf connectionCount (now (table .entry))) ⌝ }
 {
     if v.residues as u64 == v.sum {
         return true;
@@ -207,8 +225,8 @@ fn serials_distinct(table: &[u8], v: Survey) -> bool
 
 // Whether the serials are at most the last one, and distinct.
 fn serials_hold(table: &[u8], v: Survey) -> bool
-    requires { ⌜ (3796 ≤ length (now table)) × Surveyed (now table) 32 v ⌝ }
-    ensures { λ r. ⌜ r ≡ serialsBelow (tableOf 16 (now (table .entry))) && serialsDistinct (tableOf 16 (now (table .entry))) ⌝ }
+    requires { ⌜ (tableSize connectionCount ≤ length (now table)) × Surveyed (now table) jobCount v ⌝ }
+    ensures { λ r. ⌜ r ≡ serialsBelow (tableOf connectionCount (now (table .entry))) && serialsDistinct (tableOf connectionCount (now (table .entry))) ⌝ }
 {
     if serials_below(table, little::number4(table, 0)) {
         return serials_distinct(table, v);
@@ -230,32 +248,35 @@ fn able_if(queued: bool, able: u32) -> u32
 
 // The connections able to do the function of a queued job.
 fn busy(table: &[u8], queued: u32) -> u32
-    requires { ⌜ 3796 ≤ length (now table) ⌝ }
-    ensures { λ r. ⌜ Joined (ableIf (now (table .entry)) queued) 16 r ⌝ }
+    requires { ⌜ tableSize connectionCount ≤ length (now table) ⌝ }
+    ensures { λ r. ⌜ Joined (ableIf (now (table .entry)) queued) functionCount r ⌝ }
 {
     let mut s = 0;
     let mut q = 0;
-    while q < 16 {
+    while q < FUNCTIONS {
         s = sets::union(s, able_if(sets::has(queued, q), fields::able(table, q)));
         q += 1;
     }
     s
 }
 
+// One more than the greatest set of connections.
+const SETS: u64 = 1 << CONNECTIONS;
+
 // Whether each connection that is used, sleeps or has the option is open, and no sleeper is one of the busy ones.
 fn connections_hold(table: &[u8], used: u32, busy: u32) -> bool
-    requires { ⌜ 3796 ≤ length (now table) ⌝ }
-    ensures { λ r. ⌜ r ≡ ltb used 65536 && all (connectionHolds (now (table .entry)) used busy) (numbers 0 16) ⌝ }
+    requires { ⌜ tableSize connectionCount ≤ length (now table) ⌝ }
+    ensures { λ r. ⌜ r ≡ ltb used (2 ^ connectionCount) && all (connectionHolds (now (table .entry)) used busy) (numbers 0 connectionCount) ⌝ }
 {
     let mut ok = true;
     let mut c = 0;
-    while c < 16 {
-        let awake = table[3764 + c] == 0;
-        let unused = (awake & (table[3780 + c] == 0)) & !sets::has(used, c);
-        ok = ok & (((table[3748 + c] != 0) | unused) & (awake | !sets::has(busy, c)));
+    while c < CONNECTIONS {
+        let awake = table[ASLEEP_AT + c] == 0;
+        let unused = (awake & (table[EXCEPTIONS_AT + c] == 0)) & !sets::has(used, c);
+        ok = ok & (((table[OPENED_AT + c] != 0) | unused) & (awake | !sets::has(busy, c)));
         c += 1;
     }
-    (used < 65536) & ok
+    ((used as u64) < SETS) & ok
 }
 
 // Whether both hold or neither.
@@ -267,14 +288,14 @@ fn agree(x: bool, y: bool) -> bool
 
 // Whether a place has a name exactly if some connection can do its function or a job names it.
 fn functions_defined(table: &[u8], named: u32) -> bool
-    requires { ⌜ 3796 ≤ length (now table) ⌝ }
-    ensures { λ r. ⌜ r ≡ all (isDefined (now (table .entry)) named) (numbers 0 16) ⌝ }
+    requires { ⌜ tableSize connectionCount ≤ length (now table) ⌝ }
+    ensures { λ r. ⌜ r ≡ all (isDefined (now (table .entry)) named) (numbers 0 functionCount) ⌝ }
 {
     let mut ok = true;
     let mut q = 0;
-    while q < 16 {
+    while q < FUNCTIONS {
         let wanted = (fields::able(table, q) != 0) | sets::has(named, q);
-        ok = ok & agree(table[548 + 32 * q] != 0, wanted);
+        ok = ok & agree(table[NAMES_AT + NAME_SIZE * q] != 0, wanted);
         q += 1;
     }
     ok
@@ -282,11 +303,11 @@ fn functions_defined(table: &[u8], named: u32) -> bool
 
 // Whether the rules of connections and functions hold, where those of each row do.
 fn sets_hold(table: &[u8], v: Survey) -> bool
-    requires { ⌜ (3796 ≤ length (now table)) × (areFlags 48 (now table) 3748 ≡ true) × (rowsMean (now table) ≡ true) × Surveyed (now table) 32 v ⌝ }
-    ensures { λ r. ⌜ r ≡ connectionRules (now (table .entry)) && functionsAsDefined (tableOf 16 (now (table .entry))) ⌝ }
+    requires { ⌜ (tableSize connectionCount ≤ length (now table)) × (areFlags (3 * connectionCount) (now table) (openedAt connectionCount) ≡ true) × (rowsMean (now table) ≡ true) × Surveyed (now table) jobCount v ⌝ }
+    ensures { λ r. ⌜ r ≡ connectionRules (now (table .entry)) && functionsAsDefined (tableOf connectionCount (now (table .entry))) ⌝ }
 {
-    let listening = columns::joined(table, 196, 32);
-    let able = columns::joined(table, 4, 16);
+    let listening = columns::joined(table, LISTENERS_AT, JOBS);
+    let able = columns::joined(table, ABLE_AT, FUNCTIONS);
     let used = sets::union(sets::union(listening, able), v.holding);
     let busy_ones = busy(table, v.queued);
     if connections_hold(table, used, busy_ones) {
@@ -297,7 +318,7 @@ fn sets_hold(table: &[u8], v: Survey) -> bool
 
 // Whether free rows have no unique, and the rules of serials, connections and functions hold, where those of each row do.
 pub fn numbers_hold(table: &[u8]) -> bool
-    requires { ⌜ (3796 ≤ length (now table)) × (areFlags 48 (now table) 3748 ≡ true) × (rowsMean (now table) ≡ true) ⌝ }
+    requires { ⌜ (tableSize connectionCount ≤ length (now table)) × (areFlags (3 * connectionCount) (now table) (openedAt connectionCount) ≡ true) × (rowsMean (now table) ≡ true) ⌝ }
     ensures { λ r. ⌜ r ≡ numberRules (now (table .entry)) ⌝ }
 {
     let v = all_surveyed(table);

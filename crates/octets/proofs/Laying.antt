@@ -82,3 +82,20 @@ module _ (b : Bytes) (at : ℕ) (s : Bytes) where
 
   pub copy-all : (o : Bytes) (i : ℕ) → o ≡ put at (take i s) b → i ≤ length s → length s ≤ i → o ≡ put at s b
   copy-all o i e h k = let q : i ≡ length s = omega arith in rw (e, q, take-length)
+
+-- ---- a run written over one as long
+
+over-upon : (s r t b : Bytes) → length s ≡ length r → over s (over (r ++ t) b) ≡ over (s ++ t) b
+unfolding over
+over-upon [] [] t b e = refl
+over-upon [] (y ∷ r) t b e = absurd (omega arith)
+over-upon (x ∷ s) [] t b e = absurd (omega arith)
+over-upon (x ∷ s) (y ∷ r) t [] e = refl
+over-upon (x ∷ s) (y ∷ r) t (z ∷ b) e = ap (λ (l : Bytes). x ∷ l) (over-upon s r t b (omega arith))
+
+-- over a run's start: the rest of the run stays
+pub put-upon : (at : ℕ) (s r t b : Bytes) → length s ≡ length r → put at s (put at (r ++ t) b) ≡ put at (s ++ t) b
+unfolding put
+put-upon zero s r t b e = over-upon s r t b e
+put-upon (suc at) s r t [] e = refl
+put-upon (suc at) s r t (y ∷ b) e = ap (λ (l : Bytes). y ∷ l) (put-upon at s r t b e)

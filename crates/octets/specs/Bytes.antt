@@ -1,6 +1,8 @@
--- Byte strings, as lists of numbers: equal, starting with another, their first zero byte, and numbers in four bytes.
+-- Byte strings, as lists of numbers: of a text, equal, starting with another, their first zero byte, and numbers in four bytes.
 -- Assumes nothing.
 use Prim.Native.Nat.{ℕ, suc, _+_, _*_, _/_, _%_}
+use Prim.Native.Char.{code}
+use Prim.Native.String.{String, [] as none′, _∷_ as _then_}
 use mathlib.Core.Bool.{Bool, true, false, cond, _&&_}
 use mathlib.Core.List.{List, [], _∷_}
 use lib.ListN.{length, getD}
@@ -8,6 +10,11 @@ use lib.Dec.{eqb, leb}
 
 abbrev pub Bytes : Type 0
 Bytes = List ℕ
+
+-- the bytes of a text
+abbrev pub text : String → Bytes
+text none′ = []
+text (c then s) = code c ∷ text s
 
 -- the two strings are equal
 unfoldable pub same : Bytes → Bytes → Bool

@@ -12,8 +12,9 @@ use lib.Dec.{eqb}
 use Rattle.octets.specs.Bytes.{Bytes}
 use Rattle.server.specs.declared.Connection.{Connection}
 use Rattle.server.specs.Lists.{any, all, pairwise, numbers}
+use Rattle.server.specs.Sizes.{connectionCount, functionCount, jobCount}
 use Rattle.server.specs.Table.{Function, Job, closed, noFunction, connectionAt, functionAt, live, wanted}
-use Rattle.server.specs.Layout.{littleAt, connectionIn, functionIn, rowIn, jobIn, tableOf}
+use Rattle.server.specs.Layout.{littleAt, connectionIn, functionIn, rowIn, jobIn, tableOf, serialsAt}
 use Rattle.server.specs.Rules.{isKnown, asDefined, functionsAsDefined, sleeperIdle, sleepersIdleFrom, sleepersIdle}
 use Rattle.table_bytes.proofs.Columns.{length-places, places-at}
 use Rattle.passes.proofs.Tests.{below-at}
@@ -44,36 +45,36 @@ no-number b at z =
     rw (z0, z1, z2, z3)
 
 -- eight rows from row p on, whose serials are zero bytes
-pub free-rows : (b : Bytes) (p : ℕ) → all (λ i. eqb (getD b (68 + 4 * p + i) 0) 0) (numbers 0 32) ≡ true → (k : ℕ) → k < 8 → live (rowIn b (p + k)) ≡ false
-free-rows b p z k h = ap (λ (x : ℕ). not (eqb x 0)) (no-number b (68 + 4 * (p + k)) zero-byte)
+pub free-rows : (b : Bytes) (p : ℕ) → all (λ i. eqb (getD b (serialsAt + 4 * p + i) 0) 0) (numbers 0 jobCount) ≡ true → (k : ℕ) → k < 8 → live (rowIn connectionCount b (p + k)) ≡ false
+free-rows b p z k h = ap (λ (x : ℕ). not (eqb x 0)) (no-number b (serialsAt + 4 * (p + k)) zero-byte)
   where
-    zero-byte : (j : ℕ) → j < 4 → getD b (68 + 4 * (p + k) + j) 0 ≡ 0
+    zero-byte : (j : ℕ) → j < 4 → getD b (serialsAt + 4 * (p + k) + j) 0 ≡ 0
     zero-byte j g =
-        let m : 68 + 4 * p + (4 * k + j) ≡ 68 + 4 * (p + k) + j = omega arith in
-        rw m at (eqb-true (getD b (68 + 4 * p + (4 * k + j)) 0) 0 (below-at (λ i. eqb (getD b (68 + 4 * p + i) 0) 0) 32 (4 * k + j) z (omega arith)))
+        let m : serialsAt + 4 * p + (4 * k + j) ≡ serialsAt + 4 * (p + k) + j = omega arith in
+        rw m at (eqb-true (getD b (serialsAt + 4 * p + (4 * k + j)) 0) 0 (below-at (λ i. eqb (getD b (serialsAt + 4 * p + i) 0) 0) 32 (4 * k + j) z (omega arith)))
 
 module _ (n : ℕ) (b : Bytes) where
   -- ---- every place
 
-  pub jobs-all : (p : Job → Bool) → all p (tableOf n b .jobs) ≡ all (λ k. p (jobIn b k)) (numbers 0 32)
+  pub jobs-all : (p : Job → Bool) → all p (tableOf n b .jobs) ≡ all (λ k. p (jobIn n b k)) (numbers 0 jobCount)
   unfolding tableOf
-  jobs-all p = all-read (jobIn b) p (numbers 0 32)
+  jobs-all p = all-read (jobIn n b) p (numbers 0 jobCount)
 
-  pub jobs-any : (p : Job → Bool) → any p (tableOf n b .jobs) ≡ any (λ k. p (jobIn b k)) (numbers 0 32)
+  pub jobs-any : (p : Job → Bool) → any p (tableOf n b .jobs) ≡ any (λ k. p (jobIn n b k)) (numbers 0 jobCount)
   unfolding tableOf
-  jobs-any p = any-read (jobIn b) p (numbers 0 32)
+  jobs-any p = any-read (jobIn n b) p (numbers 0 jobCount)
 
-  pub jobs-pairs : (apart : Job → Job → Bool) → pairwise apart (tableOf n b .jobs) ≡ pairwise (λ i k. apart (jobIn b i) (jobIn b k)) (numbers 0 32)
+  pub jobs-pairs : (apart : Job → Job → Bool) → pairwise apart (tableOf n b .jobs) ≡ pairwise (λ i k. apart (jobIn n b i) (jobIn n b k)) (numbers 0 jobCount)
   unfolding tableOf
-  jobs-pairs apart = pairs-read (jobIn b) apart (numbers 0 32)
+  jobs-pairs apart = pairs-read (jobIn n b) apart (numbers 0 jobCount)
 
-  pub functions-all : (p : Function → Bool) → all p (tableOf n b .functions) ≡ all (λ q. p (functionIn b q)) (numbers 0 16)
+  pub functions-all : (p : Function → Bool) → all p (tableOf n b .functions) ≡ all (λ q. p (functionIn n b q)) (numbers 0 functionCount)
   unfolding tableOf
-  functions-all p = all-read (functionIn b) p (numbers 0 16)
+  functions-all p = all-read (functionIn n b) p (numbers 0 functionCount)
 
-  pub functions-pairs : (apart : Function → Function → Bool) → pairwise apart (tableOf n b .functions) ≡ pairwise (λ i k. apart (functionIn b i) (functionIn b k)) (numbers 0 16)
+  pub functions-pairs : (apart : Function → Function → Bool) → pairwise apart (tableOf n b .functions) ≡ pairwise (λ i k. apart (functionIn n b i) (functionIn n b k)) (numbers 0 functionCount)
   unfolding tableOf
-  functions-pairs apart = pairs-read (functionIn b) apart (numbers 0 16)
+  functions-pairs apart = pairs-read (functionIn n b) apart (numbers 0 functionCount)
 
   pub connections-all : (p : Connection → Bool) → all p (tableOf n b .connections) ≡ all (λ c. p (connectionIn n b c)) (numbers 0 n)
   unfolding tableOf
@@ -87,33 +88,33 @@ module _ (n : ℕ) (b : Bytes) where
 
   pub functions-length : length (tableOf n b .functions) ≡ 16
   unfolding tableOf
-  functions-length = length-places (functionIn b) 0 16
+  functions-length = length-places (functionIn n b) 0 functionCount
 
   pub connection-at : (c : ℕ) → c < n → connectionAt (tableOf n b) c ≡ connectionIn n b c
   unfolding tableOf
   connection-at c h = places-at (connectionIn n b) closed n c h
 
-  pub function-at : (q : ℕ) → q < 16 → functionAt (tableOf n b) q ≡ functionIn b q
+  pub function-at : (q : ℕ) → q < functionCount → functionAt (tableOf n b) q ≡ functionIn n b q
   unfolding tableOf
-  function-at q h = places-at (functionIn b) noFunction 16 q h
+  function-at q h = places-at (functionIn n b) noFunction functionCount q h
 
   -- past the last function there is none
   pub no-function : (q : ℕ) → 16 ≤ q → functionAt (tableOf n b) q ≡ noFunction
   unfolding tableOf
-  no-function q h = List·getD-eq-default (map (functionIn b) (numbers 0 16)) noFunction {n = q} (rw (length-places (functionIn b) 0 16) h)
+  no-function q h = List·getD-eq-default (map (functionIn n b) (numbers 0 functionCount)) noFunction {n = q} (rw (length-places (functionIn n b) 0 functionCount) h)
 
   -- ---- functions as defined, and sleepers
 
   defined-from : (js : List Job) (q m : ℕ)
-      → asDefined js q (map (functionIn b) (numbers q m)) ≡ all (λ k. cond (isKnown (functionIn b k)) (wanted js k (functionIn b k)) (not (wanted js k (functionIn b k)))) (numbers q m)
+      → asDefined js q (map (functionIn n b) (numbers q m)) ≡ all (λ k. cond (isKnown (functionIn n b k)) (wanted js k (functionIn n b k)) (not (wanted js k (functionIn n b k)))) (numbers q m)
   defined-from js q zero = refl
   defined-from js q (suc m) =
-      ap (λ (x : Bool). cond (isKnown (functionIn b q)) (wanted js q (functionIn b q)) (not (wanted js q (functionIn b q))) && x) (defined-from js (suc q) m)
+      ap (λ (x : Bool). cond (isKnown (functionIn n b q)) (wanted js q (functionIn n b q)) (not (wanted js q (functionIn n b q))) && x) (defined-from js (suc q) m)
 
   pub defined-all : functionsAsDefined (tableOf n b)
-      ≡ all (λ q. cond (isKnown (functionIn b q)) (wanted (tableOf n b .jobs) q (functionIn b q)) (not (wanted (tableOf n b .jobs) q (functionIn b q)))) (numbers 0 16)
+      ≡ all (λ q. cond (isKnown (functionIn n b q)) (wanted (tableOf n b .jobs) q (functionIn n b q)) (not (wanted (tableOf n b .jobs) q (functionIn n b q)))) (numbers 0 functionCount)
   unfolding tableOf
-  defined-all = defined-from (map (jobIn b) (numbers 0 32)) 0 16
+  defined-all = defined-from (map (jobIn n b) (numbers 0 jobCount)) 0 16
 
   sleepers-from : (c m : ℕ) → sleepersIdleFrom (tableOf n b) c (map (connectionIn n b) (numbers c m)) ≡ all (λ x. sleeperIdle (tableOf n b) x (connectionIn n b x)) (numbers c m)
   sleepers-from c zero = refl

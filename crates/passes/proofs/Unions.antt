@@ -11,6 +11,7 @@ use lib.Pow.{pow-pos, shr-shr}
 use Rattle.sets.specs.Sets.{has, insert, union}
 use Rattle.sets.proofs.Laws.{zero-has, has-union, has-only, no-members}
 use Rattle.server.specs.Lists.{any, numbers}
+use Rattle.server.specs.Sizes.{connectionCount}
 use Rattle.passes.proofs.Tests.{any-next}
 
 -- ---- a loop that gathers a set
@@ -83,7 +84,7 @@ unfolding has
 has-high s k c = ap (λ (x : ℕ). eqb (x % 2) 1) (shr-shr s k c)
 
 -- a set of four bytes without members from 16 on is below 65,536
-pub low-set : (s : ℕ) → s < 4294967296 → ((c : ℕ) → 16 ≤ c → has s c ≡ false) → s < 65536
+pub low-set : (s : ℕ) → s < 4294967296 → ((c : ℕ) → connectionCount ≤ c → has s c ≡ false) → s < 65536
 low-set s h f =
-    let e : s / 65536 ≡ 0 = no-members 16 (s / 65536) (omega arith) (λ c l. has-high s 16 c ∙ f (16 + c) (omega arith)) in
+    let e : s / 65536 ≡ 0 = no-members connectionCount (s / 65536) (omega arith) (λ c l. has-high s 16 c ∙ f (16 + c) (omega arith)) in
     omega arith

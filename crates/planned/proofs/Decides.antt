@@ -13,10 +13,11 @@ use Rattle.octets.proofs.Strings.{same-is}
 use Rattle.sets.specs.Sets.{insert, remove, members}
 use Rattle.server.specs.declared.JobRow.{JobRow}
 use Rattle.server.specs.Lists.{find, filter}
-use Rattle.server.specs.Table.{Function, Job, Table, noRow, noJob, noFunction, closed, connectionAt, functionAt, jobAt, setConnection, setFunction, setJob, withRow, withTexts, withHolder, live, heldBy, known, roomFor, best, freePlace, joined}
+use Rattle.server.specs.Table.{Function, Job, Table, noRow, noJob, noFunction, closed, connectionAt, functionAt, jobAt, setConnection, setFunction, setJob, withRow, withTexts, withHolder, live, heldBy, known, roomFor, best, freePlace, joined, withName}
 use Rattle.server.specs.Rules.{obeys}
 use Rattle.server.specs.Asked.{Work, tells, reports, ends, throws, Asked, toOpen, toClose, reset, preSleep, echo, bad, canDo, cantDo, grab, submit, work, getStatus, option}
-use Rattle.server.specs.Events.{Send, plain, copy, Decision, refuse, noop, settle, opening, closing, leftBy, deafTo, unable, ableTo, named, canDoAt, cantDoAt, unableToAll, sleeping, grabAt, submittedBy, created, newJob, accepted, submitNew, submitTo, holdsHandle, listenersOf, workAt, statusAt, exceptionsName, catching, optionIf, served, isOpening, admitted, decide}
+use Rattle.server.specs.Events.{Send, plain, copy, Decision, refuse, noop, settle, opening, closing, leftBy, deafTo, unable, ableTo, canDoAt, cantDoAt, unableToAll, sleeping, grabAt, submittedBy, created, newJob, accepted, submitNew, submitTo, holdsHandle, listenersOf, workAt, statusAt, exceptionsName, catching, optionIf, served, isOpening, admitted, decide}
+use Rattle.server.specs.Refusals.{lastNumber}
 use Rattle.rules_kept.proofs.Rows.{clash}
 use Rattle.rules_kept.proofs.Going.{grabbed-live, joined-found, held-found}
 use Rattle.plans.specs.declared.Values as V′
@@ -25,9 +26,9 @@ use Rattle.plans.specs.declared.Change as C′
 use Rattle.plans.specs.declared.Change.the-variants as CV
 use Rattle.plans.specs.declared.Order as O′
 use Rattle.plans.specs.declared.Order.the-variants as OV
-use Rattle.plans.specs.Values.{rowsOf, ablesOf, valuesOf, freeRow}
+use Rattle.plans.specs.Values.{rowsOf, ablesOf, valuesOf, freeRow, withLast, withAbles, withRows}
 use Rattle.plans.specs.Settling.{droppedRows, toWakeIn, settledValues}
-use Rattle.plans.specs.Plans.{withAble, withRows, rowIn, sleepingIn, leftRow, closedIn, openedIn, heard, refusal, done, planCanDo, planCantDo, planGrab, newRow, acceptedIn, planNew, planJoin, planSubmit, planWork, planStatus, planOption, planServed, planFor, changed, finalTable, ordered}
+use Rattle.plans.specs.Plans.{rowIn, sleepingIn, leftRow, closedIn, openedIn, heard, refusal, done, planCanDo, planCantDo, planGrab, newRow, acceptedIn, planNew, planJoin, planSubmit, planWork, planStatus, planOption, planServed, planFor, changed, finalTable, ordered, withConnection}
 use Rattle.plans.proofs.Numbers.{free-values, best-values}
 use Rattle.planned.proofs.Settled.{SameJob, SameTexts, settled-plan, final-values, able-at}
 use Rattle.planned.proofs.Texts.{both-set, left-set, left-map, SameName, rowed-same, gone-same, live-same, own-texts, left-jobs}
@@ -56,7 +57,7 @@ pub data Suits (w : Words) : Asked → Type 0 where
   for-reset : Suits w reset
   for-sleep : Suits w preSleep
   for-echo : Suits w echo
-  for-bad : (n : ℕ) → 1 ≤ n → n ≤ 15 → Suits w (bad n)
+  for-bad : (n : ℕ) → 1 ≤ n → n ≤ lastNumber → Suits w (bad n)
   for-can : Suits w (canDo (w .first))
   for-cannot : (f : Bytes) → Suits w (cantDo f)
   for-grab : (uniq : Bool) → Suits w (grab uniq)
@@ -79,7 +80,7 @@ carried w c t p =
 
 -- a refusal has a number of document 01; carried out, the table has the settled numbers
 pub data Planned (w : Words) (c : ℕ) (t : Table) : Plan → Decision → Type 0 where
-  refused : (n : ℕ) → 1 ≤ n → n ≤ 15 → Planned w c t (refusal n (valuesOf t)) (refuse c n t)
+  refused : (n : ℕ) → 1 ≤ n → n ≤ lastNumber → Planned w c t (refusal n (valuesOf t)) (refuse c n t)
   carries : (v : V′.Values) (change : C′.Change) (order : O′.Order)
       → valuesOf (finalTable v (changed change (w .first) (w .second) (w .third) t)) ≡ settledValues v
       → Planned w c t (done v change order) (carried w c t (done v change order))
@@ -105,8 +106,8 @@ module _ (w : Words) (c : ℕ) (t : Table) (ok : obeys t ≡ true) where
   texts : SameTexts t t
   texts = own-texts t ok
 
-  refuses : (n : ℕ) → T (leb 1 n) → T (leb n 15) → Planned w c t (refusal n (valuesOf t)) (refuse c n t)
-  refuses n l m = refused n (leb→le 1 n l) (leb→le n 15 m)
+  refuses : (n : ℕ) → T (leb 1 n) → T (leb n lastNumber) → Planned w c t (refusal n (valuesOf t)) (refuse c n t)
+  refuses n l m = refused n (leb→le 1 n l) (leb→le n lastNumber m)
 
   row-is : (p : ℕ) → getD (rowsOf t) p noRow ≡ jobAt t p .row
   row-is p = List·getD-map (λ (j : Job). j .row) (t .jobs) p noJob
@@ -119,7 +120,7 @@ module _ (w : Words) (c : ℕ) (t : Table) (ok : obeys t ≡ true) where
   p-canDo none = refuses 11 tt tt
   p-canDo (some q) =
       by-parts w c t (setFunction t q (ableTo c (w .first) (functionAt t q))) [] _ (CV.Name q) OV.Nothing
-      (ap (λ (l : List ℕ). withAble l (valuesOf t)) (map-set (λ (x : Function). x .able) (t .functions) q (ableTo c (w .first) (functionAt t q)) ∙ ap (λ (s : ℕ). set (ablesOf t) q (insert s c)) (sym (able-is q))))
+      (ap (λ (l : List ℕ). withAbles l (valuesOf t)) (map-set (λ (x : Function). x .able) (t .functions) q (ableTo c (w .first) (functionAt t q)) ∙ ap (λ (s : ℕ). set (ablesOf t) q (insert s c)) (sym (able-is q))))
       (record { functions = both-set SameName q _ _ refl (texts .functions); jobs = texts .jobs })
       refl
 
@@ -128,7 +129,7 @@ module _ (w : Words) (c : ℕ) (t : Table) (ok : obeys t ≡ true) where
   p-cantDo none = by-parts w c t t [] _ CV.Nothing OV.Nothing refl texts refl
   p-cantDo (some q) =
       by-parts w c t (setFunction t q (unable c (functionAt t q))) [] _ CV.Nothing OV.Nothing
-      (ap (λ (l : List ℕ). withAble l (valuesOf t)) (map-set (λ (x : Function). x .able) (t .functions) q (unable c (functionAt t q)) ∙ ap (λ (s : ℕ). set (ablesOf t) q (remove s c)) (sym (able-is q))))
+      (ap (λ (l : List ℕ). withAbles l (valuesOf t)) (map-set (λ (x : Function). x .able) (t .functions) q (unable c (functionAt t q)) ∙ ap (λ (s : ℕ). set (ablesOf t) q (remove s c)) (sym (able-is q))))
       (record { functions = left-set SameName q noFunction _ refl (texts .functions); jobs = texts .jobs })
       refl
 
@@ -136,10 +137,10 @@ module _ (w : Words) (c : ℕ) (t : Table) (ok : obeys t ≡ true) where
   unables = map-map (λ (x : Function). x .able) (unable c) (λ x. remove (x .able) c) (λ x. refl) (t .functions)
       ∙ sym (map-map (λ (s : ℕ). remove s c) (λ (x : Function). x .able) (λ x. remove (x .able) c) (λ x. refl) (t .functions))
 
-  p-reset : Planned w c t (done (withAble (map (λ s. remove s c) (ablesOf t)) (valuesOf t)) CV.Nothing OV.Nothing) (settle [] (unableToAll c t))
+  p-reset : Planned w c t (done (withAbles (map (λ s. remove s c) (ablesOf t)) (valuesOf t)) CV.Nothing OV.Nothing) (settle [] (unableToAll c t))
   unfolding unableToAll changed ordered valuesOf
   p-reset =
-      by-parts w c t (unableToAll c t) [] _ CV.Nothing OV.Nothing (ap (λ (l : List ℕ). withAble l (valuesOf t)) unables)
+      by-parts w c t (unableToAll c t) [] _ CV.Nothing OV.Nothing (ap (λ (l : List ℕ). withAbles l (valuesOf t)) unables)
       (record { functions = left-map SameName (unable c) (λ a b e. e) (texts .functions); jobs = texts .jobs })
       refl
 
@@ -168,12 +169,9 @@ module _ (w : Words) (c : ℕ) (t : Table) (ok : obeys t ≡ true) where
     unfolding changed ordered valuesOf
     p-new q p =
         by-parts w c t (accepted q (w .first) p (newJob c priority background q (w .second) size (suc (t .last))) t) _ _ (CV.Job p q) (OV.Created (suc (t .last)))
-        (λ i. record {
-          last = suc (t .last);
-          connections = t .connections;
-          able = map-set-same (λ (x : Function). x .able) (t .functions) q (named (w .first) (functionAt t q)) noFunction refl i;
-          rows = map-set (λ (j : Job). j .row) (t .jobs) p (newJob c priority background q (w .second) size (suc (t .last))) i;
-        })
+        (λ i. withLast (suc (t .last))
+        (withAbles (map-set-same (λ (x : Function). x .able) (t .functions) q (withName (w .first) (functionAt t q)) noFunction refl i)
+        (withRows (map-set (λ (j : Job). j .row) (t .jobs) p (newJob c priority background q (w .second) size (suc (t .last))) i) (valuesOf t))))
         (record {
           functions = both-set SameName q _ _ refl (texts .functions);
           jobs = both-set SameJob p _ _ (record { unfinished = λ e. refl; free = λ e. clash (submitted-live background _ ∙ ap not (eqb·suc-zero (t .last))) e }) (texts .jobs);
@@ -283,12 +281,8 @@ module _ (w : Words) (c : ℕ) (t : Table) (ok : obeys t ≡ true) where
   unfolding closing changed ordered valuesOf
   p-close =
       by-parts w c t (closing c t) _ _ (CV.Left c) OV.Nothing
-      (λ i. record {
-        last = t .last;
-        connections = set (t .connections) c closed;
-        able = unables i;
-        rows = (map-map (λ (j : Job). j .row) (leftBy c) (λ j. leftRow c (j .row)) left-row (t .jobs) ∙ sym (map-map (leftRow c) (λ (j : Job). j .row) (λ j. leftRow c (j .row)) (λ j. refl) (t .jobs))) i;
-      })
+      (λ i. withConnection c closed (withAbles (unables i)
+      (withRows ((map-map (λ (j : Job). j .row) (leftBy c) (λ j. leftRow c (j .row)) left-row (t .jobs) ∙ sym (map-map (leftRow c) (λ (j : Job). j .row) (λ j. leftRow c (j .row)) (λ j. refl) (t .jobs))) i) (valuesOf t))))
       (record { functions = left-map SameName (unable c) (λ a b e. e) (texts .functions); jobs = left-jobs c (texts .jobs) })
       refl
 

@@ -9,7 +9,7 @@ use lib.ListN.{getD}
 use Rattle.sets.specs.Sets.{isEmpty}
 use Rattle.server.specs.declared.JobRow.{JobRow}
 use Rattle.server.specs.Lists.{any, mapFrom}
-use Rattle.server.specs.Table.{Function, Job, Table, noRow, noJob, noFunction, withRow, live, names, wanted}
+use Rattle.server.specs.Table.{Function, Job, Table, noRow, noJob, noFunction, withRow, live, names, wanted, withConnections, withFunctions, withJobs}
 use Rattle.server.specs.Events.{Send, lost, unlessLost, dropped, woken, forgot, noop, settle}
 use Rattle.outcomes.proofs.Cases.{All2}
 use Rattle.plans.specs.declared.Values as V′
@@ -94,12 +94,9 @@ module _ (u s : Table) (same : SameTexts u s) where
   -- the table that settling leaves
   pub settled-table : forgot (woken (dropped u)) ≡ finalTable (valuesOf u) s
   unfolding forgot woken dropped finalTable settledValues valuesOf wokenIn left
-  settled-table = λ i. record {
-    last = u .last;
-    connections = settled-connections i;
-    functions = able-wanted (map unlessLost (u .jobs)) (ablesOf u) left 0 left-is (λ k. ap (λ (m : ℕ). getD (ablesOf u) m 0) (zero-add k)) (same .functions) i;
-    jobs = rowed-jobs (same .jobs) i;
-  }
+  settled-table = λ i.
+      withJobs (rowed-jobs (same .jobs) i) (withConnections (settled-connections i)
+      (withFunctions (able-wanted (map unlessLost (u .jobs)) (ablesOf u) left 0 left-is (λ k. ap (λ (m : ℕ). getD (ablesOf u) m 0) (zero-add k)) (same .functions) i) u))
 
   pub settled-plan : (ss : List Send)
       → settle ss u ≡ record { number = 0; packets = ss ++ map noop (toWakeIn (ablesOf u) (droppedRows (rowsOf u)) (u .connections)); table = finalTable (valuesOf u) s }

@@ -9,6 +9,7 @@ use lib.Seq.{drop-cons}
 use Rattle.octets.specs.Bytes.{Bytes}
 use Rattle.sets.specs.Sets.{remove}
 use Rattle.server.specs.declared.Connection.{Connection}
+use Rattle.server.specs.Sizes.{connectionCount}
 use Rattle.server.specs.Table.{closed}
 use Rattle.server.specs.Layout.{connectionIn, tableOf}
 use Rattle.table_bytes.proofs.Columns.{length-places}
@@ -23,6 +24,6 @@ module _ (cs : List Connection) (listeners s i : ℕ) (e : heard cs listeners �
   pub heard-end : length cs ≤ i → s ≡ heard cs listeners
   heard-end h = let q : heardFrom i (drop i cs) s ≡ s = rw (drop-of-length-le cs h) in sym (e ∙ q)
 
-pub connections-long : (b : Bytes) → length (valuesOf (tableOf 16 b) .connections) ≡ 16
+pub connections-long : (b : Bytes) → length (valuesOf (tableOf connectionCount b) .connections) ≡ 16
 unfolding valuesOf tableOf
-connections-long b = length-places (connectionIn 16 b) 0 16
+connections-long b = length-places (connectionIn connectionCount b) 0 16

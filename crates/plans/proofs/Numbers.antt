@@ -19,10 +19,11 @@ use Rattle.sets.specs.Sets.{has, isEmpty}
 use Rattle.server.specs.declared.Connection.{Connection}
 use Rattle.server.specs.declared.JobRow.{JobRow}
 use Rattle.server.specs.Lists.{any, all, up, find, filter, mapFrom, numbers}
+use Rattle.server.specs.Sizes.{functionCount}
 use Rattle.server.specs.Table.{Function, Job, Table, noFunction, noRow, noJob, closed, functionAt, live, queued, heldBy, hasHandle, names, wanted, grabbable, rank, greatest, best, freePlace}
 use Rattle.server.specs.Rules.{nextSmall, serialsBelow}
 use Rattle.server.specs.Events.{Send, lost, unlessLost, dropped, wakes, awake, woken, toWake, forgot, settle, holdsHandle}
-use Rattle.plans.specs.Values.{rowsOf, ablesOf, valuesOf, canGrab, rankIn, freeRow, bestRow, serialRow, heldRow}
+use Rattle.plans.specs.Values.{rowsOf, ablesOf, valuesOf, canGrab, rankIn, freeRow, bestRow, serialRow, heldRow, withConnectionRows, withAbles, withRows}
 use Rattle.plans.specs.Settling.{droppedRows, wakesIn, wokenIn, toWakeIn, wantedIn, wantedMarks, settledValues}
 
 -- ---- lists: the numbers from i on, and rows of jobs
@@ -125,15 +126,11 @@ forgot-ables js q (x ∷ fs) = ap₂ _∷_ (forgot-able js q x) (forgot-ables js
 
 pub settled-values : (ss : List Send) (t : Table) → valuesOf (settle ss t .table) ≡ settledValues (valuesOf t)
 unfolding valuesOf settledValues settle forgot woken dropped
-settled-values ss t = λ i. record {
-  last = t .last;
-  connections = woken-values t i;
-  able = forgot-ables (map unlessLost (t .jobs)) 0 (t .functions) i;
-  rows = dropped-rows (t .jobs) i;
-}
+settled-values ss t = λ i.
+    withConnectionRows (woken-values t i) (withAbles (forgot-ables (map unlessLost (t .jobs)) 0 (t .functions) i) (withRows (dropped-rows (t .jobs) i) (valuesOf t)))
 
 -- the functions that stay known are the marked
-pub wanted-values : (t : Table) (q : ℕ) → q < 16 → wanted (t .jobs) q (functionAt t q) ≡ getD (wantedMarks (ablesOf t) (rowsOf t)) q false
+pub wanted-values : (t : Table) (q : ℕ) → q < functionCount → wanted (t .jobs) q (functionAt t q) ≡ getD (wantedMarks (ablesOf t) (rowsOf t)) q false
 unfolding wantedMarks
 wanted-values t q h =
     ap₂ (λ (s : ℕ) (b : Bool). not (isEmpty s) || b) (able-at (t .functions) q) (any-row (names q) (t .jobs))

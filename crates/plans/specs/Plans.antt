@@ -11,16 +11,16 @@ use Rattle.sets.specs.Sets.{insert, remove, members}
 use Rattle.server.specs.declared.Connection.{Connection}
 use Rattle.server.specs.declared.JobRow.{JobRow}
 use Rattle.server.specs.Lists.{find}
-use Rattle.server.specs.Table.{Function, Job, Table, noRow, noJob, noFunction, closed, jobAt, functionAt, setFunction, setJob, withRow, withTexts, withHolder, live, heldBy, hasHandle, known, roomFor, joined}
+use Rattle.server.specs.Table.{Function, Job, Table, noRow, noJob, noFunction, closed, jobAt, functionAt, setFunction, setJob, withRow, withTexts, withHolder, live, heldBy, hasHandle, known, roomFor, joined, withLastSerial, withConnections, withFunctions, withJobs, justOpened, withAsleep, withName, withAble, freshRow, unstarted}
 use Rattle.server.specs.Asked.{Work, tells, reports, ends, throws, Asked, toOpen, toClose, reset, preSleep, echo, bad, canDo, cantDo, grab, submit, work, getStatus, option}
-use Rattle.server.specs.Events.{Send, plain, copy, assign, created, flag, exceptionsName, catching, named, submittedBy, deafTo, holdsHandle, isOpening}
+use Rattle.server.specs.Events.{Send, plain, copy, assign, created, flag, exceptionsName, catching, submittedBy, deafTo, holdsHandle, isOpening}
 use Rattle.plans.specs.declared.Values as V′
 use Rattle.plans.specs.declared.Plan.{Plan}
 use Rattle.plans.specs.declared.Change as C′
 use Rattle.plans.specs.declared.Change.the-variants as CV
 use Rattle.plans.specs.declared.Order as O′
 use Rattle.plans.specs.declared.Order.the-variants as OV
-use Rattle.plans.specs.Values.{rowsOf, ablesOf, valuesOf, freeRow, bestRow}
+use Rattle.plans.specs.Values.{rowsOf, ablesOf, valuesOf, freeRow, bestRow, withLast, withConnectionRows, withAbles, withRows}
 use Rattle.plans.specs.Settling.{settledValues, wantedIn}
 
 -- ---- numbers put anew
@@ -32,32 +32,20 @@ abbrev pub rowIn : V′.Values → ℕ → JobRow
 rowIn v p = getD (v .rows) p noRow
 
 abbrev pub withConnection : ℕ → Connection → V′.Values → V′.Values
-withConnection c x v = record { last = v .last; connections = set (v .connections) c x; able = v .able; rows = v .rows }
-
-abbrev pub withAble : List ℕ → V′.Values → V′.Values
-withAble ables v = record { last = v .last; connections = v .connections; able = ables; rows = v .rows }
-
-abbrev pub withRows : List JobRow → V′.Values → V′.Values
-withRows rs v = record { last = v .last; connections = v .connections; able = v .able; rows = rs }
+withConnection c x v = withConnectionRows (set (v .connections) c x) v
 
 abbrev pub putRow : ℕ → JobRow → V′.Values → V′.Values
 putRow p r v = withRows (set (v .rows) p r) v
 
 abbrev pub sleepingIn : Bool → ℕ → V′.Values → V′.Values
-sleepingIn b c v = withConnection c (record { opened = connectionIn v c .opened; asleep = b; exceptions = connectionIn v c .exceptions }) v
+sleepingIn b c v = withConnection c (withAsleep b (connectionIn v c)) v
 
 -- connection c leaves a row
 abbrev pub leftRow : ℕ → JobRow → JobRow
 leftRow c r = cond (heldBy c r) (withHolder 0 (deafTo c r)) (deafTo c r)
 
 abbrev pub closedIn : ℕ → V′.Values → V′.Values
-closedIn c v =
-    record {
-      last = v .last;
-      connections = set (v .connections) c closed;
-      able = map (λ s. remove s c) (v .able);
-      rows = map (leftRow c) (v .rows);
-    }
+closedIn c v = withRows (map (leftRow c) (v .rows)) (withAbles (map (λ s. remove s c) (v .able)) (withConnection c closed v))
 
 -- the listeners that set the option: the others leave the set
 abbrev pub heardFrom : ℕ → List Connection → ℕ → ℕ
@@ -77,11 +65,11 @@ done v change order = record { number = 0; values = v; change = change; order = 
 
 unfoldable pub planCanDo : Option ℕ → ℕ → V′.Values → Plan
 planCanDo none c v = refusal 11 v
-planCanDo (some q) c v = done (withAble (set (v .able) q (insert (getD (v .able) q 0) c)) v) (CV.Name q) OV.Nothing
+planCanDo (some q) c v = done (withAbles (set (v .able) q (insert (getD (v .able) q 0) c)) v) (CV.Name q) OV.Nothing
 
 unfoldable pub planCantDo : Option ℕ → ℕ → V′.Values → Plan
 planCantDo none c v = done v CV.Nothing OV.Nothing
-planCantDo (some q) c v = done (withAble (set (v .able) q (remove (getD (v .able) q 0) c)) v) CV.Nothing OV.Nothing
+planCantDo (some q) c v = done (withAbles (set (v .able) q (remove (getD (v .able) q 0) c)) v) CV.Nothing OV.Nothing
 
 unfoldable pub planGrab : Option ℕ → Bool → ℕ → V′.Values → Plan
 planGrab none uniq c v = done (sleepingIn false c v) CV.Nothing OV.NoJob
@@ -89,10 +77,10 @@ planGrab (some p) uniq c v = done (putRow p (withHolder (suc c) (rowIn v p)) (sl
 
 abbrev pub newRow : ℕ → ℕ → Bool → ℕ → ℕ → ℕ → JobRow
 newRow c priority background q size serial =
-    submittedBy c background (record { serial = serial; function = q; priority = priority; background = false; listeners = 0; holder = 0; size = size })
+    submittedBy c background (freshRow serial q priority size)
 
 abbrev pub acceptedIn : ℕ → JobRow → V′.Values → V′.Values
-acceptedIn p r v = record { last = suc (v .last); connections = v .connections; able = v .able; rows = set (v .rows) p r }
+acceptedIn p r v = withLast (suc (v .last)) (putRow p r v)
 
 unfoldable pub planNew : Option ℕ → Option ℕ → ℕ → ℕ → Bool → ℕ → V′.Values → Plan
 planNew none place c priority background size v = refusal 11 v
@@ -131,7 +119,7 @@ planServed c toClose t = done (closedIn c (valuesOf t)) (CV.Left c) OV.Nothing
 planServed c (bad n) t = refusal n (valuesOf t)
 planServed c (canDo f) t = planCanDo (roomFor (t .functions) f) c (valuesOf t)
 planServed c (cantDo f) t = planCantDo (known (t .functions) f) c (valuesOf t)
-planServed c reset t = done (withAble (map (λ s. remove s c) (ablesOf t)) (valuesOf t)) CV.Nothing OV.Nothing
+planServed c reset t = done (withAbles (map (λ s. remove s c) (ablesOf t)) (valuesOf t)) CV.Nothing OV.Nothing
 planServed c preSleep t = done (sleepingIn true c (valuesOf t)) CV.Nothing OV.Nothing
 planServed c (grab uniq) t = planGrab (bestRow (ablesOf t) (rowsOf t) c) uniq c (valuesOf t)
 planServed c (submit priority background f u size) t =
@@ -142,7 +130,7 @@ planServed c (option name) t = planOption (same name exceptionsName) c (valuesOf
 planServed c echo t = done (valuesOf t) CV.Nothing OV.Echo
 
 abbrev pub openedIn : ℕ → V′.Values → V′.Values
-openedIn c v = withConnection c (record { opened = true; asleep = false; exceptions = false }) v
+openedIn c v = withConnection c justOpened v
 
 unfoldable pub planFor : ℕ → Asked → Table → Plan
 planFor c a t =
@@ -157,12 +145,11 @@ planFor c a t =
 -- the texts after a change, from the packet's arguments
 unfoldable pub changed : C′.Change → Bytes → Bytes → Bytes → Table → Table
 changed CV.Nothing a b d t = t
-changed (CV.Name q) a b d t = setFunction t q (named a (functionAt t q))
+changed (CV.Name q) a b d t = setFunction t q (withName a (functionAt t q))
 changed (CV.Job p q) a b d t =
-    setJob (setFunction t q (named a (functionAt t q))) p (record { row = jobAt t p .row; unique = b; numerator = 48 ∷ []; denominator = 48 ∷ [] })
+    setJob (setFunction t q (withName a (functionAt t q))) p (unstarted (jobAt t p .row) b)
 changed (CV.Texts p) a b d t = setJob t p (withTexts b d (jobAt t p))
-changed (CV.Left c) a b d t =
-    record { last = t .last; connections = t .connections; functions = t .functions; jobs = map (λ j. cond (heldBy c (j .row)) (withTexts (48 ∷ []) (48 ∷ []) j) j) (t .jobs) }
+changed (CV.Left c) a b d t = withJobs (map (λ j. cond (heldBy c (j .row)) (withTexts (48 ∷ []) (48 ∷ []) j) j) (t .jobs)) t
 
 -- a free row has no texts
 abbrev pub rowed : JobRow → Job → Job
@@ -177,18 +164,14 @@ rowedAll (r ∷ rs) (j ∷ js) = rowed r j ∷ rowedAll rs js
 abbrev pub ableAll : List ℕ → List JobRow → ℕ → List ℕ → List Function → List Function
 ableAll ables rs q [] xs = []
 ableAll ables rs q (s ∷ ss) [] = []
-ableAll ables rs q (s ∷ ss) (x ∷ xs) = cond (wantedIn ables rs q) (record { name = x .name; able = s }) noFunction ∷ ableAll ables rs (suc q) ss xs
+ableAll ables rs q (s ∷ ss) (x ∷ xs) = cond (wantedIn ables rs q) (withAble s x) noFunction ∷ ableAll ables rs (suc q) ss xs
 
 -- the table that these numbers and texts make once it is settled
 unfoldable pub finalTable : V′.Values → Table → Table
 finalTable v t =
     let u = settledValues v in
-    record {
-      last = u .last;
-      connections = u .connections;
-      functions = ableAll (u .able) (u .rows) 0 (u .able) (t .functions);
-      jobs = rowedAll (u .rows) (t .jobs);
-    }
+    withLastSerial (u .last) (withConnections (u .connections)
+    (withFunctions (ableAll (u .able) (u .rows) 0 (u .able) (t .functions)) (withJobs (rowedAll (u .rows) (t .jobs)) t)))
 
 -- the packets of an order, to connection c of n, from the table before the event
 unfoldable pub ordered : O′.Order → ℕ → ℕ → ℕ → Bytes → Table → List Send

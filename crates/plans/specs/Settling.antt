@@ -8,10 +8,11 @@ use Rattle.sets.specs.Sets.{isEmpty}
 use Rattle.server.specs.declared.Connection.{Connection}
 use Rattle.server.specs.declared.JobRow.{JobRow}
 use Rattle.server.specs.Lists.{any, filter, mapFrom, numbers}
+use Rattle.server.specs.Sizes.{functionCount}
 use Rattle.server.specs.Table.{noRow, closed, names}
 use Rattle.server.specs.Events.{lost, awake}
 use Rattle.plans.specs.declared.Values as V′
-use Rattle.plans.specs.Values.{canGrab}
+use Rattle.plans.specs.Values.{canGrab, withConnectionRows, withRows}
 
 unfoldable pub droppedRows : List JobRow → List JobRow
 droppedRows rs = map (λ r. cond (lost r) noRow r) rs
@@ -32,14 +33,9 @@ wantedIn ables rs q = not (isEmpty (getD ables q 0)) || any (names q) rs
 
 -- which of the functions are wanted
 unfoldable pub wantedMarks : List ℕ → List JobRow → List Bool
-wantedMarks ables rs = map (wantedIn ables rs) (numbers 0 16)
+wantedMarks ables rs = map (wantedIn ables rs) (numbers 0 functionCount)
 
 -- the numbers of a settled table: a function that nobody wants has nobody able to do it
 unfoldable pub settledValues : V′.Values → V′.Values
 settledValues v =
-    record {
-      last = v .last;
-      connections = wokenIn (v .able) (droppedRows (v .rows)) (v .connections);
-      able = v .able;
-      rows = droppedRows (v .rows);
-    }
+    withConnectionRows (wokenIn (v .able) (droppedRows (v .rows)) (v .connections)) (withRows (droppedRows (v .rows)) v)

@@ -7,6 +7,7 @@ use mathlib.Core.List.{List, map}
 use lib.ListN.{getD}
 use lib.Dec.{eqb}
 use Rattle.sets.specs.Sets.{has}
+use Rattle.server.specs.declared.Connection.{Connection}
 use Rattle.server.specs.declared.JobRow.{JobRow}
 use Rattle.server.specs.Lists.{find}
 use Rattle.server.specs.Table.{Table, live, queued, greatest}
@@ -22,6 +23,22 @@ ablesOf t = map (λ x. x .able) (t .functions)
 
 unfoldable pub valuesOf : Table → V′.Values
 valuesOf t = record { last = t .last; connections = t .connections; able = ablesOf t; rows = rowsOf t }
+
+-- ---- parts put anew, the new part first
+
+abbrev pub withLast : ℕ → V′.Values → V′.Values
+withLast s v = record { last = s; connections = v .connections; able = v .able; rows = v .rows }
+
+abbrev pub withConnectionRows : List Connection → V′.Values → V′.Values
+withConnectionRows cs v = record { last = v .last; connections = cs; able = v .able; rows = v .rows }
+
+abbrev pub withAbles : List ℕ → V′.Values → V′.Values
+withAbles ss v = record { last = v .last; connections = v .connections; able = ss; rows = v .rows }
+
+abbrev pub withRows : List JobRow → V′.Values → V′.Values
+withRows rs v = record { last = v .last; connections = v .connections; able = v .able; rows = rs }
+
+-- ---- searches
 
 -- the answer of a search
 abbrev pub placed : Option ℕ → Place

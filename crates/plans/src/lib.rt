@@ -1,15 +1,18 @@
 // What the server's code works on: the numbers of a table by value, and what an event that is done changes and sends. The types
 // stand here and their meaning in specs/; there is no code.
+use server::CONNECTIONS;
 use server::Connection;
+use server::FUNCTIONS;
+use server::JOBS;
 use server::JobRow;
 
 // The numbers of a table, by value: the last serial given out, the connections, the connections able to do each function, and the
 // rows of the jobs. Names, uniques, stored texts and workloads stay in the lent bytes.
 pub struct Values {
     pub last: u32,
-    pub connections: [Connection; 16],
-    pub able: [u32; 16],
-    pub rows: [JobRow; 32],
+    pub connections: [Connection; CONNECTIONS],
+    pub able: [u32; FUNCTIONS],
+    pub rows: [JobRow; JOBS],
 }
 
 // The place that a search found.

@@ -8,7 +8,7 @@ use Rattle.octets.specs.Bytes.{Bytes}
 use Rattle.octets.specs.Put.{put}
 use Rattle.server.specs.Asked.{Event}
 use Rattle.server.specs.Replay.{frame, answerLines}
-use Rattle.performing.specs.Concluded.{left}
+use Rattle.server.specs.Call.{left}
 use Rattle.framing.specs.Packets.{Packed, packetsIn}
 use Rattle.framing.specs.Spoken.{answeredTo, telling}
 use Rattle.framing.proofs.Sent.{output-few}

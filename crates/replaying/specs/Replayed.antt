@@ -1,8 +1,9 @@
 -- What the replay program says, in digits. 01, "Replay program". Assumes nothing.
-use Prim.Native.Nat.{ℕ}
+use Prim.Native.Nat.{ℕ, _+_, _*_}
 use mathlib.Core.List.{List, [], _∷_, _++_}
 use Rattle.octets.specs.Bytes.{Bytes}
 use Rattle.hex.specs.Hex.{hex}
+use Rattle.server.specs.Sizes.{connectionCount, outputSize}
 use Rattle.server.specs.Server.{Server}
 use Rattle.server.specs.Replay.{answerLines}
 use Rattle.framing.specs.Spoken.{Speech, Told, told, said, spoken}
@@ -15,10 +16,10 @@ lineOf p = hex p ++ (10 ∷ [])
 abbrev pub inDigits : Speech
 inDigits f ps n t = answerLines ps n
 
--- room for what any line says: two digits for each of the 16,592 bytes of the longest output, less than one line end for each of them,
--- and the number's line
+-- room for what any line says: two digits for each byte of the longest output, less than one line end for each of them, and the
+-- number's line
 abbrev pub textSize : ℕ
-textSize = 49779
+textSize = 3 * outputSize connectionCount + 3
 
 -- one line on the lent bytes: table, workloads, output, text
 unfoldable pub replayed : Bytes → Bytes → Bytes → Bytes → Bytes → Told

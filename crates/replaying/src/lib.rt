@@ -2,6 +2,7 @@
 // lines of lowercase hexadecimal over a lent text. Format: document 01, "Replay program". A line that is no frame is answered by 16,
 // and a text with too little room by nothing at all. No caller has to check anything first.
 use performing::Answer;
+use server::OUTPUT_SIZE;
 ghost use mathlib.Core.Path.{_≡_};
 ghost use Prim.Native.Nat.{_+_, _*_, _≤_};
 ghost use lib.ListN.{length, take};
@@ -12,7 +13,7 @@ ghost use Rattle.framing.specs.Spoken.{telling};
 ghost use Rattle.replaying.specs.Replayed.{lineOf, replayed};
 
 // Room for what any line says.
-const TEXT: usize = 49779;
+pub const TEXT_SIZE: usize = 3 * OUTPUT_SIZE + 3;
 
 // Lays a line of digits over the text from `at` on, with its line end, and returns the place after it.
 fn put_line(text: &mut [u8], at: usize, bytes: &[u8]) -> usize
@@ -64,7 +65,7 @@ pub fn step(
     ensures { λ r. ⌜ telling r (now (text .exit)) (now (output .exit)) (now (table .exit)) (now (workloads .exit))
         ≡ replayed (now (line .entry)) (now (table .entry)) (now (workloads .entry)) (now (output .entry)) (now (text .entry)) ⌝ }
 {
-    if text.len() < TEXT {
+    if text.len() < TEXT_SIZE {
         return 0;
     }
     let mut bytes = [0u8; 1040];

@@ -16,6 +16,7 @@ use Rattle.handle.specs.Handle.{decimal}
 use Rattle.handle.proofs.Decimal.{decimal-most}
 use Rattle.server.specs.declared.JobRow.{JobRow}
 use Rattle.server.specs.Lists.{concat}
+use Rattle.server.specs.Sizes.{connectionCount}
 use Rattle.server.specs.Table.{Table}
 use Rattle.server.specs.Asked.{Event, opens, closes, sends}
 use Rattle.plans.specs.Values.{rowsOf}
@@ -23,7 +24,7 @@ use Rattle.framing.specs.Packets.{Addressed, packetLines}
 use Rattle.framing.proofs.Lines.{lines-short}
 use Rattle.wording.specs.Lines.{refusalText}
 use Rattle.wording.proofs.Bounds.{refusal-short, request-line-short, response-line-near}
-use Rattle.standing.specs.Standing.{below, jobsText, sleepersText}
+use Rattle.standing.specs.Standing.{below, jobsText, sleepersText, sleepersRoom, jobsRoom}
 use Rattle.standing.proofs.Bounds.{jobs-short, serial-text-short, sleepers-short}
 use Rattle.concerning.specs.Concerned.{concerned}
 use Rattle.reporting.specs.Parts.{answerText, closesWord, digitsText, doneWord, eventText, frameDigits, headerIn, headerSeen, headingText, jobsAfter, namedText, numberText, opensWord, sentText, tableText}
@@ -74,25 +75,25 @@ pub answer-short : (ps : List Bytes) (n : ℕ) → Addressed ps → length (answ
 unfolding answerText
 answer-short ps n a = omega (arith, length-append (packetLines sentText ps) (numberText n), lines-short sentText 14 sent-short ps a, number-short n)
 
-named-short : (s : S.Serial) (rs : List JobRow) → length (namedText s rs) ≤ 3232
+named-short : (s : S.Serial) (rs : List JobRow) → length (namedText s rs) ≤ jobsRoom
 named-short SV.None rs = omega arith
 named-short (SV.Of n) rs = omega (arith, serial-text-short n rs)
 
-jobs-after-short : (f : Option Event) (ps : List Bytes) (n : ℕ) (rs : List JobRow) → length (jobsAfter f ps n rs) ≤ 3232
+jobs-after-short : (f : Option Event) (ps : List Bytes) (n : ℕ) (rs : List JobRow) → length (jobsAfter f ps n rs) ≤ jobsRoom
 unfolding jobsAfter
 jobs-after-short none ps n rs = omega arith
 jobs-after-short (some (opens c)) ps n rs = omega arith
 jobs-after-short (some (closes c)) ps n rs = either (eqb n 0)
   where
-    either : (b : Bool) → length (cond b (jobsText 16 rs) []) ≤ 3232
+    either : (b : Bool) → length (cond b (jobsText connectionCount rs) []) ≤ jobsRoom
     either true = jobs-short rs
     either false = omega arith
 jobs-after-short (some (sends c b)) ps n rs = named-short (concerned b ps) rs
 
-pub table-short : (f : Option Event) (ps : List Bytes) (n : ℕ) (t : Table) → length (tableText f ps n t) ≤ 3291
+pub table-short : (f : Option Event) (ps : List Bytes) (n : ℕ) (t : Table) → length (tableText f ps n t) ≤ sleepersRoom + jobsRoom
 unfolding tableText
 table-short f ps n t = either (eqb n 1 || eqb n 16)
   where
-    either : (b : Bool) → length (cond b [] (sleepersText 16 (t .connections) ++ jobsAfter f ps n (rowsOf t))) ≤ 3291
+    either : (b : Bool) → length (cond b [] (sleepersText connectionCount (t .connections) ++ jobsAfter f ps n (rowsOf t))) ≤ sleepersRoom + jobsRoom
     either true = omega arith
-    either false = omega (arith, length-append (sleepersText 16 (t .connections)) (jobsAfter f ps n (rowsOf t)), sleepers-short (t .connections), jobs-after-short f ps n (rowsOf t))
+    either false = omega (arith, length-append (sleepersText connectionCount (t .connections)) (jobsAfter f ps n (rowsOf t)), sleepers-short (t .connections), jobs-after-short f ps n (rowsOf t))

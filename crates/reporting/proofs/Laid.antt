@@ -19,6 +19,7 @@ use Rattle.handle.specs.declared.Serial as S
 use Rattle.handle.specs.declared.Serial.the-variants as SV
 use Rattle.handle.specs.Handle.{decimal}
 use Rattle.server.specs.declared.JobRow.{JobRow}
+use Rattle.server.specs.Sizes.{connectionCount}
 use Rattle.server.specs.Table.{Table}
 use Rattle.server.specs.Asked.{Event}
 use Rattle.plans.specs.declared.Values as V′
@@ -70,7 +71,7 @@ module _ (f : F.Frame) (b : Bytes) where
       unfolding eventText
       close-event = rw e
 
-      pub close-jobs : (ps : List Bytes) (n : ℕ) (rs : List JobRow) → cond (eqb n 0) (jobsText 16 rs) [] ≡ jobsAfter (eventOf f b) ps n rs
+      pub close-jobs : (ps : List Bytes) (n : ℕ) (rs : List JobRow) → cond (eqb n 0) (jobsText connectionCount rs) [] ≡ jobsAfter (eventOf f b) ps n rs
       unfolding jobsAfter
       close-jobs ps n rs = rw e
 
@@ -109,7 +110,7 @@ module _ (s : S.Serial) (rs : List JobRow) where
   pub no-serial : s ≡ SV.None → [] ≡ namedText s rs
   no-serial e = rw e
 
-  pub of-serial : (n : ℕ) → s ≡ SV.Of n → serialText 16 n rs ≡ namedText s rs
+  pub of-serial : (n : ℕ) → s ≡ SV.Of n → serialText connectionCount n rs ≡ namedText s rs
   of-serial n e = rw e
 
 -- ---- by the number
@@ -122,10 +123,10 @@ pub number-refused : (n : ℕ) → (n ≡ 0 → ⊥) → below ++ refusalText n 
 unfolding numberText
 number-refused n e = rw (ne-eqb n 0 e)
 
-pub left-done : (n : ℕ) (rs : List JobRow) → n ≡ 0 → jobsText 16 rs ≡ cond (eqb n 0) (jobsText 16 rs) []
+pub left-done : (n : ℕ) (rs : List JobRow) → n ≡ 0 → jobsText connectionCount rs ≡ cond (eqb n 0) (jobsText connectionCount rs) []
 left-done n rs e = rw e
 
-pub left-refused : (n : ℕ) (rs : List JobRow) → (n ≡ 0 → ⊥) → [] ≡ cond (eqb n 0) (jobsText 16 rs) []
+pub left-refused : (n : ℕ) (rs : List JobRow) → (n ≡ 0 → ⊥) → [] ≡ cond (eqb n 0) (jobsText connectionCount rs) []
 left-refused n rs e = rw (ne-eqb n 0 e)
 
 module _ (f : Option Event) (ps : List Bytes) (n : ℕ) (t : Table) where
@@ -137,9 +138,9 @@ module _ (f : Option Event) (ps : List Bytes) (n : ℕ) (t : Table) where
   unfolding tableText
   unseen e = rw e
 
-  pub table-stands : (n ≡ 1 → ⊥) → (n ≡ 16 → ⊥) → (v : V′.Values) → v ≡ valuesOf t → sleepersText 16 (v .connections) ++ jobsAfter f ps n (v .rows) ≡ tableText f ps n t
+  pub table-stands : (n ≡ 1 → ⊥) → (n ≡ 16 → ⊥) → (v : V′.Values) → v ≡ valuesOf t → sleepersText connectionCount (v .connections) ++ jobsAfter f ps n (v .rows) ≡ tableText f ps n t
   unfolding tableText valuesOf
-  table-stands a b v e = rw (ne-eqb n 1 a, ne-eqb n 16 b) (ap (λ (u : V′.Values). sleepersText 16 (u .connections) ++ jobsAfter f ps n (u .rows)) e)
+  table-stands a b v e = rw (ne-eqb n 1 a, ne-eqb n 16 b) (ap (λ (u : V′.Values). sleepersText connectionCount (u .connections) ++ jobsAfter f ps n (u .rows)) e)
 
 -- ---- an addressed packet
 

@@ -13,6 +13,7 @@ use Rattle.handle.specs.declared.Serial as S
 use Rattle.handle.specs.declared.Serial.the-variants as SV
 use Rattle.handle.specs.Handle.{decimal}
 use Rattle.server.specs.declared.JobRow.{JobRow}
+use Rattle.server.specs.Sizes.{connectionCount}
 use Rattle.server.specs.Table.{Table}
 use Rattle.server.specs.Asked.{Event, opens, closes, sends}
 use Rattle.plans.specs.Values.{rowsOf}
@@ -77,18 +78,18 @@ numberText n = below ++ cond (eqb n 0) doneWord (refusalText n)
 
 abbrev pub namedText : S.Serial → List JobRow → Bytes
 namedText SV.None rs = []
-namedText (SV.Of n) rs = serialText 16 n rs
+namedText (SV.Of n) rs = serialText connectionCount n rs
 
 -- the job that a packet concerns; a close that is done may concern any job
 unfoldable pub jobsAfter : Option Event → List Bytes → ℕ → List JobRow → Bytes
 jobsAfter none ps n rs = []
 jobsAfter (some (opens c)) ps n rs = []
-jobsAfter (some (closes c)) ps n rs = cond (eqb n 0) (jobsText 16 rs) []
+jobsAfter (some (closes c)) ps n rs = cond (eqb n 0) (jobsText connectionCount rs) []
 jobsAfter (some (sends c b)) ps n rs = namedText (concerned b ps) rs
 
 -- what was refused by 1 is no table; what was refused by 16 the server did not see
 unfoldable pub tableText : Option Event → List Bytes → ℕ → Table → Bytes
-tableText f ps n t = cond (eqb n 1 || eqb n 16) [] (sleepersText 16 (t .connections) ++ jobsAfter f ps n (rowsOf t))
+tableText f ps n t = cond (eqb n 1 || eqb n 16) [] (sleepersText connectionCount (t .connections) ++ jobsAfter f ps n (rowsOf t))
 
 -- ---- the parts of a line
 

@@ -4,6 +4,7 @@
 use framing::Frame;
 use handle::Serial;
 use packet::Read;
+use server::JOBS;
 use server::JobRow;
 ghost use mathlib.Core.Path.{_≡_};
 ghost use mathlib.Core.Bool.{cond};
@@ -13,7 +14,8 @@ ghost use lib.ListN.{length};
 ghost use lib.Dec.{eqb};
 ghost use Rattle.octets.specs.Put.{put};
 ghost use Rattle.handle.specs.Handle.{decimal};
-ghost use Rattle.server.specs.Layout.{tableOf};
+ghost use Rattle.server.specs.Sizes.{connectionCount};
+ghost use Rattle.server.specs.Layout.{tableOf, tableSize};
 ghost use Rattle.framing.specs.Frames.{Bounded, eventOf};
 ghost use Rattle.framing.specs.Packets.{Packed, packetLines, packetsIn};
 ghost use Rattle.wording.specs.Lines.{requestLine};
@@ -155,7 +157,7 @@ pub fn put_answer(text: &mut [u8], at: usize, sent: &[u8], number: u8) -> usize
 }
 
 // Lays the job of a serial, if there is one.
-fn put_job(text: &mut [u8], at: usize, rows: [JobRow; 32], serial: Serial) -> usize
+fn put_job(text: &mut [u8], at: usize, rows: [JobRow; JOBS], serial: Serial) -> usize
     requires { ⌜ at + length (namedText serial rows) ≤ length (now text) ⌝ }
     ensures { λ r. ⌜ (r ≡ at + length (namedText serial rows)) × (now (text .exit) ≡ put at (namedText serial rows) (now (text .entry))) ⌝ }
 {
@@ -166,9 +168,9 @@ fn put_job(text: &mut [u8], at: usize, rows: [JobRow; 32], serial: Serial) -> us
 }
 
 // Lays the jobs that are left after a close, if it is done.
-fn put_left(text: &mut [u8], at: usize, rows: [JobRow; 32], number: u8) -> usize
-    requires { ⌜ at + length (cond (eqb number 0) (jobsText 16 rows) []) ≤ length (now text) ⌝ }
-    ensures { λ r. ⌜ (r ≡ at + length (cond (eqb number 0) (jobsText 16 rows) [])) × (now (text .exit) ≡ put at (cond (eqb number 0) (jobsText 16 rows) []) (now (text .entry))) ⌝ }
+fn put_left(text: &mut [u8], at: usize, rows: [JobRow; JOBS], number: u8) -> usize
+    requires { ⌜ at + length (cond (eqb number 0) (jobsText connectionCount rows) []) ≤ length (now text) ⌝ }
+    ensures { λ r. ⌜ (r ≡ at + length (cond (eqb number 0) (jobsText connectionCount rows) [])) × (now (text .exit) ≡ put at (cond (eqb number 0) (jobsText connectionCount rows) []) (now (text .entry))) ⌝ }
 {
     if number == 0 {
         return standing::put_jobs(text, at, rows);
@@ -184,7 +186,7 @@ fn put_jobs(
     bytes: &[u8; 1040],
     sent: &[u8],
     number: u8,
-    rows: [JobRow; 32],
+    rows: [JobRow; JOBS],
 ) -> usize
     requires { ⌜ Bounded frame × Packed (now sent) × (at + length (jobsAfter (eventOf frame (now bytes)) (packetsIn (now sent)) number rows) ≤ length (now text)) ⌝ }
     ensures { λ r. ⌜ (r ≡ at + length (jobsAfter (eventOf frame (now (bytes .entry))) (packetsIn (now (sent .entry))) number rows))
@@ -212,10 +214,10 @@ pub fn put_table(
     sent: &[u8],
     number: u8,
 ) -> usize
-    requires { ⌜ Bounded frame × Packed (now sent) × ((number ≡ 1 → ⊥) → (number ≡ 16 → ⊥) → 3796 ≤ length (now table))
-        × (at + length (tableText (eventOf frame (now bytes)) (packetsIn (now sent)) number (tableOf 16 (now table))) ≤ length (now text)) ⌝ }
-    ensures { λ r. ⌜ (r ≡ at + length (tableText (eventOf frame (now (bytes .entry))) (packetsIn (now (sent .entry))) number (tableOf 16 (now (table .entry)))))
-        × (now (text .exit) ≡ put at (tableText (eventOf frame (now (bytes .entry))) (packetsIn (now (sent .entry))) number (tableOf 16 (now (table .entry)))) (now (text .entry))) ⌝ }
+    requires { ⌜ Bounded frame × Packed (now sent) × ((number ≡ 1 → ⊥) → (number ≡ 16 → ⊥) → tableSize connectionCount ≤ length (now table))
+        × (at + length (tableText (eventOf frame (now bytes)) (packetsIn (now sent)) number (tableOf connectionCount (now table))) ≤ length (now text)) ⌝ }
+    ensures { λ r. ⌜ (r ≡ at + length (tableText (eventOf frame (now (bytes .entry))) (packetsIn (now (sent .entry))) number (tableOf connectionCount (now (table .entry)))))
+        × (now (text .exit) ≡ put at (tableText (eventOf frame (now (bytes .entry))) (packetsIn (now (sent .entry))) number (tableOf connectionCount (now (table .entry)))) (now (text .entry))) ⌝ }
 {
     if number == 1 {
         return at;

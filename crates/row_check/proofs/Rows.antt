@@ -11,7 +11,8 @@ use Rattle.octets.specs.Bytes.{Bytes}
 use Rattle.octets.proofs.Strings.{and-left, and-right}
 use Rattle.server.specs.declared.JobRow.{JobRow}
 use Rattle.server.specs.Lists.{all, numbers}
-use Rattle.server.specs.Layout.{littleAt, rowIn}
+use Rattle.server.specs.Sizes.{connectionCount, jobCount}
+use Rattle.server.specs.Layout.{littleAt, rowIn, serialsAt, listenersAt, sizesAt, holdersAt, backgroundsAt, functionsAt, tableSize}
 use Rattle.server.specs.Rules.{implies}
 use Rattle.table_bytes.specs.Tests.{areFlags}
 use Rattle.table_bytes.proofs.Columns.{places-at}
@@ -83,55 +84,55 @@ module _ (h l z p f g most within near : Bool) (ep : p ≡ true → most ≡ tru
   means true = free-means
   means false = live-means
 
-module _ (b : Bytes) (live heard held sized : List ℕ) (el : Marked 4 b 68 live) (eh : Marked 4 b 196 heard) (ed : Marked 2 b 388 held) (ez : Marked 2 b 324 sized)
-    (long : 3796 ≤ length b) (flags : areFlags 32 b 484 ≡ true) where
-  row-means : (k : ℕ) → k < 32 → bytesInRange b k && (holderInRange b k && freeOrAwaited live heard held sized b k) ≡ numbersMean (rowIn b k) && isAwaited (rowIn b k)
+module _ (b : Bytes) (live heard held sized : List ℕ) (el : Marked 4 b serialsAt live) (eh : Marked 4 b (listenersAt connectionCount) heard) (ed : Marked 2 b holdersAt held) (ez : Marked 2 b sizesAt sized)
+    (long : tableSize connectionCount ≤ length b) (flags : areFlags jobCount b backgroundsAt ≡ true) where
+  row-means : (k : ℕ) → k < jobCount → bytesInRange b k && (holderInRange b k && freeOrAwaited live heard held sized b k) ≡ numbersMean (rowIn connectionCount b k) && isAwaited (rowIn connectionCount b k)
   row-means k g =
-      let flag : eqb (getD b (484 + k) 0) 0 ≡ not (eqb (getD b (484 + k) 0) 1) = flag-at 32 b 484 (omega arith) flags k g in
+      let flag : eqb (getD b (backgroundsAt + k) 0) 0 ≡ not (eqb (getD b (backgroundsAt + k) 0) 1) = flag-at 32 b backgroundsAt (omega arith) flags k g in
       rw (
         el k g,
         eh k g,
         ed k g,
         ez k g,
-        mark-none (littleAt 4 b (68 + 4 * k)),
-        mark-none (littleAt 4 b (196 + 4 * k)),
-        mark-none (littleAt 2 b (388 + 2 * k)),
-        mark-none (littleAt 2 b (324 + 2 * k)),
+        mark-none (littleAt 4 b (serialsAt + 4 * k)),
+        mark-none (littleAt 4 b (listenersAt connectionCount + 4 * k)),
+        mark-none (littleAt 2 b (holdersAt + 2 * k)),
+        mark-none (littleAt 2 b (sizesAt + 2 * k)),
         flag,
-        below-16 (getD b (516 + k) 0),
+        below-16 (getD b (functionsAt + k) 0),
       )
-      (means (eqb (rowIn b k .holder) 0) (eqb (rowIn b k .listeners) 0) (eqb (rowIn b k .size) 0) (eqb (rowIn b k .priority) 0) (eqb (rowIn b k .function) 0)
-      (eqb (getD b (484 + k) 0) 1) (leb (rowIn b k .priority) 2) (ltb (rowIn b k .function) 16) (leb (rowIn b k .holder) 16)
-      (λ e. let r = eqb-true (rowIn b k .priority) 0 e in le-leb (rowIn b k .priority) 2 (omega arith))
-      (λ e. let r = eqb-true (rowIn b k .function) 0 e in lt-ltb (rowIn b k .function) 16 (omega arith))
-      (λ e. let r = eqb-true (rowIn b k .holder) 0 e in le-leb (rowIn b k .holder) 16 (omega arith)) (eqb (rowIn b k .serial) 0))
+      (means (eqb (rowIn connectionCount b k .holder) 0) (eqb (rowIn connectionCount b k .listeners) 0) (eqb (rowIn connectionCount b k .size) 0) (eqb (rowIn connectionCount b k .priority) 0) (eqb (rowIn connectionCount b k .function) 0)
+      (eqb (getD b (backgroundsAt + k) 0) 1) (leb (rowIn connectionCount b k .priority) 2) (ltb (rowIn connectionCount b k .function) 16) (leb (rowIn connectionCount b k .holder) 16)
+      (λ e. let r = eqb-true (rowIn connectionCount b k .priority) 0 e in le-leb (rowIn connectionCount b k .priority) 2 (omega arith))
+      (λ e. let r = eqb-true (rowIn connectionCount b k .function) 0 e in lt-ltb (rowIn connectionCount b k .function) 16 (omega arith))
+      (λ e. let r = eqb-true (rowIn connectionCount b k .holder) 0 e in le-leb (rowIn connectionCount b k .holder) 16 (omega arith)) (eqb (rowIn connectionCount b k .serial) 0))
 
-  pub rows-mean : (p q r : Bool) → p ≡ all (bytesInRange b) (numbers 0 32) → q ≡ all (holderInRange b) (numbers 0 32)
-      → r ≡ all (freeOrAwaited live heard held sized b) (numbers 0 32) → p && (q && r) ≡ rowsMean b
+  pub rows-mean : (p q r : Bool) → p ≡ all (bytesInRange b) (numbers 0 jobCount) → q ≡ all (holderInRange b) (numbers 0 jobCount)
+      → r ≡ all (freeOrAwaited live heard held sized b) (numbers 0 jobCount) → p && (q && r) ≡ rowsMean b
   unfolding rowsMean
   rows-mean p q r ep eq er =
-      and-same ep (and-same eq er ∙ sym (all-and (holderInRange b) (freeOrAwaited live heard held sized b) (numbers 0 32)))
-      ∙ sym (all-and (bytesInRange b) (λ k. holderInRange b k && freeOrAwaited live heard held sized b k) (numbers 0 32))
-      ∙ same-below (λ k. bytesInRange b k && (holderInRange b k && freeOrAwaited live heard held sized b k)) (λ k. numbersMean (rowIn b k) && isAwaited (rowIn b k)) 32 row-means
+      and-same ep (and-same eq er ∙ sym (all-and (holderInRange b) (freeOrAwaited live heard held sized b) (numbers 0 jobCount)))
+      ∙ sym (all-and (bytesInRange b) (λ k. holderInRange b k && freeOrAwaited live heard held sized b k) (numbers 0 jobCount))
+      ∙ same-below (λ k. bytesInRange b k && (holderInRange b k && freeOrAwaited live heard held sized b k)) (λ k. numbersMean (rowIn connectionCount b k) && isAwaited (rowIn connectionCount b k)) 32 row-means
 
 -- a number out of range is enough
-pub out-of-range : (b : Bytes) (live : List ℕ) → Marked 4 b 68 live → 3796 ≤ length b → areFlags 32 b 484 ≡ true → (p q : Bool)
-    → p ≡ all (bytesInRange b) (numbers 0 32) → q ≡ all (holderInRange b) (numbers 0 32) → p && q ≡ false → false ≡ rowsMean b
+pub out-of-range : (b : Bytes) (live : List ℕ) → Marked 4 b serialsAt live → tableSize connectionCount ≤ length b → areFlags jobCount b backgroundsAt ≡ true → (p q : Bool)
+    → p ≡ all (bytesInRange b) (numbers 0 jobCount) → q ≡ all (holderInRange b) (numbers 0 jobCount) → p && q ≡ false → false ≡ rowsMean b
 out-of-range b live el long flags p q ep eq e =
-    ap (λ (x : Bool). x && all (freeOrAwaited live heard held sized b) (numbers 0 32)) (sym e) ∙ and-assoc p q _
-    ∙ rows-mean b live heard held sized el (marks 4 196) (marks 2 388) (marks 2 324) long flags p q _ ep eq refl
+    ap (λ (x : Bool). x && all (freeOrAwaited live heard held sized b) (numbers 0 jobCount)) (sym e) ∙ and-assoc p q _
+    ∙ rows-mean b live heard held sized el (marks 4 (listenersAt connectionCount)) (marks 2 holdersAt) (marks 2 sizesAt) long flags p q _ ep eq refl
   where
     column : ℕ → ℕ → List ℕ
-    column w at = map (λ k. markOf (littleAt w b (at + w * k))) (numbers 0 32)
+    column w at = map (λ k. markOf (littleAt w b (at + w * k))) (numbers 0 jobCount)
 
     heard : List ℕ
-    heard = column 4 196
+    heard = column 4 (listenersAt connectionCount)
 
     held : List ℕ
-    held = column 2 388
+    held = column 2 holdersAt
 
     sized : List ℕ
-    sized = column 2 324
+    sized = column 2 sizesAt
 
     marks : (w at : ℕ) → Marked w b at (column w at)
     marks w at k g = places-at (λ k. markOf (littleAt w b (at + w * k))) 0 32 k g

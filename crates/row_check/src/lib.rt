@@ -1,13 +1,23 @@
 // What refusal 1 asks of the numbers of each job's row by itself: a free row is zero, a live one has a priority, a function, and nobody or a
 // connection as its holder, and a queued job is background or has a listener. Each column is read in one loop without an exit; columns of
 // wider numbers become columns of marks first, so that a row's fields are compared in one width.
+use server::BACKGROUNDS_AT;
+use server::CONNECTIONS;
+use server::FUNCTIONS;
+use server::FUNCTIONS_AT;
+use server::HOLDERS_AT;
+use server::JOBS;
+use server::LISTENERS_AT;
+use server::PRIORITIES_AT;
+use server::SIZES_AT;
 ghost use mathlib.Core.Path.{_≡_};
 ghost use mathlib.Core.Bool.{true};
 ghost use Prim.Native.Nat.{ℕ, _+_, _*_, _<_, _≤_};
 ghost use lib.ListN.{length, getD};
 ghost use lib.Dec.{leb};
 ghost use Rattle.server.specs.Lists.{all, numbers};
-ghost use Rattle.server.specs.Layout.{littleAt, rowIn};
+ghost use Rattle.server.specs.Sizes.{connectionCount, jobCount};
+ghost use Rattle.server.specs.Layout.{backgroundsAt, littleAt, rowIn, serialsAt, tableSize};
 ghost use Rattle.table_bytes.specs.Tests.{areFlags};
 ghost use Rattle.row_check.specs.Rows.{Marked, bytesInRange, freeOrAwaited, holderInRange, markOf, rowsMean};
 
@@ -24,13 +34,13 @@ fn mark(x: u32) -> u8
 }
 
 // The marks of the 32 numbers of four bytes from `at` on.
-pub fn marks4(table: &[u8], at: usize) -> [u8; 32]
+pub fn marks4(table: &[u8], at: usize) -> [u8; JOBS]
     requires { ⌜ at + 128 ≤ length (now table) ⌝ }
     ensures { λ r. ⌜ Marked 4 (now (table .entry)) at r ⌝ }
 {
-    let mut m = [0u8; 32];
+    let mut m = [0u8; JOBS];
     let mut i = 0;
-    while i < 32 {
+    while i < JOBS {
         m[i] = mark(little::number4(table, at + 4 * i));
         i += 1;
     }
@@ -38,44 +48,49 @@ pub fn marks4(table: &[u8], at: usize) -> [u8; 32]
 }
 
 // The same of two bytes.
-fn marks2(table: &[u8], at: usize) -> [u8; 32]
+fn marks2(table: &[u8], at: usize) -> [u8; JOBS]
     requires { ⌜ at + 64 ≤ length (now table) ⌝ }
     ensures { λ r. ⌜ Marked 2 (now (table .entry)) at r ⌝ }
 {
-    let mut m = [0u8; 32];
+    let mut m = [0u8; JOBS];
     let mut i = 0;
-    while i < 32 {
+    while i < JOBS {
         m[i] = mark(little::number2(table, at + 2 * i) as u32);
         i += 1;
     }
     m
 }
 
+// The highest number of a function's place, and of a holder: one more than its connection's.
+const LAST_FUNCTION: u8 = (FUNCTIONS - 1) as u8;
+
+const LAST_HOLDER: u16 = CONNECTIONS as u16;
+
 // ---- rows
 
-// Whether each priority is at most 2 and each function at most 15.
+// Whether each priority is at most 2 and each function is the place of one.
 fn bytes_in_range(table: &[u8]) -> bool
-    requires { ⌜ 3796 ≤ length (now table) ⌝ }
-    ensures { λ r. ⌜ r ≡ all (bytesInRange (now (table .entry))) (numbers 0 32) ⌝ }
+    requires { ⌜ tableSize connectionCount ≤ length (now table) ⌝ }
+    ensures { λ r. ⌜ r ≡ all (bytesInRange (now (table .entry))) (numbers 0 jobCount) ⌝ }
 {
     let mut ok = true;
     let mut i = 0;
-    while i < 32 {
-        ok = ok & ((table[452 + i] <= 2) & (table[516 + i] <= 15));
+    while i < JOBS {
+        ok = ok & ((table[PRIORITIES_AT + i] <= 2) & (table[FUNCTIONS_AT + i] <= LAST_FUNCTION));
         i += 1;
     }
     ok
 }
 
-// Whether each holder is nobody or one of the 16 connections.
+// Whether each holder is nobody or one of the connections.
 fn holders_in_range(table: &[u8]) -> bool
-    requires { ⌜ 3796 ≤ length (now table) ⌝ }
-    ensures { λ r. ⌜ r ≡ all (holderInRange (now (table .entry))) (numbers 0 32) ⌝ }
+    requires { ⌜ tableSize connectionCount ≤ length (now table) ⌝ }
+    ensures { λ r. ⌜ r ≡ all (holderInRange (now (table .entry))) (numbers 0 jobCount) ⌝ }
 {
     let mut ok = true;
     let mut i = 0;
-    while i < 32 {
-        ok = ok & (fields::holder(table, i) <= 16);
+    while i < JOBS {
+        ok = ok & (fields::holder(table, i) <= LAST_HOLDER);
         i += 1;
     }
     ok
@@ -83,20 +98,22 @@ fn holders_in_range(table: &[u8]) -> bool
 
 // Whether each live row is held, listened to or background, and each free row is zero, by the marks of serials, listeners, holders and sizes.
 fn free_or_awaited(
-    live: &[u8; 32],
-    heard: &[u8; 32],
-    held: &[u8; 32],
-    sized: &[u8; 32],
+    live: &[u8; JOBS],
+    heard: &[u8; JOBS],
+    held: &[u8; JOBS],
+    sized: &[u8; JOBS],
     table: &[u8],
 ) -> bool
-    requires { ⌜ 3796 ≤ length (now table) ⌝ }
-    ensures { λ r. ⌜ r ≡ all (freeOrAwaited (now (live .entry)) (now (heard .entry)) (now (held .entry)) (now (sized .entry)) (now (table .entry))) (numbers 0 32) ⌝ }
+    requires { ⌜ tableSize connectionCount ≤ length (now table) ⌝ }
+    ensures { λ r. ⌜ r ≡ all (freeOrAwaited (now (live .entry)) (now (heard .entry)) (now (held .entry)) (now (sized .entry)) (now (table .entry))) (numbers 0 jobCount) ⌝ }
 {
     let mut ok = true;
     let mut i = 0;
-    while i < 32 {
-        let alone = (held[i] == 0) & ((heard[i] == 0) & (table[484 + i] == 0));
-        let unused = alone & ((sized[i] == 0) & ((table[452 + i] == 0) & (table[516 + i] == 0)));
+    while i < JOBS {
+        let alone = (held[i] == 0) & ((heard[i] == 0) & (table[BACKGROUNDS_AT + i] == 0));
+        let unused = alone
+            & ((sized[i] == 0)
+                & ((table[PRIORITIES_AT + i] == 0) & (table[FUNCTIONS_AT + i] == 0)));
         ok = ok & (((live[i] == 0) | !alone) & ((live[i] != 0) | unused));
         i += 1;
     }
@@ -104,15 +121,15 @@ fn free_or_awaited(
 }
 
 // Whether the numbers of each row have a meaning and each queued job is awaited. `live` has the marks of the serials.
-pub fn rows_mean(table: &[u8], live: &[u8; 32]) -> bool
-    requires { ⌜ (3796 ≤ length (now table)) × (areFlags 32 (now table) 484 ≡ true) × Marked 4 (now table) 68 (now live) ⌝ }
+pub fn rows_mean(table: &[u8], live: &[u8; JOBS]) -> bool
+    requires { ⌜ (tableSize connectionCount ≤ length (now table)) × (areFlags jobCount (now table) backgroundsAt ≡ true) × Marked 4 (now table) serialsAt (now live) ⌝ }
     ensures { λ r. ⌜ r ≡ rowsMean (now (table .entry)) ⌝ }
 {
     if bytes_in_range(table) {
         if holders_in_range(table) {
-            let heard = marks4(table, 196);
-            let held = marks2(table, 388);
-            let sized = marks2(table, 324);
+            let heard = marks4(table, LISTENERS_AT);
+            let held = marks2(table, HOLDERS_AT);
+            let sized = marks2(table, SIZES_AT);
             return free_or_awaited(live, &heard, &held, &sized, table);
         }
     }

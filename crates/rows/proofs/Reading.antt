@@ -12,8 +12,9 @@ use Rattle.octets.specs.Bytes.{Bytes}
 use Rattle.server.specs.declared.Connection.{Connection}
 use Rattle.server.specs.declared.JobRow.{JobRow}
 use Rattle.server.specs.Lists.{numbers}
+use Rattle.server.specs.Sizes.{connectionCount, jobCount}
 use Rattle.server.specs.Table.{noRow, closed}
-use Rattle.server.specs.Layout.{littleAt, connectionIn, functionIn, rowIn, jobIn, tableOf}
+use Rattle.server.specs.Layout.{littleAt, connectionIn, functionIn, rowIn, jobIn, tableOf, ableAt}
 use Rattle.plans.specs.Values.{ablesOf, rowsOf, valuesOf}
 use Rattle.plans.specs.Plans as P
 use Rattle.table_bytes.proofs.Columns.{length-places, places-at}
@@ -44,32 +45,32 @@ map-map g f (x ∷ xs) = ap (λ l. g (f x) ∷ l) (map-map g f xs)
 
 module _ (b : Bytes) where
   -- the rows and the sets that the bytes hold, place after place
-  pub rows-are : rowsOf (tableOf 16 b) ≡ map (rowIn b) (numbers 0 32)
+  pub rows-are : rowsOf (tableOf connectionCount b) ≡ map (rowIn connectionCount b) (numbers 0 jobCount)
   unfolding tableOf
-  rows-are = map-map (λ j. j .row) (jobIn b) (numbers 0 32)
+  rows-are = map-map (λ j. j .row) (jobIn connectionCount b) (numbers 0 jobCount)
 
-  pub ables-are : ablesOf (tableOf 16 b) ≡ map (λ q. littleAt 4 b (4 + 4 * q)) (numbers 0 16)
+  pub ables-are : ablesOf (tableOf connectionCount b) ≡ map (λ q. littleAt 4 b (ableAt + 4 * q)) (numbers 0 16)
   unfolding tableOf
-  ables-are = map-map (λ x. x .able) (functionIn b) (numbers 0 16)
+  ables-are = map-map (λ x. x .able) (functionIn connectionCount b) (numbers 0 16)
 
   module _ (i : ℕ) where
-    pub rows-read : (l : List JobRow) → i ≤ 32 → 32 ≤ i → length l ≡ 32 → take i l ≡ map (rowIn b) (numbers 0 i) → l ≡ rowsOf (tableOf 16 b)
-    rows-read l h g k t = filled (rowIn b) l i 32 h g k t ∙ sym rows-are
+    pub rows-read : (l : List JobRow) → i ≤ jobCount → 32 ≤ i → length l ≡ 32 → take i l ≡ map (rowIn connectionCount b) (numbers 0 i) → l ≡ rowsOf (tableOf connectionCount b)
+    rows-read l h g k t = filled (rowIn connectionCount b) l i 32 h g k t ∙ sym rows-are
 
-    pub able-read : (l : List ℕ) → i ≤ 16 → 16 ≤ i → length l ≡ 16 → take i l ≡ map (λ q. littleAt 4 b (4 + 4 * q)) (numbers 0 i) → l ≡ ablesOf (tableOf 16 b)
-    able-read l h g k t = filled (λ q. littleAt 4 b (4 + 4 * q)) l i 16 h g k t ∙ sym ables-are
+    pub able-read : (l : List ℕ) → i ≤ 16 → 16 ≤ i → length l ≡ 16 → take i l ≡ map (λ q. littleAt 4 b (ableAt + 4 * q)) (numbers 0 i) → l ≡ ablesOf (tableOf connectionCount b)
+    able-read l h g k t = filled (λ q. littleAt 4 b (ableAt + 4 * q)) l i 16 h g k t ∙ sym ables-are
 
-    pub connections-read : (l : List Connection) → i ≤ 16 → 16 ≤ i → length l ≡ 16 → take i l ≡ map (connectionIn 16 b) (numbers 0 i) → l ≡ tableOf 16 b .connections
+    pub connections-read : (l : List Connection) → i ≤ 16 → 16 ≤ i → length l ≡ 16 → take i l ≡ map (connectionIn connectionCount b) (numbers 0 i) → l ≡ tableOf connectionCount b .connections
     unfolding tableOf
-    connections-read l h g k t = filled (connectionIn 16 b) l i 16 h g k t
+    connections-read l h g k t = filled (connectionIn connectionCount b) l i 16 h g k t
 
-pub last-read : (b : Bytes) (last : ℕ) → last ≡ littleAt 4 b 0 → last ≡ valuesOf (tableOf 16 b) .last
+pub last-read : (b : Bytes) (last : ℕ) → last ≡ littleAt 4 b 0 → last ≡ valuesOf (tableOf connectionCount b) .last
 unfolding valuesOf tableOf
 last-read b last e = e
 
 pub values-read : (b : Bytes) (last : ℕ) (connections : List Connection) (able : List ℕ) (rows : List JobRow)
-    → last ≡ valuesOf (tableOf 16 b) .last → connections ≡ tableOf 16 b .connections → able ≡ ablesOf (tableOf 16 b) → rows ≡ rowsOf (tableOf 16 b)
-    → record { last = last; connections = connections; able = able; rows = rows } ≡ valuesOf (tableOf 16 b)
+    → last ≡ valuesOf (tableOf connectionCount b) .last → connections ≡ tableOf connectionCount b .connections → able ≡ ablesOf (tableOf connectionCount b) → rows ≡ rowsOf (tableOf connectionCount b)
+    → record { last = last; connections = connections; able = able; rows = rows } ≡ valuesOf (tableOf connectionCount b)
 unfolding valuesOf tableOf
 values-read b last connections able rows el ec ea er = rw (el, ec, ea, er)
 
@@ -84,29 +85,29 @@ module _ {A : Type 0} (f : ℕ → A) (d : A) (n : ℕ) (l : List A) (i : ℕ) (
   column-beyond h = rw e (List·getD-eq-default (map f (numbers 0 n)) d (rw (length-places f 0 n) h))
 
 module _ (b : Bytes) (i : ℕ) where
-  pub row-place : i < 32 → getD (rowsOf (tableOf 16 b)) i noRow ≡ rowIn b i
-  row-place = column-at (rowIn b) noRow 32 (rowsOf (tableOf 16 b)) i (rows-are b)
+  pub row-place : i < jobCount → getD (rowsOf (tableOf connectionCount b)) i noRow ≡ rowIn connectionCount b i
+  row-place = column-at (rowIn connectionCount b) noRow 32 (rowsOf (tableOf connectionCount b)) i (rows-are b)
 
-  pub row-inside : (x : JobRow) → i < 32 → x ≡ rowIn b i → x ≡ P.rowIn (valuesOf (tableOf 16 b)) i
+  pub row-inside : (x : JobRow) → i < jobCount → x ≡ rowIn connectionCount b i → x ≡ P.rowIn (valuesOf (tableOf connectionCount b)) i
   unfolding valuesOf
   row-inside x h g = g ∙ sym (row-place h)
 
-  pub row-beyond : (x : JobRow) → 32 ≤ i → x ≡ noRow → x ≡ P.rowIn (valuesOf (tableOf 16 b)) i
+  pub row-beyond : (x : JobRow) → 32 ≤ i → x ≡ noRow → x ≡ P.rowIn (valuesOf (tableOf connectionCount b)) i
   unfolding valuesOf
-  row-beyond x h g = g ∙ sym (column-beyond (rowIn b) noRow 32 (rowsOf (tableOf 16 b)) i (rows-are b) h)
+  row-beyond x h g = g ∙ sym (column-beyond (rowIn connectionCount b) noRow 32 (rowsOf (tableOf connectionCount b)) i (rows-are b) h)
 
-  pub able-inside : (x : ℕ) → i < 16 → x ≡ littleAt 4 b (4 + 4 * i) → x ≡ getD (valuesOf (tableOf 16 b) .able) i 0
+  pub able-inside : (x : ℕ) → i < 16 → x ≡ littleAt 4 b (ableAt + 4 * i) → x ≡ getD (valuesOf (tableOf connectionCount b) .able) i 0
   unfolding valuesOf
-  able-inside x h g = g ∙ sym (column-at (λ q. littleAt 4 b (4 + 4 * q)) 0 16 (ablesOf (tableOf 16 b)) i (ables-are b) h)
+  able-inside x h g = g ∙ sym (column-at (λ q. littleAt 4 b (ableAt + 4 * q)) 0 16 (ablesOf (tableOf connectionCount b)) i (ables-are b) h)
 
-  pub able-beyond : (x : ℕ) → 16 ≤ i → x ≡ 0 → x ≡ getD (valuesOf (tableOf 16 b) .able) i 0
+  pub able-beyond : (x : ℕ) → 16 ≤ i → x ≡ 0 → x ≡ getD (valuesOf (tableOf connectionCount b) .able) i 0
   unfolding valuesOf
-  able-beyond x h g = g ∙ sym (column-beyond (λ q. littleAt 4 b (4 + 4 * q)) 0 16 (ablesOf (tableOf 16 b)) i (ables-are b) h)
+  able-beyond x h g = g ∙ sym (column-beyond (λ q. littleAt 4 b (ableAt + 4 * q)) 0 16 (ablesOf (tableOf connectionCount b)) i (ables-are b) h)
 
-  pub connection-inside : (x : Connection) → i < 16 → x ≡ connectionIn 16 b i → x ≡ P.connectionIn (valuesOf (tableOf 16 b)) i
+  pub connection-inside : (x : Connection) → i < 16 → x ≡ connectionIn connectionCount b i → x ≡ P.connectionIn (valuesOf (tableOf connectionCount b)) i
   unfolding valuesOf tableOf
-  connection-inside x h g = g ∙ sym (column-at (connectionIn 16 b) closed 16 (tableOf 16 b .connections) i refl h)
+  connection-inside x h g = g ∙ sym (column-at (connectionIn connectionCount b) closed 16 (tableOf connectionCount b .connections) i refl h)
 
-  pub connection-beyond : (x : Connection) → 16 ≤ i → x ≡ closed → x ≡ P.connectionIn (valuesOf (tableOf 16 b)) i
+  pub connection-beyond : (x : Connection) → 16 ≤ i → x ≡ closed → x ≡ P.connectionIn (valuesOf (tableOf connectionCount b)) i
   unfolding valuesOf tableOf
-  connection-beyond x h g = g ∙ sym (column-beyond (connectionIn 16 b) closed 16 (tableOf 16 b .connections) i refl h)
+  connection-beyond x h g = g ∙ sym (column-beyond (connectionIn connectionCount b) closed 16 (tableOf connectionCount b .connections) i refl h)

@@ -1,129 +1,115 @@
-// The numbers of a table in the lent bytes: one row, one set or one connection read at its place, all of them read into arrays by
-// value, and all of them written back: the columns of docs/TABLE.md, little-endian. Texts stay in the bytes. An inner crate: each
-// function asks its callers that the table lies inside the bytes, and refuses nothing; a place beyond the last is read as an empty one.
-mod writing;
-
+// The numbers of a table read from the lent bytes: one row, one set or one connection at its place, or all of them into arrays by value.
+// docs/TABLE.md has the columns, little-endian; texts stay in the bytes. An inner crate: each function asks its callers that the table
+// lies inside the bytes, and refuses nothing; a place beyond the last is read as an empty one.
 use plans::Values;
+use server::ABLE_AT;
+use server::ASLEEP_AT;
+use server::BACKGROUNDS_AT;
+use server::CONNECTIONS;
 use server::Connection;
+use server::EXCEPTIONS_AT;
+use server::FUNCTIONS;
+use server::FUNCTIONS_AT;
+use server::HOLDERS_AT;
+use server::JOBS;
 use server::JobRow;
+use server::LAST_AT;
+use server::LISTENERS_AT;
+use server::OPENED_AT;
+use server::PRIORITIES_AT;
+use server::SERIALS_AT;
+use server::SIZES_AT;
 ghost use mathlib.Core.Path.{_≡_};
 ghost use Prim.Native.Nat.{_≤_, _<_};
 ghost use lib.ListN.{length, getD};
-ghost use Rattle.octets.specs.Put.{put};
+ghost use Rattle.server.specs.Sizes.{connectionCount, jobCount};
 ghost use Rattle.server.specs.Table.{closed, noRow};
+ghost use Rattle.server.specs.Layout.{tableOf, tableSize};
 ghost use Rattle.server.specs.Layout as L;
-ghost use Rattle.server.specs.Layout.{tableOf};
 ghost use Rattle.plans.specs.Values.{ablesOf, rowsOf, valuesOf};
 ghost use Rattle.plans.specs.Plans as P;
-ghost use Rattle.rows.specs.Columns.{connectionBytes, numberBytes};
 
 // ---- one place
 
-// A free row.
-fn no_row() -> JobRow
-    ensures { λ r. ⌜ r ≡ noRow ⌝ }
-{
-    JobRow {
-        serial: 0,
-        function: 0,
-        priority: 0,
-        background: false,
-        listeners: 0,
-        holder: 0,
-        size: 0,
-    }
-}
-
-// A closed connection.
-fn no_connection() -> Connection
-    ensures { λ r. ⌜ r ≡ closed ⌝ }
-{
-    Connection {
-        opened: false,
-        asleep: false,
-        exceptions: false,
-    }
-}
-
-// The row of the job at one of the 32 places.
+// The row of the job at a place.
 fn read_row(table: &[u8], p: usize) -> JobRow
-    requires { ⌜ (3796 ≤ length (now table)) × (p < 32) ⌝ }
-    ensures { λ r. ⌜ r ≡ L.rowIn (now (table .entry)) p ⌝ }
+    requires { ⌜ (tableSize connectionCount ≤ length (now table)) × (p < jobCount) ⌝ }
+    ensures { λ r. ⌜ r ≡ L.rowIn connectionCount (now (table .entry)) p ⌝ }
 {
     JobRow {
-        serial: little::number4(table, 68 + 4 * p),
-        function: table[516 + p],
-        priority: table[452 + p],
-        background: table[484 + p] == 1,
-        listeners: little::number4(table, 196 + 4 * p),
-        holder: little::number2(table, 388 + 2 * p),
-        size: little::number2(table, 324 + 2 * p),
+        serial: little::number4(table, SERIALS_AT + 4 * p),
+        function: table[FUNCTIONS_AT + p],
+        priority: table[PRIORITIES_AT + p],
+        background: table[BACKGROUNDS_AT + p] == 1,
+        listeners: little::number4(table, LISTENERS_AT + 4 * p),
+        holder: little::number2(table, HOLDERS_AT + 2 * p),
+        size: little::number2(table, SIZES_AT + 2 * p),
     }
 }
 
-// The row of one of the 16 connections.
+// The row of one connection.
 fn read_connection(table: &[u8], c: usize) -> Connection
-    requires { ⌜ (3796 ≤ length (now table)) × (c < 16) ⌝ }
-    ensures { λ r. ⌜ r ≡ L.connectionIn 16 (now (table .entry)) c ⌝ }
+    requires { ⌜ (tableSize connectionCount ≤ length (now table)) × (c < connectionCount) ⌝ }
+    ensures { λ r. ⌜ r ≡ L.connectionIn connectionCount (now (table .entry)) c ⌝ }
 {
     Connection {
-        opened: table[3748 + c] == 1,
-        asleep: table[3764 + c] == 1,
-        exceptions: table[3780 + c] == 1,
+        opened: table[OPENED_AT + c] == 1,
+        asleep: table[ASLEEP_AT + c] == 1,
+        exceptions: table[EXCEPTIONS_AT + c] == 1,
     }
 }
 
 // The row of the job at a place: a free one beyond the last.
 pub fn row_at(table: &[u8], p: usize) -> JobRow
-    requires { ⌜ 3796 ≤ length (now table) ⌝ }
-    ensures { λ r. ⌜ r ≡ P.rowIn (valuesOf (tableOf 16 (now (table .entry)))) p ⌝ }
+    requires { ⌜ tableSize connectionCount ≤ length (now table) ⌝ }
+    ensures { λ r. ⌜ r ≡ P.rowIn (valuesOf (tableOf connectionCount (now (table .entry)))) p ⌝ }
 {
-    if 32 <= p {
-        return no_row();
+    if JOBS <= p {
+        return server::no_row();
     }
     read_row(table, p)
 }
 
 // The connections able to do the function at a place: nobody beyond the last.
 pub fn able_at(table: &[u8], q: usize) -> u32
-    requires { ⌜ 3796 ≤ length (now table) ⌝ }
-    ensures { λ r. ⌜ r ≡ getD (valuesOf (tableOf 16 (now (table .entry))) .able) q 0 ⌝ }
+    requires { ⌜ tableSize connectionCount ≤ length (now table) ⌝ }
+    ensures { λ r. ⌜ r ≡ getD (valuesOf (tableOf connectionCount (now (table .entry))) .able) q 0 ⌝ }
 {
-    if 16 <= q {
+    if FUNCTIONS <= q {
         return 0;
     }
-    little::number4(table, 4 + 4 * q)
+    little::number4(table, ABLE_AT + 4 * q)
 }
 
 // The row of a connection: a closed one beyond the last.
 pub fn connection_at(table: &[u8], c: usize) -> Connection
-    requires { ⌜ 3796 ≤ length (now table) ⌝ }
-    ensures { λ r. ⌜ r ≡ P.connectionIn (valuesOf (tableOf 16 (now (table .entry)))) c ⌝ }
+    requires { ⌜ tableSize connectionCount ≤ length (now table) ⌝ }
+    ensures { λ r. ⌜ r ≡ P.connectionIn (valuesOf (tableOf connectionCount (now (table .entry)))) c ⌝ }
 {
-    if 16 <= c {
-        return no_connection();
+    if CONNECTIONS <= c {
+        return server::closed();
     }
     read_connection(table, c)
 }
 
 // The last serial given out.
 pub fn last(table: &[u8]) -> u32
-    requires { ⌜ 3796 ≤ length (now table) ⌝ }
-    ensures { λ r. ⌜ r ≡ valuesOf (tableOf 16 (now (table .entry))) .last ⌝ }
+    requires { ⌜ tableSize connectionCount ≤ length (now table) ⌝ }
+    ensures { λ r. ⌜ r ≡ valuesOf (tableOf connectionCount (now (table .entry))) .last ⌝ }
 {
-    little::number4(table, 0)
+    little::number4(table, LAST_AT)
 }
 
 // ---- all numbers
 
 // The rows of all jobs.
-pub fn read_rows(table: &[u8]) -> [JobRow; 32]
-    requires { ⌜ 3796 ≤ length (now table) ⌝ }
-    ensures { λ r. ⌜ r ≡ rowsOf (tableOf 16 (now (table .entry))) ⌝ }
+pub fn read_rows(table: &[u8]) -> [JobRow; JOBS]
+    requires { ⌜ tableSize connectionCount ≤ length (now table) ⌝ }
+    ensures { λ r. ⌜ r ≡ rowsOf (tableOf connectionCount (now (table .entry))) ⌝ }
 {
-    let mut rows = [no_row(); 32];
+    let mut rows = [server::no_row(); JOBS];
     let mut i = 0;
-    while i < 32 {
+    while i < JOBS {
         rows[i] = read_row(table, i);
         i += 1;
     }
@@ -131,27 +117,27 @@ pub fn read_rows(table: &[u8]) -> [JobRow; 32]
 }
 
 // The sets of connections able to do each function.
-fn read_able(table: &[u8]) -> [u32; 16]
-    requires { ⌜ 3796 ≤ length (now table) ⌝ }
-    ensures { λ r. ⌜ r ≡ ablesOf (tableOf 16 (now (table .entry))) ⌝ }
+fn read_able(table: &[u8]) -> [u32; FUNCTIONS]
+    requires { ⌜ tableSize connectionCount ≤ length (now table) ⌝ }
+    ensures { λ r. ⌜ r ≡ ablesOf (tableOf connectionCount (now (table .entry))) ⌝ }
 {
-    let mut able = [0u32; 16];
+    let mut able = [0u32; FUNCTIONS];
     let mut i = 0;
-    while i < 16 {
-        able[i] = little::number4(table, 4 + 4 * i);
+    while i < FUNCTIONS {
+        able[i] = little::number4(table, ABLE_AT + 4 * i);
         i += 1;
     }
     able
 }
 
 // The connections' rows.
-fn read_connections(table: &[u8]) -> [Connection; 16]
-    requires { ⌜ 3796 ≤ length (now table) ⌝ }
-    ensures { λ r. ⌜ r ≡ (tableOf 16 (now (table .entry))) .connections ⌝ }
+fn read_connections(table: &[u8]) -> [Connection; CONNECTIONS]
+    requires { ⌜ tableSize connectionCount ≤ length (now table) ⌝ }
+    ensures { λ r. ⌜ r ≡ (tableOf connectionCount (now (table .entry))) .connections ⌝ }
 {
-    let mut connections = [no_connection(); 16];
+    let mut connections = [server::closed(); CONNECTIONS];
     let mut i = 0;
-    while i < 16 {
+    while i < CONNECTIONS {
         connections[i] = read_connection(table, i);
         i += 1;
     }
@@ -160,8 +146,8 @@ fn read_connections(table: &[u8]) -> [Connection; 16]
 
 // The numbers of the table that the bytes hold.
 pub fn read_values(table: &[u8]) -> Values
-    requires { ⌜ 3796 ≤ length (now table) ⌝ }
-    ensures { λ r. ⌜ r ≡ valuesOf (tableOf 16 (now (table .entry))) ⌝ }
+    requires { ⌜ tableSize connectionCount ≤ length (now table) ⌝ }
+    ensures { λ r. ⌜ r ≡ valuesOf (tableOf connectionCount (now (table .entry))) ⌝ }
 {
     let last = last(table);
     let connections = read_connections(table);
@@ -173,17 +159,4 @@ pub fn read_values(table: &[u8]) -> Values
         able: able,
         rows: rows,
     }
-}
-
-// Lays the numbers over the table; its texts stay.
-pub fn write_values(table: &mut [u8], v: Values)
-    requires { ⌜ 3796 ≤ length (now table) ⌝ }
-    ensures { λ _. ⌜ now (table .exit) ≡ put 0 (numberBytes v) (put 3748 (connectionBytes v) (now (table .entry))) ⌝ }
-{
-    let connections = v.connections;
-    writing::write_connections(table, connections);
-    let able = v.able;
-    writing::write_head(table, v.last, able);
-    let rows = v.rows;
-    writing::write_rows(table, rows);
 }

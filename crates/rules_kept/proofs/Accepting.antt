@@ -13,8 +13,9 @@ use Rattle.octets.proofs.Strings.{and-left, and-right, and-both, same-refl}
 use Rattle.packet.specs.Layout.{function, unique}
 use Rattle.packet.specs.Arguments.{fits}
 use Rattle.server.specs.declared.JobRow.{JobRow}
-use Rattle.server.specs.Table.{Function, Job, Table, noFunction, noJob, functionAt, jobAt, setFunction, live, roomFor, joins, joined}
-use Rattle.server.specs.Events.{submittedBy, newJob, named, accepted}
+use Rattle.server.specs.Sizes.{uniqueSize}
+use Rattle.server.specs.Table.{Function, Job, Table, noFunction, noJob, functionAt, jobAt, setFunction, live, roomFor, joins, joined, freshRow, withName}
+use Rattle.server.specs.Events.{submittedBy, newJob, accepted}
 use Rattle.server.specs.Rules.{textWithin, together, isOpen, onlyOpen}
 use Rattle.outcomes.proofs.Searches.{found}
 use Rattle.rules_kept.proofs.Rows.{clash, all-at, all-row}
@@ -36,7 +37,7 @@ pub submitted-keeps : (c : ℕ) (b : Bool) (r : JobRow) → Kept r (submittedBy 
 submitted-keeps c true r = record { serial = refl; function = refl; priority = refl; holder = refl; size = refl }
 submitted-keeps c false r = record { serial = refl; function = refl; priority = refl; holder = refl; size = refl }
 
-unique-within : (u : Bytes) → fits unique u ≡ true → textWithin 64 u ≡ true
+unique-within : (u : Bytes) → fits unique u ≡ true → textWithin uniqueSize u ≡ true
 unfolding fits
 unique-within u e = and-both (leb (length u) 64) (zeroFree u) (and-right (leb 0 (length u)) _ (and-left (within 0 64 (length u)) (zeroFree u) e)) (and-right (within 0 64 (length u)) (zeroFree u) e)
 
@@ -45,13 +46,13 @@ module _ (c : ℕ) (t : Table) (inside : c < length (t .connections)) (opened : 
     (alone : joined t f u ≡ none) (here : roomFor (t .functions) f ≡ some q) (h : Sound t) where
   -- the function's place, and the table with its name there
   abbrev place : Function
-  place = named f (functionAt t q)
+  place = withName f (functionAt t q)
 
-  abbrev withName : Table
-  withName = setFunction t q place
+  abbrev tableNamed : Table
+  tableNamed = setFunction t q place
 
   abbrev bare : JobRow
-  bare = record { serial = suc (t .last); function = q; priority = priority; background = false; listeners = 0; holder = 0; size = size }
+  bare = freshRow (suc (t .last)) q priority size
 
   abbrev new : Job
   new = newJob c priority background q u size (suc (t .last))
@@ -65,10 +66,10 @@ module _ (c : ℕ) (t : Table) (inside : c < length (t .connections)) (opened : 
   abilities-open : onlyOpen t (functionAt t q .able) ≡ true
   abilities-open = all-row (λ x. onlyOpen t (x .able)) (t .functions) q noFunction (h .abilities) (none-open t)
 
-  sound-named : Sound withName
+  sound-named : Sound tableNamed
   sound-named = sound-name t f q place space refl (g .function) abilities-open h
 
-  new-name : functionAt withName (new .row .function) .name ≡ f
+  new-name : functionAt tableNamed (new .row .function) .name ≡ f
   new-name = rw (keeps .function) (room-name t f q place space refl (g .function) abilities-open h)
 
   -- a job of this function has this very name
@@ -89,19 +90,19 @@ module _ (c : ℕ) (t : Table) (inside : c < length (t .connections)) (opened : 
   new-listeners true = none-open t
   new-listeners false = open-insert t 0 c inside opened (none-open t)
 
-  new-means : rowMeans withName new ≡ true
+  new-means : rowMeans tableNamed new ≡ true
   new-means =
       let l : live (new .row) ≡ true = rw (keeps .serial) (ap not (eqb·suc-zero (t .last))) in
       rw l (and-both (leb (new .row .priority) 2) _ (rw (keeps .priority) (le-leb priority 2 (g .low)))
       (and-both (ltb (new .row .function) (length (set (t .functions) q place))) _ (rw (keeps .function, length-set (t .functions) q place) (lt-ltb q (length (t .functions)) (space .inside)))
       (rw (keeps .holder) (leb·zero (length (t .connections))))))
 
-  is-new : New withName new
+  is-new : New tableNamed new
   unfolding every
   is-new =
       record {
         serial = keeps .serial;
-        texts = and-both (textWithin 64 u) true (unique-within u (g .unique)) refl;
+        texts = and-both (textWithin uniqueSize u) true (unique-within u (g .unique)) refl;
         sizes = rw (new-name, keeps .size) (le-leb (length f + length u + size) 1022 (g .together));
         means = new-means;
         listeners = new-listeners background;
@@ -111,4 +112,4 @@ module _ (c : ℕ) (t : Table) (inside : c < length (t .connections)) (opened : 
       }
 
   pub sound-accepted : t .last < 4294967295 → Sound (accepted q f p new t)
-  sound-accepted l = sound-new withName p new l is-new sound-named
+  sound-accepted l = sound-new tableNamed p new l is-new sound-named

@@ -13,7 +13,7 @@ use Rattle.octets.proofs.Strings.{and-left, and-right, same-is}
 use Rattle.sets.specs.Sets.{isEmpty}
 use Rattle.server.specs.declared.Connection.{Connection}
 use Rattle.server.specs.Lists.{any, all, filter, mapFrom, numbers}
-use Rattle.server.specs.Table.{Function, Job, Table, closed, noFunction, connectionAt, queued, wanted, grabbable}
+use Rattle.server.specs.Table.{Function, Job, Table, closed, noFunction, connectionAt, queued, wanted, grabbable, withConnections, withFunctions, withJobs}
 use Rattle.server.specs.Events.{Send, Decision, settle, unlessLost, dropped, wakes, awake, woken, toWake, forgot}
 use Rattle.server.specs.Rules.{implies, isKnown, asDefined, functionsAsDefined, queuedAwaited, sleeperIdle, sleepersIdleFrom, sleepersIdle, obeys}
 use Rattle.rules_kept.proofs.Rows.{clash, or-false}
@@ -35,7 +35,7 @@ rows-stay (j ∷ js) e =
 
 pub drops-none : (t : Table) → queuedAwaited t ≡ true → dropped t ≡ t
 unfolding dropped
-drops-none t e = ap (λ (js : List Job). record { last = t .last; connections = t .connections; functions = t .functions; jobs = js }) (rows-stay (t .jobs) e)
+drops-none t e = ap (λ (js : List Job). withJobs js t) (rows-stay (t .jobs) e)
 
 -- ---- nobody is woken
 
@@ -54,7 +54,7 @@ all-sleep-on t i (x ∷ cs) e =
 
 pub wakes-nobody : (t : Table) → sleepersIdle t ≡ true → woken t ≡ t
 unfolding woken
-wakes-nobody t e = ap (λ (cs : List Connection). record { last = t .last; connections = cs; functions = t .functions; jobs = t .jobs }) (all-sleep-on t 0 (t .connections) e)
+wakes-nobody t e = ap (λ (cs : List Connection). withConnections cs t) (all-sleep-on t 0 (t .connections) e)
 
 -- a sleeper has no grabbable job, by its number
 idle-from-at : (t : Table) (i : ℕ) (cs : List Connection) (k : ℕ) → sleepersIdleFrom t i cs ≡ true → k < length cs → sleeperIdle t (i + k) (getD cs k closed) ≡ true
@@ -116,7 +116,7 @@ places-stay js i (x ∷ fs) e =
 
 pub forgets-none : (t : Table) → functionsAsDefined t ≡ true → forgot t ≡ t
 unfolding forgot
-forgets-none t e = ap (λ (fs : List Function). record { last = t .last; connections = t .connections; functions = fs; jobs = t .jobs }) (places-stay (t .jobs) 0 (t .functions) e)
+forgets-none t e = ap (λ (fs : List Function). withFunctions fs t) (places-stay (t .jobs) 0 (t .functions) e)
 
 -- ---- all together
 

@@ -13,20 +13,20 @@ use Rattle.octets.specs.Bytes.{same, every}
 use Rattle.octets.proofs.Strings.{and-left, and-right}
 use Rattle.sets.proofs.Laws.{zero-remove}
 use Rattle.server.specs.declared.Connection.{Connection}
-use Rattle.server.specs.Table.{Job, Table, closed, noJob, withRow, withTexts, withHolder, live, heldBy}
+use Rattle.server.specs.Table.{Job, Table, closed, noJob, withRow, withTexts, withHolder, live, heldBy, withFunctions, withJobs, withListeners, noRow}
 use Rattle.server.specs.Events.{closing, unable, deafTo, leftBy}
 use Rattle.server.specs.Rules.{isOpen, onlyOpen, holderOpen}
 use Rattle.outcomes.proofs.Cases.{cond-cases, cond-both, all2-map}
 use Rattle.rules_kept.proofs.Rows.{clash, all-both, all-map, all-set}
 use Rattle.rules_kept.proofs.Openness.{open-remove, open-without}
-use Rattle.rules_kept.proofs.Sound.{Sound, rowMeans, free-none, sound-connections, withFunctions}
-use Rattle.rules_kept.proofs.Jobs.{withJobs, storedBoth, Still, Goes, on, sound-jobs}
+use Rattle.rules_kept.proofs.Sound.{Sound, rowMeans, free-none, sound-connections}
+use Rattle.rules_kept.proofs.Jobs.{storedBoth, Still, Goes, on, sound-jobs}
 use Rattle.rules_kept.proofs.Functions.{Less, less-unable, sound-less}
 use Rattle.rules_kept.proofs.Going.{live-means}
 
 -- an empty place stays empty
 pub left-none : (c : ℕ) → leftBy c noJob ≡ noJob
-left-none c = ap (λ (s : ℕ). withRow (record { serial = 0; function = 0; priority = 0; background = false; listeners = s; holder = 0; size = 0 }) noJob) (zero-remove c)
+left-none c = ap (λ (s : ℕ). withRow (withListeners s noRow) noJob) (zero-remove c)
 
 module _ (t : Table) (c : ℕ) where
   left-means : (j : Job) → rowMeans t j ≡ true → rowMeans t (leftBy c j) ≡ true
@@ -80,9 +80,9 @@ sound-closing c t h =
     let u = closing c t in
     let long = length-set (t .connections) c closed in
     let others : (x : ℕ) → x ≢ c → isOpen u x ≡ isOpen t x = λ x d. ap (λ (y : Connection). y .opened) (getD-set-other (t .connections) c x closed closed d) in
-    let t₁ = withJobs t (map (leftBy c) (t .jobs)) in
+    let t₁ = withJobs (map (leftBy c) (t .jobs)) t in
     let h₁ : Sound t₁ = sound-jobs t (all2-map (Goes t) (leftBy c) (λ j. on (still-left t c j)) (t .jobs)) h in
-    let t₂ = withFunctions t₁ (map (unable c) (t .functions)) in
+    let t₂ = withFunctions (map (unable c) (t .functions)) t₁ in
     let h₂ : Sound t₂ = sound-less t₁ (all2-map (Less t₁) (unable c) (less-unable t₁ c) (t .functions)) h₁ in
     sound-connections t₂ (set (t .connections) c closed) long
     (all-map (λ x. onlyOpen t (x .able)) _ (unable c) (λ x e. open-without t u long c others (x .able) e) (t .functions) (h .abilities))

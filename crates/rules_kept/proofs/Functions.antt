@@ -17,14 +17,15 @@ use Rattle.packet.specs.Arguments.{fits}
 use Rattle.sets.specs.Sets.{isEmpty}
 use Rattle.sets.proofs.Laws.{zero-remove}
 use Rattle.server.specs.Lists.{all, pairwise}
-use Rattle.server.specs.Table.{Function, Table, noFunction, noJob, functionAt, jobAt, setFunction, live, known, orElse, roomFor}
+use Rattle.server.specs.Sizes.{nameSize}
+use Rattle.server.specs.Table.{Function, Table, noFunction, noJob, functionAt, jobAt, setFunction, live, known, orElse, roomFor, withFunctions}
 use Rattle.server.specs.Events.{unable}
 use Rattle.server.specs.Rules.{textWithin, isKnown, namesApart, onlyOpen}
 use Rattle.outcomes.proofs.Cases.{All2, all2-set, all2-at}
 use Rattle.outcomes.proofs.Searches.{found}
 use Rattle.rules_kept.proofs.Rows.{clash, never, implies-by, implies-use, or-right, all-at, all-imp, all-kept, all-set, pairwise-kept, pairwise-set}
 use Rattle.rules_kept.proofs.Openness.{open-remove}
-use Rattle.rules_kept.proofs.Sound.{Sound, jobNamed, withFunctions, sound-functions}
+use Rattle.rules_kept.proofs.Sound.{Sound, jobNamed, sound-functions}
 
 -- ---- fewer abilities
 
@@ -53,7 +54,7 @@ length-all2 (All2.more r rs) = ap suc (length-all2 rs)
 pub job-known : (t : Table) → Sound t → (i : ℕ) → i < length (t .jobs) → live (jobAt t i .row) ≡ true → isKnown (functionAt t (jobAt t i .row .function)) ≡ true
 job-known t h i l e = implies-use (live (jobAt t i .row)) _ (all-at (jobNamed t) (t .jobs) i noJob (h .jobsKnown) l) e
 
-pub sound-less : (t : Table) {fs : List Function} → All2 (Less t) (t .functions) fs → Sound t → Sound (withFunctions t fs)
+pub sound-less : (t : Table) {fs : List Function} → All2 (Less t) (t .functions) fs → Sound t → Sound (withFunctions fs t)
 sound-less t {fs} g h =
     sound-functions t fs (length-all2 g)
     (λ i l e. all2-at {R = Less t} g (jobAt t i .row .function) noFunction noFunction (less-same t noFunction) .name)
@@ -89,7 +90,7 @@ room t f q e = go (known (t .functions) f) refl e
         record { inside = w .inside; place = free (same-is _ [] (w .passes)) (found (λ x. same (x .name) f) noFunction (t .functions) none r) }
 
 -- a name of a request's size is one of a known function
-pub name-within : (f : Bytes) → fits function f ≡ true → textWithin 32 f ≡ true
+pub name-within : (f : Bytes) → fits function f ≡ true → textWithin nameSize f ≡ true
 unfolding fits
 name-within f e = and-both (leb (length f) 32) (zeroFree f) (and-right (leb 1 (length f)) _ (and-left (within 1 32 (length f)) (zeroFree f) e)) (and-right (within 1 32 (length f)) (zeroFree f) e)
 

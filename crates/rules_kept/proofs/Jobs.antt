@@ -10,15 +10,13 @@ use lib.Dec.{leb, eqb, leb·zero}
 use Rattle.octets.specs.Bytes.{same}
 use Rattle.octets.proofs.Strings.{and-left, and-right, and-both, same-is}
 use Rattle.server.specs.Lists.{all}
-use Rattle.server.specs.Table.{Job, Table, noJob, functionAt, jobAt, live}
+use Rattle.server.specs.Sizes.{uniqueSize}
+use Rattle.server.specs.Table.{Job, Table, noJob, functionAt, jobAt, live, withLastSerial, withJobs, setJob}
 use Rattle.server.specs.Rules.{implies, serialsBelow, serialsApart, textWithin, storedNumber, together, isKnown, onlyOpen, holderOpen, uniquesApart}
 use Rattle.outcomes.proofs.Cases.{All2}
 use Rattle.rules_kept.proofs.Rows.{implies-by, implies-use, or-right, all-by, all-imp, all-kept, all-set, pairwise-kept, pairwise-set}
 use Rattle.rules_kept.proofs.Openness.{none-open, holder-more}
 use Rattle.rules_kept.proofs.Sound.{Sound, jobNamed, rowMeans, none-together}
-
-abbrev pub withJobs : Table → List Job → Table
-withJobs t js = record { last = t .last; connections = t .connections; functions = t .functions; jobs = js }
 
 abbrev pub storedBoth : Job → Bool
 storedBoth j = storedNumber (j .numerator) && storedNumber (j .denominator)
@@ -63,12 +61,12 @@ uniques-go t j k x y over q e = refl
 uniques-go t j k x y (on s) over e = neither (live (x .row))
 uniques-go t j k x y (on s) (on r) e = rw (s .serial, r .serial, s .function, r .function, s .unique, r .unique) e
 
-texts-go : (t : Table) (j k : Job) → Goes t j k → implies (live (j .row)) (textWithin 64 (j .unique) && storedBoth j) ≡ true → implies (live (k .row)) (textWithin 64 (k .unique) && storedBoth k) ≡ true
+texts-go : (t : Table) (j k : Job) → Goes t j k → implies (live (j .row)) (textWithin uniqueSize (j .unique) && storedBoth j) ≡ true → implies (live (k .row)) (textWithin uniqueSize (k .unique) && storedBoth k) ≡ true
 texts-go t j k over e = refl
 texts-go t j k (on s) e =
     implies-by (live (k .row)) _ (λ l.
     let a = implies-use (live (j .row)) _ e (ap (λ (n : ℕ). not (eqb n 0)) (sym (s .serial)) ∙ l) in
-    and-both (textWithin 64 (k .unique)) (storedBoth k) (rw (s .unique) (and-left (textWithin 64 (j .unique)) (storedBoth j) a)) (s .texts (and-right (textWithin 64 (j .unique)) (storedBoth j) a)))
+    and-both (textWithin uniqueSize (k .unique)) (storedBoth k) (rw (s .unique) (and-left (textWithin uniqueSize (j .unique)) (storedBoth j) a)) (s .texts (and-right (textWithin uniqueSize (j .unique)) (storedBoth j) a)))
 
 sizes-go : (t : Table) (j k : Job) → Goes t j k → leb (together t noJob) 1022 ≡ true → leb (together t j) 1022 ≡ true → leb (together t k) 1022 ≡ true
 sizes-go t j k over n e = n
@@ -91,7 +89,7 @@ named-goes : (t : Table) (j k : Job) → Goes t j k → jobNamed t j ≡ true �
 named-goes t j k over e = refl
 named-goes t j k (on s) e = rw (s .serial, s .function) e
 
-pub sound-jobs : (t : Table) {ks : List Job} → All2 (Goes t) (t .jobs) ks → Sound t → Sound (withJobs t ks)
+pub sound-jobs : (t : Table) {ks : List Job} → All2 (Goes t) (t .jobs) ks → Sound t → Sound (withJobs ks t)
 sound-jobs t {ks} g h =
     record {
       small = h .small;
@@ -104,7 +102,7 @@ sound-jobs t {ks} g h =
       functions = h .functions;
       abilities = h .abilities;
       listeners = all-kept _ _ (listeners-go t) g (h .listeners);
-      holders = all-kept _ _ (λ j k s e. holder-more t (withJobs t ks) (λ c o. o) (k .row .holder) (holders-go t j k s e)) g (h .holders);
+      holders = all-kept _ _ (λ j k s e. holder-more t (withJobs ks t) (λ c o. o) (k .row .holder) (holders-go t j k s e)) g (h .holders);
       clear = h .clear;
       uniques = pairwise-kept uniquesApart (uniques-go t) g (h .uniques);
       jobsKnown = all-kept _ _ (named-goes t) g (h .jobsKnown);
@@ -139,7 +137,7 @@ turned {j} {k} w = record { first = w .second; second = w .first; unique = sym (
 -- what a new job brings into a table that has its function
 pub record New (t : Table) (j : Job) : Type 0 where
   pub serial : j .row .serial ≡ suc (t .last)
-  pub texts : textWithin 64 (j .unique) && storedBoth j ≡ true
+  pub texts : textWithin uniqueSize (j .unique) && storedBoth j ≡ true
   pub sizes : leb (together t j) 1022 ≡ true
   pub means : rowMeans t j ≡ true
   pub listeners : onlyOpen t (j .row .listeners) ≡ true
@@ -148,7 +146,7 @@ pub record New (t : Table) (j : Job) : Type 0 where
   pub alone : (i : ℕ) → i < length (t .jobs) → Twin j (jobAt t i) → ⊥
 
 abbrev pub withNew : Table → ℕ → Job → Table
-withNew t p j = record { last = suc (t .last); connections = t .connections; functions = t .functions; jobs = set (t .jobs) p j }
+withNew t p j = withLastSerial (suc (t .last)) (setJob t p j)
 
 -- what is true of a job whose serial has been given out is true of all
 given-out : (t : Table) (q : Job → Bool) → ((k : Job) → k .row .serial ≤ t .last → q k ≡ true) → serialsBelow t ≡ true → all q (t .jobs) ≡ true

@@ -15,7 +15,7 @@ use Rattle.octets.proofs.Strings.{and-left, and-right, and-both}
 use Rattle.sets.specs.Sets.{has, insert, remove}
 use Rattle.sets.proofs.Laws.{has-insert-other, has-remove-same, has-remove-other, has-above, insert-below, remove-le, zero-has}
 use Rattle.server.specs.declared.Connection.{Connection}
-use Rattle.server.specs.Table.{Table, closed}
+use Rattle.server.specs.Table.{Table, closed, withConnections}
 use Rattle.server.specs.Rules.{implies, isOpen, onlyOpen, holderOpen}
 use Rattle.rules_kept.proofs.Rows.{clash, implies-by, implies-use, below-at, below-by, row-set}
 
@@ -69,9 +69,6 @@ open-remove t s c e = only-open t (remove s c) (record { small = omega (arith, r
 -- ---- other connections
 
 -- the table with these connections
-abbrev pub withConnections : Table → List Connection → Table
-withConnections t cs = record { last = t .last; connections = cs; functions = t .functions; jobs = t .jobs }
-
 pub holder-more : (t u : Table) → ((c : ℕ) → isOpen t c ≡ true → isOpen u c ≡ true) → (h : ℕ) → holderOpen t h ≡ true → holderOpen u h ≡ true
 holder-more t u more zero e = refl
 holder-more t u more (suc c) e = more c e
@@ -93,5 +90,5 @@ module _ (t u : Table) (long : length (u .connections) ≡ length (t .connection
       go x (no n) g = others x n ∙ a .opened x (sym (has-remove-other s c x n) ∙ g)
 
 -- a connection's row anew, if it is open afterwards
-pub still-open : (t : Table) (c : ℕ) (x : Connection) → x .opened ≡ true → (k : ℕ) → isOpen t k ≡ true → isOpen (withConnections t (set (t .connections) c x)) k ≡ true
+pub still-open : (t : Table) (c : ℕ) (x : Connection) → x .opened ≡ true → (k : ℕ) → isOpen t k ≡ true → isOpen (withConnections (set (t .connections) c x) t) k ≡ true
 still-open t c x o k e = row-set (λ (y : Connection). y .opened ≡ true) (t .connections) c x k closed o e

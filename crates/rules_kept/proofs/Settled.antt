@@ -13,6 +13,7 @@ use Rattle.sets.specs.Sets.{has, isEmpty}
 use Rattle.sets.proofs.Laws.{zero-has}
 use Rattle.server.specs.declared.Connection.{Connection}
 use Rattle.server.specs.Lists.{any}
+use Rattle.server.specs.Sizes.{nameSize}
 use Rattle.server.specs.Table.{Function, Job, Table, closed, noFunction, noJob, connectionAt, functionAt, jobAt, live, queued, able, names, wanted, grabbable}
 use Rattle.server.specs.Events.{lost, unlessLost, dropped, wakes, awake, woken, forgot}
 use Rattle.server.specs.Rules.{implies, textWithin, isKnown, namesApart, asDefined, functionsAsDefined, isOpen, onlyOpen, queuedAwaited, sleeperIdle, sleepersIdleFrom, sleepersIdle}
@@ -110,7 +111,7 @@ sound-forgot t h =
     let g : All2 Forgets (t .functions) (forgot t .functions) = all2-mapFrom Forgets (forget t) (λ q x. cond-both (Forgets x) (wanted (t .jobs) q x) kept gone) 0 (t .functions) in
     sound-functions t (forgot t .functions) (length-mapFrom (forget t) 0 (t .functions))
     (λ i l e. ap (λ (x : Function). x .name) (stays t (jobAt t i .row .function) (job-wants t i (functionAt t (jobAt t i .row .function)) l e)))
-    (all-kept _ _ (λ x y r. forgets-all (λ (z : Function). textWithin 32 (z .name) ≡ true) r refl) g (h .names))
+    (all-kept _ _ (λ x y r. forgets-all (λ (z : Function). textWithin nameSize (z .name) ≡ true) r refl) g (h .names))
     (pairwise-kept namesApart names-forgot g (h .functions))
     (all-kept _ _ (λ x y r. forgets-all (λ (z : Function). onlyOpen t (z .able) ≡ true) r (none-open t)) g (h .abilities))
     (all-kept _ _ (λ x y r. forgets-all (λ (z : Function). implies (not (isEmpty (z .able))) (isKnown z) ≡ true) r refl) g (h .ablesKnown))

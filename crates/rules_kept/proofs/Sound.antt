@@ -13,10 +13,11 @@ use Rattle.octets.proofs.Strings.{and-left, and-right, same-is}
 use Rattle.sets.specs.Sets.{isEmpty}
 use Rattle.server.specs.declared.Connection.{Connection}
 use Rattle.server.specs.Lists.{all}
-use Rattle.server.specs.Table.{Function, Job, Table, noFunction, noJob, functionAt, jobAt, live}
+use Rattle.server.specs.Sizes.{nameSize}
+use Rattle.server.specs.Table.{Function, Job, Table, noFunction, noJob, functionAt, jobAt, live, withConnections, withFunctions}
 use Rattle.server.specs.Rules.{implies, nextSmall, serialsBelow, serialsDistinct, textWithin, namesWithin, textsWithin, together, sizesWithin, rowIsFree, rowHasMeaning, rowsHaveMeaning, isKnown, functionsDistinct, abilitiesOpen, listenersOpen, holdersOpen, closedClear, uniquesDistinct}
 use Rattle.rules_kept.proofs.Rows.{implies-by, implies-use, all-at, all-row, all-by, all-imp}
-use Rattle.rules_kept.proofs.Openness.{withConnections, holder-more}
+use Rattle.rules_kept.proofs.Openness.{holder-more}
 
 -- a live job's function has a name
 abbrev pub jobNamed : Table → Job → Bool
@@ -52,7 +53,7 @@ pub record Sound (t : Table) : Type 0 where
 
 -- ---- connections anew
 
-pub sound-connections : (t : Table) (cs : List Connection) → let u = withConnections t cs in
+pub sound-connections : (t : Table) (cs : List Connection) → let u = withConnections cs t in
     length cs ≡ length (t .connections) → abilitiesOpen u ≡ true → listenersOpen u ≡ true → holdersOpen u ≡ true → closedClear u ≡ true → Sound t → Sound u
 sound-connections t cs long a l o c h =
     record {
@@ -74,9 +75,6 @@ sound-connections t cs long a l o c h =
     }
 
 -- ---- functions anew
-
-abbrev pub withFunctions : Table → List Function → Table
-withFunctions t fs = record { last = t .last; connections = t .connections; functions = fs; jobs = t .jobs }
 
 -- a row without a job is zero throughout
 pub free-none : (j : Job) → live (j .row) ≡ false → rowIsFree j ≡ true → j ≡ noJob
@@ -113,28 +111,28 @@ none-together t n =
     le-leb (length (functionAt t 0 .name) + 0 + 0) 1022 (omega (
       arith,
       leb-true (length (functionAt t 0 .name)) 32 (and-left (leb (length (functionAt t 0 .name)) 32) _
-          (all-row (λ x. textWithin 32 (x .name)) (t .functions) 0 noFunction n refl)),
+          (all-row (λ x. textWithin nameSize (x .name)) (t .functions) 0 noFunction n refl)),
     ))
 
 module _ (t : Table) (fs : List Function) (long : length fs ≡ length (t .functions)) where
   -- the functions of unfinished jobs keep their names
   abbrev pub NamesStay : Type 0
-  NamesStay = (i : ℕ) → i < length (t .jobs) → live (jobAt t i .row) ≡ true → functionAt (withFunctions t fs) (jobAt t i .row .function) .name ≡ functionAt t (jobAt t i .row .function) .name
+  NamesStay = (i : ℕ) → i < length (t .jobs) → live (jobAt t i .row) ≡ true → functionAt (withFunctions fs t) (jobAt t i .row .function) .name ≡ functionAt t (jobAt t i .row .function) .name
 
-  sizes-stay : NamesStay → Sound t → namesWithin (withFunctions t fs) ≡ true → sizesWithin (withFunctions t fs) ≡ true
-  sizes-stay s h n = all-by (λ j. leb (together (withFunctions t fs) j) 1022) (t .jobs) noJob (λ i l. go i l (live (jobAt t i .row)) refl)
+  sizes-stay : NamesStay → Sound t → namesWithin (withFunctions fs t) ≡ true → sizesWithin (withFunctions fs t) ≡ true
+  sizes-stay s h n = all-by (λ j. leb (together (withFunctions fs t) j) 1022) (t .jobs) noJob (λ i l. go i l (live (jobAt t i .row)) refl)
     where
-      go : (i : ℕ) → i < length (t .jobs) → (b : Bool) → live (jobAt t i .row) ≡ b → leb (together (withFunctions t fs) (jobAt t i)) 1022 ≡ true
+      go : (i : ℕ) → i < length (t .jobs) → (b : Bool) → live (jobAt t i .row) ≡ b → leb (together (withFunctions fs t) (jobAt t i)) 1022 ≡ true
       go i l true e = rw (s i l e) (all-at (λ j. leb (together t j) 1022) (t .jobs) i noJob (h .sizes) l)
       go i l false e =
           let m : rowIsFree (jobAt t i) ≡ true = rw e at (all-at (rowMeans t) (t .jobs) i noJob (h .rows) l) in
-          subst (λ (j : Job). leb (together (withFunctions t fs) j) 1022 ≡ true) (sym (free-none (jobAt t i) e m)) (none-together (withFunctions t fs) n)
+          subst (λ (j : Job). leb (together (withFunctions fs t) j) 1022 ≡ true) (sym (free-none (jobAt t i) e m)) (none-together (withFunctions fs t) n)
 
-  jobs-stay : NamesStay → Sound t → jobsNamed (withFunctions t fs) ≡ true
-  jobs-stay s h = all-by (jobNamed (withFunctions t fs)) (t .jobs) noJob (λ i l. implies-by (live (jobAt t i .row)) _ (λ e.
+  jobs-stay : NamesStay → Sound t → jobsNamed (withFunctions fs t) ≡ true
+  jobs-stay s h = all-by (jobNamed (withFunctions fs t)) (t .jobs) noJob (λ i l. implies-by (live (jobAt t i .row)) _ (λ e.
       rw (s i l e) (implies-use (live (jobAt t i .row)) _ (all-at (jobNamed t) (t .jobs) i noJob (h .jobsKnown) l) e)))
 
-  pub sound-functions : NamesStay → let u = withFunctions t fs in
+  pub sound-functions : NamesStay → let u = withFunctions fs t in
       namesWithin u ≡ true → functionsDistinct u ≡ true → abilitiesOpen u ≡ true → ablesNamed u ≡ true → Sound t → Sound u
   sound-functions s n f a k h =
       record {
@@ -148,7 +146,7 @@ module _ (t : Table) (fs : List Function) (long : length fs ≡ length (t .funct
         functions = f;
         abilities = a;
         listeners = h .listeners;
-        holders = all-imp _ _ (λ j e. holder-more t (withFunctions t fs) (λ c o. o) (j .row .holder) e) (t .jobs) (h .holders);
+        holders = all-imp _ _ (λ j e. holder-more t (withFunctions fs t) (λ c o. o) (j .row .holder) e) (t .jobs) (h .holders);
         clear = h .clear;
         uniques = h .uniques;
         jobsKnown = jobs-stay s h;

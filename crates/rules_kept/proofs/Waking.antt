@@ -16,9 +16,9 @@ use Rattle.sets.specs.Sets.{has, insert}
 use Rattle.sets.proofs.Laws.{has-insert-same, nonempty}
 use Rattle.server.specs.declared.JobRow.{JobRow}
 use Rattle.server.specs.Lists.{any, filter, numbers}
-use Rattle.server.specs.Table.{Function, Job, Table, noFunction, noJob, connectionAt, functionAt, jobAt, live, queued, able, grabbable, roomFor, freePlace, joined}
+use Rattle.server.specs.Table.{Function, Job, Table, noFunction, noJob, connectionAt, functionAt, jobAt, live, queued, able, grabbable, roomFor, freePlace, joined, withName, freshRow}
 use Rattle.server.specs.Asked.{submit}
-use Rattle.server.specs.Events.{settle, lost, unlessLost, dropped, wakes, toWake, noop, submittedBy, created, newJob, named, accepted, submitNew, submitTo, served}
+use Rattle.server.specs.Events.{settle, lost, unlessLost, dropped, wakes, toWake, noop, submittedBy, created, newJob, accepted, submitNew, submitTo, served}
 use Rattle.server.specs.Rules.{obeys}
 use Rattle.outcomes.proofs.Cases.{cond-cases}
 use Rattle.outcomes.proofs.Searches.{found}
@@ -31,7 +31,7 @@ use Rattle.rules_kept.proofs.AtRest.{sleeps-on, choose-same}
 module _ (c : ℕ) (t : Table) (priority : ℕ) (background : Bool) (f u : Bytes) (size q p : ℕ)
     (here : roomFor (t .functions) f ≡ some q) (free : freePlace t ≡ some p) (h : obeys t ≡ true) where
   abbrev bare : JobRow
-  bare = record { serial = suc (t .last); function = q; priority = priority; background = false; listeners = 0; holder = 0; size = size }
+  bare = freshRow (suc (t .last)) q priority size
 
   abbrev new : Job
   new = newJob c priority background q u size (suc (t .last))
@@ -59,8 +59,8 @@ module _ (c : ℕ) (t : Table) (priority : ℕ) (background : Bool) (f u : Bytes
   able-same k x = ap (λ (s : ℕ). has s x) (go (ℕ-discrete k q))
     where
       go : Dec (k ≡ q) → functionAt after k .able ≡ functionAt t k .able
-      go (yes e) = rw e (ap (λ (y : Function). y .able) (getD-set-same (t .functions) q (named f (functionAt t q)) noFunction (room t f q here .inside)))
-      go (no d) = ap (λ (y : Function). y .able) (getD-set-other (t .functions) q k (named f (functionAt t q)) noFunction d)
+      go (yes e) = rw e (ap (λ (y : Function). y .able) (getD-set-same (t .functions) q (withName f (functionAt t q)) noFunction (room t f q here .inside)))
+      go (no d) = ap (λ (y : Function). y .able) (getD-set-other (t .functions) q k (withName f (functionAt t q)) noFunction d)
 
   row-after : (i : ℕ) → jobAt (dropped after) i ≡ unlessLost (jobAt after i)
   unfolding dropped

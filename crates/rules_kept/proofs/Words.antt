@@ -16,7 +16,7 @@ use Rattle.sets.specs.Sets.{isEmpty, remove}
 use Rattle.server.specs.declared.Connection.{Connection}
 use Rattle.server.specs.declared.JobRow.{JobRow}
 use Rattle.server.specs.Lists.{any, filter, numbers}
-use Rattle.server.specs.Table.{Job, Table, closed, noJob, connectionAt, jobAt, live, queued, heldBy, grabbable}
+use Rattle.server.specs.Table.{Job, Table, closed, noJob, connectionAt, jobAt, live, queued, heldBy, grabbable, withConnections, withAsleep}
 use Rattle.server.specs.Asked.{preSleep, toClose}
 use Rattle.server.specs.Events.{settle, lost, unlessLost, dropped, wakes, woken, toWake, forgot, noop, closing, leftBy, sleeping, served}
 use Rattle.server.specs.Rules.{sleeperIdle, obeys}
@@ -52,7 +52,7 @@ module _ (t : Table) (c : ℕ) (inside : c < length (t .connections)) (h : obeys
   asked = sleeping true c t
 
   abbrev sleeper : Connection
-  sleeper = record { opened = connectionAt t c .opened; asleep = true; exceptions = connectionAt t c .exceptions }
+  sleeper = withAsleep true (connectionAt t c)
 
   at-asker : connectionAt asked c ≡ sleeper
   unfolding sleeping
@@ -88,13 +88,13 @@ module _ (t : Table) (c : ℕ) (inside : c < length (t .connections)) (h : obeys
 
     row-again : (k : ℕ) → k < length (t .connections) → Dec (k ≡ c) → rouse asked k (connectionAt asked k) ≡ connectionAt t k
     unfolding sleeping
-    row-again k l (yes i) = rw (i, at-asker, w) (λ x. record { opened = connectionAt t c .opened; asleep = sym was-awake x; exceptions = connectionAt t c .exceptions })
+    row-again k l (yes i) = rw (i, at-asker, w) (λ x. withAsleep (sym was-awake x) (connectionAt t c))
     row-again k l (no d) = rw (at-other k d, sleeps-on t (obeyed t h .idle) k l)
 
     as-before : woken asked ≡ t
     unfolding woken sleeping
     as-before =
-        ap (λ (cs : List Connection). record { last = t .last; connections = cs; functions = t .functions; jobs = t .jobs })
+        ap (λ (cs : List Connection). withConnections cs t)
         (ext-getD closed (woken asked .connections) (t .connections) long (λ k l. woken-at asked k ∙ row-again k (rw long at l) (ℕ-discrete k c)))
       where
         long : length (woken asked .connections) ≡ length (t .connections)

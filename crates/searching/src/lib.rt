@@ -1,5 +1,7 @@
 // Tests of a job's row by value, the connections able to do a function, and the job with a serial among all rows. No row is refused.
 use plans::Place;
+use server::FUNCTIONS;
+use server::JOBS;
 use server::JobRow;
 ghost use mathlib.Core.Path.{_≡_};
 ghost use mathlib.Core.Bool.{_&&_};
@@ -30,22 +32,22 @@ fn has_serial(r: JobRow, serial: u32) -> bool
 }
 
 // The connections able to do the function at place q: nobody beyond the last place.
-pub fn able_to(able: [u32; 16], q: u8) -> u32
+pub fn able_to(able: [u32; FUNCTIONS], q: u8) -> u32
     ensures { λ s. ⌜ s ≡ getD able q 0 ⌝ }
 {
     let i = q as usize;
-    if 16 <= i {
+    if FUNCTIONS <= i {
         return 0;
     }
     able[i]
 }
 
 // The place of the unfinished job with this serial.
-pub fn serial_row(rows: [JobRow; 32], serial: u32) -> Place
+pub fn serial_row(rows: [JobRow; JOBS], serial: u32) -> Place
     ensures { λ p. ⌜ p ≡ placed (serialRow serial rows) ⌝ }
 {
     let mut i = 0;
-    while i < 32 {
+    while i < JOBS {
         let r = rows[i];
         if has_serial(r, serial) {
             return Place::At(i);

@@ -1,15 +1,15 @@
 -- The packets that the server makes itself: what the code lays is made of the defined arguments, and they are short.
 -- Assumes nothing.
 use Prim.Native.Nat.{ℕ, zero, suc, _+_, _-_, _/_, _%_, _<_, _≤_}
-use mathlib.Core.Path.{_≡_, refl, _∙_}
-use mathlib.Core.Bool.{Bool, true, false, cond}
+use mathlib.Core.Path.{_≡_, refl, sym, _∙_}
+use mathlib.Core.Bool.{Bool, true, false, not, cond}
 use mathlib.Core.List.{List, [], _∷_, map}
 use native.Mathlib.Nat.{le-of-suc-le-suc, not-suc-le-zero}
 use native.Mathlib.Omega.{arith}
 use borrow.Author.Tests.{leb-true}
 use lib.ListN.{length, getD, take}
 use lib.Seq.{length-take-le}
-use lib.Dec.{T, leb}
+use lib.Dec.{T, eqb, leb}
 use Rattle.octets.specs.Bytes.{Bytes, same, firstZero, zeroFree, every, within}
 use Rattle.octets.proofs.Strings.{and-left, and-right, same-is}
 use Rattle.octets.proofs.Runs.{room-as}
@@ -22,7 +22,8 @@ use Rattle.handle.specs.declared.Handle.{Handle}
 use Rattle.handle.proofs.Handles.{handle-most}
 use Rattle.handle.proofs.Printing.{printed-front}
 use Rattle.kinds.proofs.Tests.{at-place}
-use Rattle.server.specs.Events.{errorTexts, flag}
+use Rattle.server.specs.Refusals.{refusalTexts, lastNumber, errorText, isTold}
+use Rattle.server.specs.Events.{flag}
 use Rattle.sending.specs.Messages.{Sendable, errorArguments, createdArguments, message, statusArguments, assignArguments}
 use Rattle.sending.proofs.Laid.{five-long, message-room, two-long}
 
@@ -42,9 +43,9 @@ passed : (b : Bool) → T b → b ≡ true
 passed true t = refl
 passed false t = absurd t
 
-texts-readable : (i : ℕ) → readable (getD errorTexts i []) ≡ true
+texts-readable : (n : ℕ) → readable (errorText n) ≡ true
 unfolding readable same firstZero
-texts-readable i = passed _ (at-place readable errorTexts [] tt tt i)
+texts-readable n = passed _ (at-place readable refusalTexts [] tt tt n)
 
 row-at : (l : List Bytes) (i : ℕ) → i < length l → getD (map (padded 9) l) i [] ≡ padded 9 (getD l i [])
 row-at [] i h = absurd (not-suc-le-zero h)
@@ -52,16 +53,34 @@ row-at (x ∷ l) zero h = refl
 row-at (x ∷ l) (suc i) h = row-at l i (le-of-suc-le-suc h)
 
 -- a row of the texts, each in nine bytes
-pub text-at : (rows : List Bytes) → map (padded 9) errorTexts ≡ rows → (i : ℕ) → i < 7 → getD rows i [] ≡ padded 9 (getD errorTexts i [])
-text-at rows e i h = rw (← e) (row-at errorTexts i h)
+pub text-at : (rows : List Bytes) → map (padded 9) refusalTexts ≡ rows → (n : ℕ) → n ≤ lastNumber → getD rows n [] ≡ padded 9 (errorText n)
+text-at rows e n h = rw (← e) (row-at refusalTexts n (omega arith))
+
+-- a refusal is told exactly if its row does not begin with a zero byte: one test that computes, over all rows
+alike : Bool → Bool → Bool
+alike true b = b
+alike false b = not b
+
+alike-same : (a b : Bool) → alike a b ≡ true → a ≡ b
+unfolding alike
+alike-same true b e = sym e
+alike-same false true e = e
+alike-same false false e = refl
+
+shows : Bytes → Bool
+shows t = alike (not (eqb (getD (padded 9 t) 0 0) 0)) (not (same t []))
+
+pub told-at : (t : Bytes) (n : ℕ) → t ≡ padded 9 (errorText n) → not (eqb (getD t 0 0) 0) ≡ isTold n
+unfolding isTold shows same alike
+told-at t n e = rw e (alike-same _ _ (passed _ (at-place shows refusalTexts [] tt tt n)))
 
 -- the digits and the text, as long as it says, are the refusal's
-module _ (to n : ℕ) (t : Bytes) (size : ℕ) (et : t ≡ padded 9 (getD errorTexts (n - 9) [])) (es : size ≡ firstZero t) where
+module _ (to n : ℕ) (t : Bytes) (size : ℕ) (et : t ≡ padded 9 (errorText n)) (es : size ≡ firstZero t) where
   pub error-message : message to 19 (join (((n / 10 + 48) ∷ (n % 10 + 48) ∷ []) ∷ take size t ∷ [])) ≡ message to 19 (join (errorArguments n))
   unfolding errorArguments readable
   error-message =
-      let text = getD errorTexts (n - 9) [] in
-      let r : take (firstZero (padded 9 text)) (padded 9 text) ≡ text = same-is _ _ (texts-readable (n - 9)) in
+      let text = errorText n in
+      let r : take (firstZero (padded 9 text)) (padded 9 text) ≡ text = same-is _ _ (texts-readable n) in
       rw (es, et, r)
 
   pub error-room : (at m : ℕ) → size ≤ length t → at + length (message to 19 (join (errorArguments n))) ≤ m → at + 13 + (3 + size) ≤ m

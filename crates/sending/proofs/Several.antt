@@ -15,6 +15,7 @@ use Rattle.octets.specs.Put.{put}
 use Rattle.octets.proofs.Strings.{and-left}
 use Rattle.octets.proofs.Laying.{put-none, put-put}
 use Rattle.sets.specs.Sets.{has, members}
+use Rattle.server.specs.Sizes.{connectionCount}
 use Rattle.sending.specs.Messages.{message, messages, messageIf}
 
 messages-append : (ls ms : List ℕ) (kind : ℕ) (d : Bytes) → messages (ls ++ ms) kind d ≡ messages ls kind d ++ messages ms kind d
@@ -23,8 +24,8 @@ messages-append [] ms kind d = refl
 messages-append (l ∷ ls) ms kind d = ap (λ (r : Bytes). message l kind d ++ r) (messages-append ls ms kind d) ∙ sym (append-assoc (message l kind d) _ _)
 
 -- the loop's test finds more only below 16
-pub turn-below : (s c : ℕ) (b : Bool) → b ≡ ltb c 16 && ltb 0 (s / 2 ^ c) → b ≡ true → c < 16
-turn-below s c b e t = ltb-true c 16 (and-left (ltb c 16) (ltb 0 (s / 2 ^ c)) (sym e ∙ t))
+pub turn-below : (s c : ℕ) (b : Bool) → b ≡ ltb c connectionCount && ltb 0 (s / 2 ^ c) → b ≡ true → c < connectionCount
+turn-below s c b e t = ltb-true c connectionCount (and-left (ltb c connectionCount) (ltb 0 (s / 2 ^ c)) (sym e ∙ t))
 
 module _ (s kind : ℕ) (d : Bytes) where
   -- to the members below n
@@ -64,15 +65,15 @@ module _ (s kind : ℕ) (d : Bytes) where
       below-same c k e ∙ rw (q, below-more (c + k), r) (sym (append-nil (below (c + k))))
 
   -- where it finds no more, all are behind
-  all-below : (c : ℕ) → c ≤ 16 → (b : Bool) → b ≡ ltb c 16 && ltb 0 (s / 2 ^ c) → b ≡ false → below c ≡ below 16
-  all-below c h b e n = by-test (ltb c 16) refl
+  all-below : (c : ℕ) → c ≤ connectionCount → (b : Bool) → b ≡ ltb c connectionCount && ltb 0 (s / 2 ^ c) → b ≡ false → below c ≡ below 16
+  all-below c h b e n = by-test (ltb c connectionCount) refl
     where
-      by-test : (t : Bool) → ltb c 16 ≡ t → below c ≡ below 16
+      by-test : (t : Bool) → ltb c connectionCount ≡ t → below c ≡ below 16
       by-test true t =
           let z : ltb 0 (s / 2 ^ c) ≡ false = ap (λ (x : Bool). x && ltb 0 (s / 2 ^ c)) (sym t) ∙ sym e ∙ n in
           let q : c + (16 - c) ≡ 16 = omega arith in
           rw q at (below-same c (16 - c) (omega (arith, ltb-false 0 (s / 2 ^ c) z)))
-      by-test false t = let q : c ≡ 16 = omega (arith, ltb-false c 16 t) in rw q
+      by-test false t = let q : c ≡ 16 = omega (arith, ltb-false c connectionCount t) in rw q
 
   -- ---- one connection, in or not in the set
 
@@ -101,7 +102,7 @@ module _ (s kind : ℕ) (d : Bytes) where
     start-laid = sym (put-none at out)
 
     module _ (c place : ℕ) (ep : place ≡ at + length (below c)) where
-      pub turn-room : (o : Bytes) → c < 16 → length o ≡ length out → at + length (below 16) ≤ length out → place + length (messageIf s c kind d) ≤ length o
+      pub turn-room : (o : Bytes) → c < connectionCount → length o ≡ length out → at + length (below 16) ≤ length out → place + length (messageIf s c kind d) ≤ length o
       turn-room o h l room =
           let q : suc c + (15 - c) ≡ 16 = omega arith in
           let g : length (below (suc c)) ≤ length (below 16) = rw q at (below-grows (suc c) (15 - c)) in
@@ -113,7 +114,7 @@ module _ (s kind : ℕ) (d : Bytes) where
       pub turn-laid : (o p : Bytes) → o ≡ put at (below c) out → p ≡ put place (messageIf s c kind d) o → p ≡ put at (below (c + 1)) out
       turn-laid o p eo e = rw (e, eo, ep, add-one c, below-more c) (put-put at (below c) (messageIf s c kind d) out)
 
-    module _ (c : ℕ) (h : c ≤ 16) (b : Bool) (e : b ≡ ltb c 16 && ltb 0 (s / 2 ^ c)) (n : b ≡ false) where
+    module _ (c : ℕ) (h : c ≤ connectionCount) (b : Bool) (e : b ≡ ltb c connectionCount && ltb 0 (s / 2 ^ c)) (n : b ≡ false) where
       pub end-place : (r : ℕ) → r ≡ at + length (below c) → r ≡ at + length (below 16)
       end-place r p = p ∙ ap (λ (x : Bytes). at + length x) (all-below c h b e n)
 

@@ -13,7 +13,8 @@ use Rattle.packet.specs.Packet.{got, packet, read, requests, responses}
 use Rattle.handle.specs.Handle.{handle, lap}
 use Rattle.sets.specs.Sets.{has}
 use Rattle.server.specs.Lists.{concat}
-use Rattle.server.specs.Events.{errorTexts, exceptionsName, flag}
+use Rattle.server.specs.Events.{exceptionsName, flag}
+use Rattle.server.specs.Refusals.{errorText}
 
 -- 01: "An addressed packet is one connection byte and then the packet."
 unfoldable pub message : ℕ → ℕ → Bytes → Bytes
@@ -53,7 +54,7 @@ pub record Forwards (p : Bytes) (ends : Ends) (kind : ℕ) : Type 0 where
 
 -- 01: "the number as two decimal digits, a zero byte, the text"
 unfoldable pub errorArguments : ℕ → List Bytes
-errorArguments n = ((n / 10 + 48) ∷ (n % 10 + 48) ∷ []) ∷ getD errorTexts (n - 9) [] ∷ []
+errorArguments n = ((n / 10 + 48) ∷ (n % 10 + 48) ∷ []) ∷ errorText n ∷ []
 
 -- 8 JOB_CREATED
 unfoldable pub createdArguments : ℕ → List Bytes

@@ -1,6 +1,7 @@
 // Addressed packets, laid over a lent output: one connection byte and then a response. Each function returns the place after
 // what it laid. An inner crate: its callers see to the arguments and to the room, and nothing is refused.
 use packet::Ends;
+use server::CONNECTIONS;
 ghost use mathlib.Core.Path.{_≡_};
 ghost use mathlib.Core.List.{[], _∷_};
 ghost use mathlib.Core.Bool.{cond, true, _&&_};
@@ -12,11 +13,21 @@ ghost use Rattle.packet.specs.Layout as L;
 ghost use Rattle.packet.specs.Arguments.{fits, join};
 ghost use Rattle.sets.specs.Sets.{members};
 ghost use Rattle.handle.specs.Handle.{padded};
-ghost use Rattle.server.specs.Events.{errorTexts};
+ghost use Rattle.server.specs.Sizes.{connectionCount};
+ghost use Rattle.server.specs.Refusals.{errorText, isTold, lastNumber};
 ghost use Rattle.sending.specs.Messages.{Forwards, Sendable, assignArguments, createdArguments, ended, errorArguments, heading, message, messageIf, messages, optionArguments, statusArguments};
 
-// The texts of the refusals from 9 on, each followed by zeros.
-const TEXTS: [[u8; 9]; 7] = [
+// The texts of the refusals by number, each followed by zeros; nothing but zeros where nothing is written.
+const TEXTS: [[u8; 9]; 16] = [
+    [0; 9],
+    [0; 9],
+    [0; 9],
+    [0; 9],
+    [0; 9],
+    [0; 9],
+    [0; 9],
+    [0; 9],
+    [0; 9],
     *b"type\0\0\0\0\0",
     *b"arguments",
     *b"functions",
@@ -46,7 +57,7 @@ fn send(out: &mut [u8], at: usize, to: u8, kind: u32, d: &[u8]) -> usize
 
 // Lays it, if the connection belongs to the set.
 fn send_if(out: &mut [u8], at: usize, set: u32, c: usize, kind: u32, d: &[u8]) -> usize
-    requires { ⌜ (c < 16) × (length (now d) < 2 ^ 32) × (at + length (messageIf set c kind (now d)) ≤ length (now out)) ⌝ }
+    requires { ⌜ (c < connectionCount) × (length (now d) < 2 ^ 32) × (at + length (messageIf set c kind (now d)) ≤ length (now out)) ⌝ }
     ensures { λ r. ⌜ (r ≡ at + length (messageIf set c kind (now (d .entry)))) × (now (out .exit) ≡ put at (messageIf set c kind (now (d .entry))) (now (out .entry))) ⌝ }
 {
     if !sets::has(set, c) {
@@ -57,9 +68,9 @@ fn send_if(out: &mut [u8], at: usize, set: u32, c: usize, kind: u32, d: &[u8]) -
 
 // Whether there is more to look at: connection `c` is one of the 16, and the set is not empty from it on.
 fn has_more(set: u32, c: usize) -> bool
-    ensures { λ r. ⌜ r ≡ ltb c 16 && ltb 0 (set / 2 ^ c) ⌝ }
+    ensures { λ r. ⌜ r ≡ ltb c connectionCount && ltb 0 (set / 2 ^ c) ⌝ }
 {
-    if 16 <= c {
+    if CONNECTIONS <= c {
         return false;
     }
     0 < set >> c
@@ -67,8 +78,8 @@ fn has_more(set: u32, c: usize) -> bool
 
 // Lays a copy for each connection of the set, in rising order; none is looked for behind the last.
 fn send_all(out: &mut [u8], at: usize, to: u32, kind: u32, d: &[u8]) -> usize
-    requires { ⌜ (length (now d) < 2 ^ 32) × (at + length (messages (members 16 to) kind (now d)) ≤ length (now out)) ⌝ }
-    ensures { λ r. ⌜ (r ≡ at + length (messages (members 16 to) kind (now (d .entry)))) × (now (out .exit) ≡ put at (messages (members 16 to) kind (now (d .entry))) (now (out .entry))) ⌝ }
+    requires { ⌜ (length (now d) < 2 ^ 32) × (at + length (messages (members connectionCount to) kind (now d)) ≤ length (now out)) ⌝ }
+    ensures { λ r. ⌜ (r ≡ at + length (messages (members connectionCount to) kind (now (d .entry)))) × (now (out .exit) ≡ put at (messages (members connectionCount to) kind (now (d .entry))) (now (out .entry))) ⌝ }
 {
     let mut place = at;
     let mut listener: usize = 0;
@@ -99,16 +110,24 @@ pub fn send_empty(out: &mut [u8], at: usize, to: u8, kind: u32) -> usize
 
 // The text of a refusal, followed by zeros.
 fn error_text(number: u8) -> [u8; 9]
-    requires { ⌜ (9 ≤ number) × (number ≤ 15) ⌝ }
-    ensures { λ r. ⌜ r ≡ padded 9 (getD errorTexts (number - 9) []) ⌝ }
+    requires { ⌜ number ≤ lastNumber ⌝ }
+    ensures { λ r. ⌜ r ≡ padded 9 (errorText number) ⌝ }
 {
-    let row = (number - 9) as usize;
-    TEXTS[row]
+    TEXTS[number as usize]
+}
+
+// Whether a refusal writes an ERROR packet.
+pub fn is_told(number: u8) -> bool
+    requires { ⌜ number ≤ lastNumber ⌝ }
+    ensures { λ r. ⌜ r ≡ isTold number ⌝ }
+{
+    let text = error_text(number);
+    text[0] != 0
 }
 
 // Lays ERROR: the number of a refusal in two digits, and its text.
 pub fn send_error(out: &mut [u8], at: usize, to: u8, number: u8) -> usize
-    requires { ⌜ (9 ≤ number) × (number ≤ 15) × (at + length (message to 19 (join (errorArguments number))) ≤ length (now out)) ⌝ }
+    requires { ⌜ (number ≤ lastNumber) × (at + length (message to 19 (join (errorArguments number))) ≤ length (now out)) ⌝ }
     ensures { λ r. ⌜ (r ≡ at + length (message to 19 (join (errorArguments number)))) × (now (out .exit) ≡ put at (message to 19 (join (errorArguments number))) (now (out .entry))) ⌝ }
 {
     let digits = [number / 10 + 48, number % 10 + 48];
@@ -254,16 +273,16 @@ pub fn forward_all(
     packet: &[u8],
     ends: Ends,
 ) -> usize
-    requires { ⌜ Forwards (now packet) ends kind × (at + length (messages (members 16 to) kind (drop 12 (now packet))) ≤ length (now out)) ⌝ }
-    ensures { λ r. ⌜ (r ≡ at + length (messages (members 16 to) kind (drop 12 (now (packet .entry))))) × (now (out .exit) ≡ put at (messages (members 16 to) kind (drop 12 (now (packet .entry)))) (now (out .entry))) ⌝ }
+    requires { ⌜ Forwards (now packet) ends kind × (at + length (messages (members connectionCount to) kind (drop 12 (now packet))) ≤ length (now out)) ⌝ }
+    ensures { λ r. ⌜ (r ≡ at + length (messages (members connectionCount to) kind (drop 12 (now (packet .entry))))) × (now (out .exit) ≡ put at (messages (members connectionCount to) kind (drop 12 (now (packet .entry)))) (now (out .entry))) ⌝ }
 {
     send_all(out, at, to, kind, &packet[12..])
 }
 
 // Lays a NOOP for each connection of the set, in rising order.
 pub fn wake_all(out: &mut [u8], at: usize, to: u32) -> usize
-    requires { ⌜ at + length (messages (members 16 to) 6 []) ≤ length (now out) ⌝ }
-    ensures { λ r. ⌜ (r ≡ at + length (messages (members 16 to) 6 [])) × (now (out .exit) ≡ put at (messages (members 16 to) 6 []) (now (out .entry))) ⌝ }
+    requires { ⌜ at + length (messages (members connectionCount to) 6 []) ≤ length (now out) ⌝ }
+    ensures { λ r. ⌜ (r ≡ at + length (messages (members connectionCount to) 6 [])) × (now (out .exit) ≡ put at (messages (members connectionCount to) 6 []) (now (out .entry))) ⌝ }
 {
     send_all(out, at, to, 6, b"")
 }

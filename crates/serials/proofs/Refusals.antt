@@ -18,8 +18,9 @@ use Rattle.packet.specs.Opaque.{masked}
 use Rattle.server.specs.Table.{Job, Table}
 use Rattle.server.specs.Asked.{Event, opens, closes, sends, connectionOf, asked, requested, fromReading, Work, Asked, toOpen, toClose, reset, preSleep, echo, canDo, cantDo, grab, submit, work, getStatus, option}
 use Rattle.server.specs.Asked as A
-use Rattle.server.specs.Events.{Send, Decision, errorTexts, refuse, settle, canDoAt, cantDoAt, grabAt, submitNew, submitTo, workAt, statusAt, optionIf, served, isOpening, admitted, decide}
+use Rattle.server.specs.Events.{Send, Decision, refuse, settle, canDoAt, cantDoAt, grabAt, submitNew, submitTo, workAt, statusAt, optionIf, served, isOpening, admitted, decide}
 use Rattle.server.specs.Server.{Server, Sent, render, rework, decided, answer, next}
+use Rattle.server.specs.Refusals.{errorText, isTold, lastNumber}
 use Rattle.octets.proofs.Strings.{and-left, and-right}
 use Rattle.outcomes.proofs.Cases.{cond-both}
 
@@ -85,11 +86,11 @@ bad-within e n q =
 
 data Answered (c : ℕ) (t : Table) : Decision → Type 0 where
   settles : (ss : List Send) (u : Table) → Answered c t (settle ss u)
-  refuses : (n : ℕ) → 2 ≤ n → n ≤ 15 → Answered c t (refuse c n t)
+  refuses : (n : ℕ) → 2 ≤ n → n ≤ lastNumber → Answered c t (refuse c n t)
 
 module _ (c : ℕ) (t : Table) where
-  no : (n : ℕ) → within 2 15 n ≡ true → Answered c t (refuse c n t)
-  no n h = refuses n (leb-true 2 n (and-left (leb 2 n) (leb n 15) h)) (leb-true n 15 (and-right (leb 2 n) (leb n 15) h))
+  no : (n : ℕ) → within 2 lastNumber n ≡ true → Answered c t (refuse c n t)
+  no n h = refuses n (leb-true 2 n (and-left (leb 2 n) (leb n lastNumber) h)) (leb-true n lastNumber (and-right (leb 2 n) (leb n lastNumber) h))
 
   a-canDo : (o : Option ℕ) (f : Bytes) → Answered c t (canDoAt o c f t)
   unfolding canDoAt
@@ -167,15 +168,15 @@ rework-same (j ∷ js) o (w ∷ ws) = rw (eq-eqb (j .row .serial) (j .row .seria
 
 -- "one ERROR packet to the sender: the number as two decimal digits, a zero byte, the text"
 abbrev pub errorPacket : ℕ → ℕ → Sent
-errorPacket c n = record { to = c; kind = 19; shown = (n / 10 + 48) ∷ (n % 10 + 48) ∷ 0 ∷ getD errorTexts (n - 9) []; opaquePart = [] }
+errorPacket c n = record { to = c; kind = 19; shown = (n / 10 + 48) ∷ (n % 10 + 48) ∷ 0 ∷ errorText n; opaquePart = [] }
 
 -- "All refusals keep table and workloads. 1 to 8 write nothing [..]. 9 to 15 write one ERROR packet to the sender"
 pub record Refusal (e : Event) (s : Server) : Type 0 where
   pub keeps : next e s ≡ s
   pub least : 2 ≤ answer e s .number
-  pub most : answer e s .number ≤ 15
-  pub silent : answer e s .number ≤ 8 → answer e s .sent ≡ []
-  pub tells : 9 ≤ answer e s .number → answer e s .sent ≡ errorPacket (connectionOf e) (answer e s .number) ∷ []
+  pub most : answer e s .number ≤ lastNumber
+  pub silent : isTold (answer e s .number) ≡ false → answer e s .sent ≡ []
+  pub tells : isTold (answer e s .number) ≡ true → answer e s .sent ≡ errorPacket (connectionOf e) (answer e s .number) ∷ []
 
 -- every event is done, which is number 0, or refused
 pub data Fate (e : Event) (s : Server) : Type 0 where
@@ -190,8 +191,8 @@ fate-by e s d q (refuses n l m) =
       keeps = rw q (ap (λ (ws : List Bytes). record { table = s .table; workloads = ws }) (rework-same (s .table .jobs) _ (s .workloads)));
       least = rw q l;
       most = rw q m;
-      silent = λ h. let i : n ≤ 8 = rw q at h in rw (q, lt-ltb n 9 (omega arith));
-      tells = λ h. let i : 9 ≤ n = rw q at h in rw (q, le-ltb n 9 i);
+      silent = λ h. let i : isTold n ≡ false = rw q at h in rw (q, i);
+      tells = λ h. let i : isTold n ≡ true = rw q at h in rw (q, i);
     })
 
 pub fate : (e : Event) (s : Server) → Fate e s

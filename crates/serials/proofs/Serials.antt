@@ -16,7 +16,7 @@ use Rattle.octets.specs.Bytes.{Bytes}
 use Rattle.sets.specs.Sets.{has, insert}
 use Rattle.server.specs.declared.Connection.{Connection}
 use Rattle.server.specs.declared.JobRow.{JobRow}
-use Rattle.server.specs.Table.{Function, Job, Table, fresh, noJob, jobAt, live, heldBy, freePlace}
+use Rattle.server.specs.Table.{Function, Job, Table, fresh, noJob, jobAt, live, heldBy, freePlace, withConnections, withFunctions, setJob}
 use Rattle.server.specs.Asked.{Work, tells, reports, ends, throws, Event, connectionOf, asked, Asked, submit}
 use Rattle.server.specs.Events.{Send, Decision, lost, unlessLost, refuse, dropped, toWake, woken, forgot, settle, opening, closing, leftBy, unableToAll, sleeping, submittedBy, newJob, created, accepted, worked, noop}
 use Rattle.server.specs.Server.{Server, next, decided, start, after}
@@ -82,12 +82,12 @@ then-settled {u = u} ss p =
     record { jobs = all2-trans then-keep (p .jobs) (q .jobs); last = q .last ∙ p .last }
 
 -- jobs and last serial are as they were
-idle : (t : Table) (cs : List Connection) (fs : List Function) → Stays t (record { last = t .last; connections = cs; functions = fs; jobs = t .jobs })
+idle : (t : Table) (cs : List Connection) (fs : List Function) → Stays t (withConnections cs (withFunctions fs t))
 idle t cs fs = record { jobs = all2-same (Follows 0) same-job (t .jobs); last = refl }
 
 -- one job is another one
 one-job : (t : Table) (cs : List Connection) (p : ℕ) (k : Job) → Follows 0 (jobAt t p) k
-    → Stays t (record { last = t .last; connections = cs; functions = t .functions; jobs = set (t .jobs) p k })
+    → Stays t (withConnections cs (setJob t p k))
 one-job t cs p k f = record { jobs = all2-set (Follows 0) same-job (t .jobs) p noJob k f; last = refl }
 
 submitted-serial : (c : ℕ) (b : Bool) (r : JobRow) → submittedBy c b r .serial ≡ r .serial

@@ -1,7 +1,5 @@
 -- Histories to compute: how to write an event, and what a history answers. Assumes nothing.
 use Prim.Native.Nat.{ℕ}
-use Prim.Native.Char.{code}
-use Prim.Native.String.{String, [] as none′, _∷_ as _then_}
 use mathlib.Core.List.{List, [], _∷_, map}
 use Rattle.octets.specs.Bytes.{Bytes, same, startsWith, firstZero, every}
 use Rattle.sets.specs.Sets.{has, insert, remove, members}
@@ -10,15 +8,12 @@ use Rattle.packet.specs.Layout.{rulesOf, requestShape, responseShape, priorityO
 use Rattle.packet.specs.Arguments.{fits, fitAll, join, split}
 use Rattle.packet.specs.Packet.{packet, header, body, read, requests, responses}
 use Rattle.packet.specs.Opaque.{hasZeros, past, hides, seen, visible, opaque, masked}
+use Rattle.server.specs.Sizes.{connectionCount}
 use Rattle.server.specs.Table.{fresh, hasHandle, rank, best, freePlace, joined}
 use Rattle.server.specs.Asked.{Event, sends, requested, asked}
+use Rattle.server.specs.Refusals.{isTold}
 use Rattle.server.specs.Events.{refuse, dropped, woken, toWake, forgot, settle, opening, closing, canDoAt, cantDoAt, unableToAll, sleeping, grabAt, submitNew, submitTo, holdsHandle, workAt, statusAt, optionIf, served, admitted, decide}
 use Rattle.server.specs.Server.{Server, Answer, Sent, addressed, shownBy, opaqueOf, render, decided, next, answer, start, after, answers}
-
--- the bytes of a text
-unfoldable pub text : String → Bytes
-text none′ = []
-text (c then s) = code c ∷ text s
 
 -- a request with these arguments, from connection c
 unfoldable pub request : ℕ → ℕ → List Bytes → Event
@@ -39,12 +34,12 @@ sentOf a = a .sent
 
 -- from any server on
 unfoldable pub answeredFrom : Server → List Event → List Answer
-unfolding same startsWith firstZero every has insert remove members handle decimal decimalIn rulesOf requestShape responseShape priorityOf backgroundOf fits fitAll join split packet header body read hasZeros past hides seen visible opaque masked hasHandle rank best freePlace joined requested asked refuse dropped woken toWake forgot settle opening closing canDoAt cantDoAt unableToAll sleeping grabAt submitNew submitTo holdsHandle workAt statusAt optionIf served admitted decide shownBy opaqueOf render decided next answer after answers
+unfolding same startsWith firstZero every has insert remove members handle decimal decimalIn rulesOf requestShape responseShape priorityOf backgroundOf fits fitAll join split packet header body read hasZeros past hides seen visible opaque masked hasHandle rank best freePlace joined requested asked isTold refuse dropped woken toWake forgot settle opening closing canDoAt cantDoAt unableToAll sleeping grabAt submitNew submitTo holdsHandle workAt statusAt optionIf served admitted decide shownBy opaqueOf render decided next answer after answers
 answeredFrom s h = answers s h
 
 unfoldable pub answered : List Event → List Answer
 unfolding answeredFrom fresh start
-answered h = answeredFrom (start 16) h
+answered h = answeredFrom (start connectionCount) h
 
 unfoldable pub numbersOf : List Event → List ℕ
 unfolding answered

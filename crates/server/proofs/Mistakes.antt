@@ -5,19 +5,19 @@ use Prim.Native.String.{String}
 use mathlib.Core.List.{List, [], _∷_, _++_}
 use lib.ListN.{replicate}
 use lib.Dec.{T}
-use Rattle.octets.specs.Bytes.{Bytes}
+use Rattle.octets.specs.Bytes.{Bytes, text}
 use Rattle.server.specs.Asked.{Event, opens}
-use Rattle.server.proofs.Histories.{text, request, response}
+use Rattle.server.proofs.Histories.{request, response}
 use Rattle.server.proofs.Edge.{Edge, edge, holds}
 
 -- ---- requests
 
 abbrev canDo : ℕ → String → Event
-unfolding request text
+unfolding request
 canDo c function = request c 1 (text function ∷ [])
 
 abbrev submits : ℕ → String → String → Bytes → Event
-unfolding request text
+unfolding request
 submits c function unique workload = request c 7 (text function ∷ text unique ∷ workload ∷ [])
 
 abbrev grabs : ℕ → Event
@@ -25,14 +25,14 @@ unfolding request
 grabs c = request c 9 []
 
 abbrev completes : ℕ → String → String → Event
-unfolding request text
+unfolding request
 completes c job result = request c 13 (text job ∷ text result ∷ [])
 
 -- ---- "finding a job by its place, so that a late result meets the next tenant"
 
 -- worker 1 ends job 1, takes job 2, which client 2 gave and which has the same place, and sends another result for job 1
 abbrev lateResult : List Event
-unfolding request text
+unfolding request
 lateResult =
     opens 0
     ∷ opens 1
@@ -48,12 +48,12 @@ lateResult =
 
 -- it is refused, and client 2 hears nothing of it
 pub lateRefused : Edge
-unfolding request response text
+unfolding request response
 lateRefused = edge lateResult (replicate 9 0 ++ (14 ∷ [])) (response 1 19 (text "14" ∷ text "handle" ∷ []) ∷ [])
 
 -- job 2 is still there, and held: STATUS_RES says so
 pub tenantStays : Edge
-unfolding request response text
+unfolding request response
 tenantStays =
     edge (lateResult ++ (request 2 15 (text "H:lap:2" ∷ []) ∷ []))
     (replicate 9 0 ++ (14 ∷ 0 ∷ []))
@@ -63,7 +63,7 @@ tenantStays =
 
 -- the same unique under another function makes a second job
 pub jobOfItsOwn : Edge
-unfolding request response text
+unfolding request response
 jobOfItsOwn =
     edge (opens 0 ∷ submits 0 "f" "u" [] ∷ submits 0 "g" "u" [] ∷ [])
     (replicate 3 0)
@@ -77,7 +77,7 @@ zeros = 0 ∷ 119 ∷ 0 ∷ 120 ∷ []
 
 -- the workload is assigned whole
 pub wholeWorkload : Edge
-unfolding request response text
+unfolding request response
 wholeWorkload =
     edge (opens 0 ∷ opens 1 ∷ canDo 1 "f" ∷ submits 0 "f" "u" zeros ∷ grabs 1 ∷ [])
     (replicate 5 0)
@@ -87,7 +87,7 @@ wholeWorkload =
 
 -- clients 0 and 2 listen to one job, which client 0 submitted twice: each gets one copy
 pub oneCopyEach : Edge
-unfolding request response text
+unfolding request response
 oneCopyEach =
     edge (opens 0 ∷ opens 1 ∷ opens 2 ∷ canDo 1 "f" ∷ submits 0 "f" "u" [] ∷ submits 2 "f" "u" [] ∷ submits 0 "f" "u" [] ∷ grabs 1 ∷ completes 1 "H:lap:1" "done" ∷ [])
     (replicate 9 0)

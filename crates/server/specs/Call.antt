@@ -8,6 +8,7 @@ use lib.Dec.{ltb}
 use Rattle.octets.specs.Bytes.{Bytes}
 use Rattle.octets.specs.Put.{put}
 use Rattle.server.specs.Lists.{concat, numbers}
+use Rattle.server.specs.Sizes.{jobCount, workloadSize, workloadsSize, outputSize}
 use Rattle.server.specs.Table.{fresh}
 use Rattle.server.specs.Rules.{obeys}
 use Rattle.server.specs.Asked.{Event}
@@ -22,23 +23,20 @@ pub record Result : Type 0 where
   pub table : Bytes
   pub workloads : Bytes
 
--- 01: "the workloads (at least 32,768 bytes, 32 places of 1,024) and the output (at least 16,592)"
-abbrev pub workloadsSize : ℕ
-workloadsSize = 32768
-
-abbrev pub outputSize : ℕ
-outputSize = 16592
+-- the same from its five parts: a call's contract says that what it leaves is what the definition says
+abbrev pub left : ℕ → ℕ → Bytes → Bytes → Bytes → Result
+left number length′ output table workloads = record { number = number; length′ = length′; output = output; table = table; workloads = workloads }
 
 -- the server that lent bytes hold
 abbrev pub placeOf : Bytes → ℕ → Bytes
-placeOf w p = take 1024 (drop (1024 * p) w)
+placeOf w p = take workloadSize (drop (workloadSize * p) w)
 
 unfoldable pub serverIn : ℕ → Bytes → Bytes → Server
-serverIn n t w = record { table = tableOf n t; workloads = map (placeOf w) (numbers 0 32) }
+serverIn n t w = record { table = tableOf n t; workloads = map (placeOf w) (numbers 0 jobCount) }
 
 -- 01: "1: a lent buffer is too short, or the table breaks a table rule"
 unfoldable pub tooShort : ℕ → Bytes → Bytes → Bytes → Bool
-tooShort n t w o = ltb (length t) (tableSize n) || (ltb (length w) workloadsSize || ltb (length o) outputSize)
+tooShort n t w o = ltb (length t) (tableSize n) || (ltb (length w) workloadsSize || ltb (length o) (outputSize n))
 
 unfoldable pub isSound : ℕ → Bytes → Bool
 isSound n t = isImage n t && obeys (tableOf n t)
@@ -48,7 +46,7 @@ sentBytes ps = concat (map addressed ps)
 
 -- 01: "All refusals keep table and workloads. 1 to 8 write nothing and report length 0."
 unfoldable pub refusedBy : ℕ → Bytes → Bytes → Bytes → Result
-refusedBy number t w o = record { number = number; length′ = 0; output = o; table = t; workloads = w }
+refusedBy number t w o = left number 0 o t w
 
 -- "Beyond the reported length the output is unchanged"; "Bytes of table and workloads beyond what the layout uses are never written"
 unfoldable pub performed : Event → Server → Bytes → Bytes → Bytes → Result
@@ -74,8 +72,11 @@ pub record Made : Type 0 where
   pub table : Bytes
   pub workloads : Bytes
 
+abbrev pub made : ℕ → Bytes → Bytes → Made
+made number table workloads = record { number = number; table = table; workloads = workloads }
+
 unfoldable pub make : ℕ → Bytes → Bytes → Made
 make n t w =
     cond (ltb (length t) (tableSize n) || ltb (length w) workloadsSize)
-    (record { number = 1; table = t; workloads = w })
-    (record { number = 0; table = put 0 (bytesOf (fresh n)) t; workloads = put 0 (replicate workloadsSize 0) w })
+    (made 1 t w)
+    (made 0 (put 0 (bytesOf (fresh n)) t) (put 0 (replicate workloadsSize 0) w))

@@ -12,7 +12,8 @@ use Rattle.sets.specs.Sets.{insert, remove, isEmpty, members}
 use Rattle.server.specs.declared.Connection.{Connection}
 use Rattle.server.specs.declared.JobRow.{JobRow}
 use Rattle.server.specs.Lists.{any, find, filter, mapFrom, numbers}
-use Rattle.server.specs.Table.{Function, Job, Table, closed, noFunction, noJob, connectionAt, functionAt, jobAt, setConnection, setFunction, setJob, withRow, withTexts, withListeners, inBackground, withHolder, queued, heldBy, hasHandle, known, roomFor, wanted, grabbable, best, freePlace, joined}
+use Rattle.server.specs.Table.{Function, Job, Table, closed, noFunction, noJob, connectionAt, functionAt, jobAt, withLastSerial, withConnections, withFunctions, withJobs, setConnection, setFunction, setJob, justOpened, withAsleep, withExceptions, withName, withAble, freshRow, withListeners, inBackground, withHolder, withRow, withTexts, unstarted, queued, heldBy, hasHandle, known, roomFor, wanted, grabbable, best, freePlace, joined}
+use Rattle.server.specs.Refusals.{errorText, isTold}
 use Rattle.server.specs.Asked.{Work, tells, reports, ends, throws, Asked, toOpen, toClose, reset, preSleep, echo, bad, canDo, cantDo, grab, submit, work, getStatus, option}
 
 -- ---- packets to send
@@ -30,25 +31,13 @@ pub record Decision : Type 0 where
 
 -- ---- refusals
 
--- 01's column "ERROR text", from number 9 on
-abbrev pub errorTexts : List Bytes
-errorTexts =
-    (116 ∷ 121 ∷ 112 ∷ 101 ∷ [])  -- 9 type
-    ∷ (97 ∷ 114 ∷ 103 ∷ 117 ∷ 109 ∷ 101 ∷ 110 ∷ 116 ∷ 115 ∷ [])  -- 10 arguments
-    ∷ (102 ∷ 117 ∷ 110 ∷ 99 ∷ 116 ∷ 105 ∷ 111 ∷ 110 ∷ 115 ∷ [])  -- 11 functions
-    ∷ (106 ∷ 111 ∷ 98 ∷ 115 ∷ [])  -- 12 jobs
-    ∷ (115 ∷ 101 ∷ 114 ∷ 105 ∷ 97 ∷ 108 ∷ 115 ∷ [])  -- 13 serials
-    ∷ (104 ∷ 97 ∷ 110 ∷ 100 ∷ 108 ∷ 101 ∷ [])  -- 14 handle
-    ∷ (111 ∷ 112 ∷ 116 ∷ 105 ∷ 111 ∷ 110 ∷ [])  -- 15 option
-    ∷ []
-
 -- 01: "one ERROR packet to the sender: the number as two decimal digits, a zero byte, the text"
 abbrev pub error : ℕ → ℕ → Send
-error c n = plain c 19 (((n / 10 + 48) ∷ (n % 10 + 48) ∷ []) ∷ getD errorTexts (n - 9) [] ∷ [])
+error c n = plain c 19 (((n / 10 + 48) ∷ (n % 10 + 48) ∷ []) ∷ errorText n ∷ [])
 
 -- 01: "All refusals keep table and workloads. 1 to 8 write nothing [..]. 9 to 15 write one ERROR packet to the sender"
 unfoldable pub refuse : ℕ → ℕ → Table → Decision
-refuse c n t = record { number = n; packets = cond (ltb n 9) [] (error c n ∷ []); table = t }
+refuse c n t = record { number = n; packets = cond (isTold n) (error c n ∷ []) []; table = t }
 
 -- ---- the end of every event that is done
 
@@ -60,22 +49,17 @@ abbrev pub unlessLost : Job → Job
 unlessLost j = cond (lost (j .row)) noJob j
 
 unfoldable pub dropped : Table → Table
-dropped t = record { last = t .last; connections = t .connections; functions = t .functions; jobs = map unlessLost (t .jobs) }
+dropped t = withJobs (map unlessLost (t .jobs)) t
 
 -- 01: "NOOP to sleepers with a grabbable job", "NOOP always ends sleep"
 abbrev pub wakes : List Function → List Job → ℕ → Connection → Bool
 wakes fs js c x = x .asleep && any (λ j. grabbable fs c (j .row)) js
 
 abbrev pub awake : Connection → Connection
-awake x = record { opened = x .opened; asleep = false; exceptions = x .exceptions }
+awake x = withAsleep false x
 
 unfoldable pub woken : Table → Table
-woken t = record {
-  last = t .last;
-  connections = mapFrom (λ c x. cond (wakes (t .functions) (t .jobs) c x) (awake x) x) 0 (t .connections);
-  functions = t .functions;
-  jobs = t .jobs;
-}
+woken t = withConnections (mapFrom (λ c x. cond (wakes (t .functions) (t .jobs) c x) (awake x) x) 0 (t .connections)) t
 
 -- 01: "Packets to several connections go in rising connection order."
 unfoldable pub toWake : Table → List ℕ
@@ -83,12 +67,7 @@ toWake t = filter (λ c. wakes (t .functions) (t .jobs) c (connectionAt t c)) (n
 
 -- 01: "At the end of an event it is forgotten, and its place set to zero and free, when neither holds."
 unfoldable pub forgot : Table → Table
-forgot t = record {
-  last = t .last;
-  connections = t .connections;
-  functions = mapFrom (λ q x. cond (wanted (t .jobs) q x) x noFunction) 0 (t .functions);
-  jobs = t .jobs;
-}
+forgot t = withFunctions (mapFrom (λ q x. cond (wanted (t .jobs) q x) x noFunction) 0 (t .functions)) t
 
 abbrev pub noop : ℕ → Send
 noop c = plain c 6 []
@@ -100,7 +79,7 @@ settle ss t = record { number = 0; packets = ss ++ map noop (toWake (dropped t))
 -- ---- open and close
 
 unfoldable pub opening : ℕ → Table → Table
-opening c t = setConnection t c (record { opened = true; asleep = false; exceptions = false })
+opening c t = setConnection t c justOpened
 
 -- a job that connection c leaves. 01: "leave all listener sets"; "held jobs return to the queue"; its two texts are then "`0` and `0`"
 abbrev pub deafTo : ℕ → JobRow → JobRow
@@ -113,21 +92,16 @@ leftBy c j =
     (withRow (deafTo c (j .row)) j)
 
 abbrev pub unable : ℕ → Function → Function
-unable c x = record { name = x .name; able = remove (x .able) c }
+unable c x = withAble (remove (x .able) c) x
 
 -- 01: "abilities, option and sleep are cleared"
 unfoldable pub closing : ℕ → Table → Table
-closing c t = record {
-  last = t .last;
-  connections = set (t .connections) c closed;
-  functions = map (unable c) (t .functions);
-  jobs = map (leftBy c) (t .jobs);
-}
+closing c t = withJobs (map (leftBy c) (t .jobs)) (withFunctions (map (unable c) (t .functions)) (setConnection t c closed))
 
 -- ---- abilities
 
 abbrev pub ableTo : ℕ → Bytes → Function → Function
-ableTo c f x = record { name = f; able = insert (x .able) c }
+ableTo c f x = withName f (withAble (insert (x .able) c) x)
 
 -- 01: "11: CAN_DO or a new job names an unknown function while 16 are known"
 unfoldable pub canDoAt : Option ℕ → ℕ → Bytes → Table → Decision
@@ -139,13 +113,13 @@ cantDoAt none c t = settle [] t
 cantDoAt (some q) c t = settle [] (setFunction t q (unable c (functionAt t q)))
 
 unfoldable pub unableToAll : ℕ → Table → Table
-unableToAll c t = record { last = t .last; connections = t .connections; functions = map (unable c) (t .functions); jobs = t .jobs }
+unableToAll c t = withFunctions (map (unable c) (t .functions)) t
 
 -- ---- sleeping and grabbing
 
 -- 01: "PRE_SLEEP with a grabbable job answers NOOP and doesn't sleep": the end of the event wakes it at once
 unfoldable pub sleeping : Bool → ℕ → Table → Table
-sleeping b c t = setConnection t c (record { opened = connectionAt t c .opened; asleep = b; exceptions = connectionAt t c .exceptions })
+sleeping b c t = setConnection t c (withAsleep b (connectionAt t c))
 
 -- 01: "NO_JOB exactly if there is none"
 unfoldable pub grabAt : Option ℕ → Bool → ℕ → Table → Decision
@@ -162,27 +136,12 @@ submittedBy c false r = withListeners (insert (r .listeners) c) r
 abbrev pub created : ℕ → ℕ → Send
 created c serial = plain c 8 (handle lap serial ∷ [])
 
--- 01: "takes [..] the next serial"; "`0` and `0` at first"
+-- 01: "takes [..] the next serial"
 abbrev pub newJob : ℕ → ℕ → Bool → ℕ → Bytes → ℕ → ℕ → Job
-newJob c priority background q u size serial =
-    record {
-      row = submittedBy c background (record { serial = serial; function = q; priority = priority; background = false; listeners = 0; holder = 0; size = size });
-      unique = u;
-      numerator = 48 ∷ [];
-      denominator = 48 ∷ [];
-    }
-
-abbrev pub named : Bytes → Function → Function
-named f x = record { name = f; able = x .able }
+newJob c priority background q u size serial = unstarted (submittedBy c background (freshRow serial q priority size)) u
 
 abbrev pub accepted : ℕ → Bytes → ℕ → Job → Table → Table
-accepted q f p j t =
-    record {
-      last = suc (t .last);
-      connections = t .connections;
-      functions = set (t .functions) q (named f (functionAt t q));
-      jobs = set (t .jobs) p j;
-    }
+accepted q f p j t = withLastSerial (suc (t .last)) (setJob (setFunction t q (withName f (functionAt t q))) p j)
 
 -- refusals 11 to 13 in order: a place for the function, a place for the job, a serial
 unfoldable pub submitNew : Option ℕ → Option ℕ → ℕ → ℕ → Bool → Bytes → Bytes → ℕ → Table → Decision
@@ -245,7 +204,7 @@ abbrev pub exceptionsName : Bytes
 exceptionsName = 101 ∷ 120 ∷ 99 ∷ 101 ∷ 112 ∷ 116 ∷ 105 ∷ 111 ∷ 110 ∷ 115 ∷ []
 
 abbrev pub catching : Connection → Connection
-catching x = record { opened = x .opened; asleep = x .asleep; exceptions = true }
+catching x = withExceptions true x
 
 -- 01: "15: option isn't `exceptions`"
 unfoldable pub optionIf : Bool → ℕ → Bytes → Table → Decision

@@ -3,12 +3,13 @@
 use Prim.Native.Nat.{ℕ, zero, suc, _+_, _*_, _/_, _%_}
 use mathlib.Core.Bool.{Bool, cond}
 use mathlib.Core.List.{List, [], _∷_, _++_, map}
-use lib.ListN.{getD, take, drop}
+use lib.ListN.{length, getD, take, drop}
 use lib.Dec.{eqb}
 use Rattle.octets.specs.Bytes.{Bytes, same, firstZero}
 use Rattle.server.specs.declared.Connection.{Connection}
 use Rattle.server.specs.declared.JobRow.{JobRow}
 use Rattle.server.specs.Lists.{fit, numbers}
+use Rattle.server.specs.Sizes.{functionCount, jobCount, nameSize, uniqueSize, numberSize}
 use Rattle.server.specs.Table.{Function, Job, Table}
 
 -- ---- one field
@@ -33,81 +34,92 @@ flagAt b at = eqb (getD b at 0) 1
 unfoldable pub textAt : ℕ → Bytes → ℕ → Bytes
 textAt k b at = let p = take k (drop at b) in take (firstZero p) p
 
--- ---- where the fields lie
+-- ---- where the fields lie, each behind the one before; what grows with the number of connections stands last
 
 abbrev pub lastAt : ℕ
 lastAt = 0
 
-abbrev pub ableAt : ℕ
-ableAt = 4
+abbrev pub serialsAt : ℕ
+serialsAt = lastAt + 4
 
-abbrev pub serialAt : ℕ
-serialAt = 68
+abbrev pub sizesAt : ℕ
+sizesAt = serialsAt + 4 * jobCount
 
-abbrev pub listenersAt : ℕ
-listenersAt = 196
+abbrev pub holdersAt : ℕ
+holdersAt = sizesAt + 2 * jobCount
 
-abbrev pub sizeAt : ℕ
-sizeAt = 324
+abbrev pub prioritiesAt : ℕ
+prioritiesAt = holdersAt + 2 * jobCount
 
-abbrev pub holderAt : ℕ
-holderAt = 388
-
-abbrev pub priorityAt : ℕ
-priorityAt = 452
-
-abbrev pub backgroundAt : ℕ
-backgroundAt = 484
+abbrev pub backgroundsAt : ℕ
+backgroundsAt = prioritiesAt + jobCount
 
 abbrev pub functionsAt : ℕ
-functionsAt = 516
+functionsAt = backgroundsAt + jobCount
 
 abbrev pub namesAt : ℕ
-namesAt = 548
+namesAt = functionsAt + jobCount
 
 abbrev pub uniquesAt : ℕ
-uniquesAt = 1060
+uniquesAt = namesAt + nameSize * functionCount
 
 abbrev pub numeratorsAt : ℕ
-numeratorsAt = 3108
+numeratorsAt = uniquesAt + uniqueSize * jobCount
 
 abbrev pub denominatorsAt : ℕ
-denominatorsAt = 3428
+denominatorsAt = numeratorsAt + numberSize * jobCount
 
-abbrev pub connectionsAt : ℕ
-connectionsAt = 3748
+-- a set of n connections, one bit each, in whole groups of four bytes: 4 up to 32 connections, 32 for 256
+abbrev pub setSize : ℕ → ℕ
+setSize n = 4 * ((n + 31) / 32)
+
+abbrev pub ableAt : ℕ
+ableAt = denominatorsAt + numberSize * jobCount
+
+abbrev pub listenersAt : ℕ → ℕ
+listenersAt n = ableAt + setSize n * functionCount
+
+-- the flags of n connections
+abbrev pub openedAt : ℕ → ℕ
+openedAt n = listenersAt n + setSize n * jobCount
+
+abbrev pub asleepAt : ℕ → ℕ
+asleepAt n = openedAt n + n
+
+abbrev pub exceptionsAt : ℕ → ℕ
+exceptionsAt n = asleepAt n + n
 
 -- how many bytes the layout uses
 abbrev pub tableSize : ℕ → ℕ
-tableSize n = connectionsAt + 3 * n
+tableSize n = exceptionsAt n + n
 
 -- ---- bytes to table
 
 abbrev pub connectionIn : ℕ → Bytes → ℕ → Connection
-connectionIn n b c = record { opened = flagAt b (connectionsAt + c); asleep = flagAt b (connectionsAt + n + c); exceptions = flagAt b (connectionsAt + 2 * n + c) }
+connectionIn n b c = record { opened = flagAt b (openedAt n + c); asleep = flagAt b (asleepAt n + c); exceptions = flagAt b (exceptionsAt n + c) }
 
-abbrev pub functionIn : Bytes → ℕ → Function
-functionIn b q = record { name = textAt 32 b (namesAt + 32 * q); able = littleAt 4 b (ableAt + 4 * q) }
+abbrev pub functionIn : ℕ → Bytes → ℕ → Function
+functionIn n b q = record { name = textAt nameSize b (namesAt + nameSize * q); able = littleAt (setSize n) b (ableAt + setSize n * q) }
 
-abbrev pub rowIn : Bytes → ℕ → JobRow
-rowIn b p =
+abbrev pub rowIn : ℕ → Bytes → ℕ → JobRow
+rowIn n b p =
     record {
-      serial = littleAt 4 b (serialAt + 4 * p);
+      serial = littleAt 4 b (serialsAt + 4 * p);
       function = getD b (functionsAt + p) 0;
-      priority = getD b (priorityAt + p) 0;
-      background = flagAt b (backgroundAt + p);
-      listeners = littleAt 4 b (listenersAt + 4 * p);
-      holder = littleAt 2 b (holderAt + 2 * p);
-      size = littleAt 2 b (sizeAt + 2 * p);
+      priority = getD b (prioritiesAt + p) 0;
+      background = flagAt b (backgroundsAt + p);
+      listeners = littleAt (setSize n) b (listenersAt n + setSize n * p);
+      holder = littleAt 2 b (holdersAt + 2 * p);
+      size = littleAt 2 b (sizesAt + 2 * p);
     }
 
-abbrev pub jobIn : Bytes → ℕ → Job
-jobIn b p =
+abbrev pub jobIn : ℕ → Bytes → ℕ → Job
+jobIn n b p =
     record {
-      row = rowIn b p;
-      unique = textAt 64 b (uniquesAt + 64 * p);
-      numerator = textAt 10 b (numeratorsAt + 10 * p);
-      denominator = textAt 10 b (denominatorsAt + 10 * p);
+      row = rowIn n b p;
+      unique = textAt uniqueSize b (uniquesAt + uniqueSize * p);
+      numerator = textAt numberSize b (numeratorsAt + numberSize * p);
+      denominator = textAt numberSize b (denominatorsAt + numberSize * p);
     }
 
 -- the table that n connections' bytes hold
@@ -116,8 +128,8 @@ tableOf n b =
     record {
       last = littleAt 4 b lastAt;
       connections = map (connectionIn n b) (numbers 0 n);
-      functions = map (functionIn b) (numbers 0 16);
-      jobs = map (jobIn b) (numbers 0 32);
+      functions = map (functionIn n b) (numbers 0 functionCount);
+      jobs = map (jobIn n b) (numbers 0 jobCount);
     }
 
 -- ---- table to bytes
@@ -129,19 +141,20 @@ column f (x ∷ xs) = f x ++ column f xs
 
 unfoldable pub bytesOf : Table → Bytes
 bytesOf t =
+    let n = length (t .connections) in
     little 4 (t .last)
-    ++ (column (λ x. little 4 (x .able)) (t .functions)
     ++ (column (λ j. little 4 (j .row .serial)) (t .jobs)
-    ++ (column (λ j. little 4 (j .row .listeners)) (t .jobs)
     ++ (column (λ j. little 2 (j .row .size)) (t .jobs)
     ++ (column (λ j. little 2 (j .row .holder)) (t .jobs)
     ++ (column (λ j. little 1 (j .row .priority)) (t .jobs)
     ++ (column (λ j. flagByte (j .row .background)) (t .jobs)
     ++ (column (λ j. little 1 (j .row .function)) (t .jobs)
-    ++ (column (λ x. fit 32 (x .name)) (t .functions)
-    ++ (column (λ j. fit 64 (j .unique)) (t .jobs)
-    ++ (column (λ j. fit 10 (j .numerator)) (t .jobs)
-    ++ (column (λ j. fit 10 (j .denominator)) (t .jobs)
+    ++ (column (λ x. fit nameSize (x .name)) (t .functions)
+    ++ (column (λ j. fit uniqueSize (j .unique)) (t .jobs)
+    ++ (column (λ j. fit numberSize (j .numerator)) (t .jobs)
+    ++ (column (λ j. fit numberSize (j .denominator)) (t .jobs)
+    ++ (column (λ x. little (setSize n) (x .able)) (t .functions)
+    ++ (column (λ j. little (setSize n) (j .row .listeners)) (t .jobs)
     ++ (column (λ x. flagByte (x .opened)) (t .connections)
     ++ (column (λ x. flagByte (x .asleep)) (t .connections)
     ++ column (λ x. flagByte (x .exceptions)) (t .connections)))))))))))))))

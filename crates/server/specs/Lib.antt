@@ -1,7 +1,9 @@
 pub mod Lists
+pub mod Sizes
 pub mod Table
 pub mod Rules
 pub mod Asked
+pub mod Refusals
 pub mod Events
 pub mod Server
 pub mod Layout

@@ -9,6 +9,7 @@ use Rattle.packet.specs.Arguments.{digits}
 use Rattle.sets.specs.Sets.{has, isEmpty}
 use Rattle.server.specs.declared.Connection.{Connection}
 use Rattle.server.specs.Lists.{any, all, pairwise, numbers}
+use Rattle.server.specs.Sizes.{nameSize, uniqueSize, numberSize}
 use Rattle.server.specs.Table.{Function, Job, Table, connectionAt, functionAt, live, queued, wanted, grabbable}
 
 -- "if the first, then the second"
@@ -36,13 +37,13 @@ abbrev pub textWithin : ℕ → Bytes → Bool
 textWithin most a = leb (length a) most && zeroFree a
 
 abbrev pub storedNumber : Bytes → Bool
-storedNumber a = within 1 10 (length a) && digits a
+storedNumber a = within 1 numberSize (length a) && digits a
 
 abbrev pub namesWithin : Table → Bool
-namesWithin t = all (λ x. textWithin 32 (x .name)) (t .functions)
+namesWithin t = all (λ x. textWithin nameSize (x .name)) (t .functions)
 
 abbrev pub textsWithin : Table → Bool
-textsWithin t = all (λ j. implies (live (j .row)) (textWithin 64 (j .unique) && (storedNumber (j .numerator) && storedNumber (j .denominator)))) (t .jobs)
+textsWithin t = all (λ j. implies (live (j .row)) (textWithin uniqueSize (j .unique) && (storedNumber (j .numerator) && storedNumber (j .denominator)))) (t .jobs)
 
 abbrev pub together : Table → Job → ℕ
 together t j = length (functionAt t (j .row .function) .name) + length (j .unique) + j .row .size

@@ -11,6 +11,7 @@ use Rattle.packet.specs.Packet.{packet, requests, responses}
 use Rattle.packet.specs.Opaque.{visible, opaque}
 use Rattle.server.specs.declared.JobRow.{JobRow}
 use Rattle.server.specs.Lists.{fit}
+use Rattle.server.specs.Sizes.{jobCount, workloadSize}
 use Rattle.server.specs.Table.{Job, Table, fresh, functionAt, jobAt, live}
 use Rattle.server.specs.Asked.{Event, opens, closes, sends, connectionOf, asked}
 use Rattle.server.specs.Events.{Send, plain, copy, assign, Decision, decide}
@@ -71,7 +72,7 @@ addressed p = p .to ∷ packet (responses .magic) (p .kind) (p .shown ++ p .opaq
 -- 01: "An ended or dropped job's place is set to zero; a new workload is followed by zeros to the end of its place." A place keeps
 -- its bytes while it keeps its job.
 abbrev pub reworked : JobRow → JobRow → Bytes → Bytes → Bytes
-reworked before after′ o w = cond (eqb (before .serial) (after′ .serial)) w (cond (live after′) (fit 1024 o) (replicate 1024 0))
+reworked before after′ o w = cond (eqb (before .serial) (after′ .serial)) w (cond (live after′) (fit workloadSize o) (replicate workloadSize 0))
 
 abbrev pub rework : List Job → List Job → Bytes → List Bytes → List Bytes
 rework [] ks o ws = ws
@@ -94,7 +95,7 @@ answer e s = let d = decided e (s .table) in record { number = d .number; sent =
 
 -- a fresh table for n connections; 01: "32 places of 1,024"
 unfoldable pub start : ℕ → Server
-start n = record { table = fresh n; workloads = replicate 32 (replicate 1024 0) }
+start n = record { table = fresh n; workloads = replicate jobCount (replicate workloadSize 0) }
 
 unfoldable pub after : Server → List Event → Server
 after s [] = s

@@ -1,5 +1,5 @@
 -- The table: connections, known functions and unfinished jobs, and what can be read off it. 01, "Jobs and the queue".
--- The number of connections is the length of their list: 16 only where the product is put together. Assumes nothing.
+-- The number of connections is the length of their list: the product's number stands in `Sizes`. Assumes nothing.
 use Prim.Native.Nat.{ℕ, suc, _+_, _-_, _*_, max}
 use mathlib.Core.Bool.{Bool, true, false, not, cond, _&&_, _||_}
 use mathlib.Core.Option.{Option, none, some}
@@ -12,6 +12,7 @@ use Rattle.sets.specs.Sets.{has, isEmpty}
 use Rattle.server.specs.declared.Connection.{Connection}
 use Rattle.server.specs.declared.JobRow.{JobRow}
 use Rattle.server.specs.Lists.{any, find}
+use Rattle.server.specs.Sizes.{functionCount, jobCount}
 
 -- a place for a known function: its name, and the connections able to do it. A free place has the empty name.
 pub record Function : Type 0 where
@@ -48,7 +49,7 @@ noJob = record { row = noRow; unique = []; numerator = []; denominator = [] }
 
 -- 01: "known functions 16; unfinished jobs 32"; n connections, all closed
 unfoldable pub fresh : ℕ → Table
-fresh n = record { last = 0; connections = replicate n closed; functions = replicate 16 noFunction; jobs = replicate 32 noJob }
+fresh n = record { last = 0; connections = replicate n closed; functions = replicate functionCount noFunction; jobs = replicate jobCount noJob }
 
 -- ---- what stands at a place
 
@@ -61,22 +62,48 @@ functionAt t q = getD (t .functions) q noFunction
 abbrev pub jobAt : Table → ℕ → Job
 jobAt t p = getD (t .jobs) p noJob
 
--- ---- parts put anew
+-- ---- parts put anew, the new part first: a new field is one line in each of these, and nowhere else is a row built from its fields
+
+abbrev pub withLastSerial : ℕ → Table → Table
+withLastSerial s t = record { last = s; connections = t .connections; functions = t .functions; jobs = t .jobs }
+
+abbrev pub withConnections : List Connection → Table → Table
+withConnections cs t = record { last = t .last; connections = cs; functions = t .functions; jobs = t .jobs }
+
+abbrev pub withFunctions : List Function → Table → Table
+withFunctions fs t = record { last = t .last; connections = t .connections; functions = fs; jobs = t .jobs }
+
+abbrev pub withJobs : List Job → Table → Table
+withJobs js t = record { last = t .last; connections = t .connections; functions = t .functions; jobs = js }
 
 abbrev pub setConnection : Table → ℕ → Connection → Table
-setConnection t c x = record { last = t .last; connections = set (t .connections) c x; functions = t .functions; jobs = t .jobs }
+setConnection t c x = withConnections (set (t .connections) c x) t
 
 abbrev pub setFunction : Table → ℕ → Function → Table
-setFunction t q x = record { last = t .last; connections = t .connections; functions = set (t .functions) q x; jobs = t .jobs }
+setFunction t q x = withFunctions (set (t .functions) q x) t
 
 abbrev pub setJob : Table → ℕ → Job → Table
-setJob t p x = record { last = t .last; connections = t .connections; functions = t .functions; jobs = set (t .jobs) p x }
+setJob t p x = withJobs (set (t .jobs) p x) t
 
-abbrev pub withRow : JobRow → Job → Job
-withRow r j = record { row = r; unique = j .unique; numerator = j .numerator; denominator = j .denominator }
+-- a connection that has just been opened
+abbrev pub justOpened : Connection
+justOpened = record { opened = true; asleep = false; exceptions = false }
 
-abbrev pub withTexts : Bytes → Bytes → Job → Job
-withTexts n d j = record { row = j .row; unique = j .unique; numerator = n; denominator = d }
+abbrev pub withAsleep : Bool → Connection → Connection
+withAsleep b x = record { opened = x .opened; asleep = b; exceptions = x .exceptions }
+
+abbrev pub withExceptions : Bool → Connection → Connection
+withExceptions b x = record { opened = x .opened; asleep = x .asleep; exceptions = b }
+
+abbrev pub withName : Bytes → Function → Function
+withName f x = record { name = f; able = x .able }
+
+abbrev pub withAble : ℕ → Function → Function
+withAble s x = record { name = x .name; able = s }
+
+-- a job that has just come: queued, and nobody listens yet
+abbrev pub freshRow : ℕ → ℕ → ℕ → ℕ → JobRow
+freshRow serial q priority size = record { serial = serial; function = q; priority = priority; background = false; listeners = 0; holder = 0; size = size }
 
 abbrev pub withListeners : ℕ → JobRow → JobRow
 withListeners s r = record { serial = r .serial; function = r .function; priority = r .priority; background = r .background; listeners = s; holder = r .holder; size = r .size }
@@ -86,6 +113,16 @@ inBackground r = record { serial = r .serial; function = r .function; priority =
 
 abbrev pub withHolder : ℕ → JobRow → JobRow
 withHolder h r = record { serial = r .serial; function = r .function; priority = r .priority; background = r .background; listeners = r .listeners; holder = h; size = r .size }
+
+abbrev pub withRow : JobRow → Job → Job
+withRow r j = record { row = r; unique = j .unique; numerator = j .numerator; denominator = j .denominator }
+
+abbrev pub withTexts : Bytes → Bytes → Job → Job
+withTexts n d j = record { row = j .row; unique = j .unique; numerator = n; denominator = d }
+
+-- 01: "`0` and `0` at first"
+abbrev pub unstarted : JobRow → Bytes → Job
+unstarted r u = record { row = r; unique = u; numerator = 48 ∷ []; denominator = 48 ∷ [] }
 
 -- ---- jobs
 

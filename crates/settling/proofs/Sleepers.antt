@@ -15,6 +15,7 @@ use Rattle.sets.proofs.Laws.{zero-has, has-union, has-only}
 use Rattle.server.specs.declared.Connection.{Connection}
 use Rattle.server.specs.declared.JobRow.{JobRow}
 use Rattle.server.specs.Lists.{any, filter, mapFrom, numbers}
+use Rattle.server.specs.Sizes.{functionCount}
 use Rattle.server.specs.Table.{closed, live, queued, names}
 use Rattle.server.specs.Events.{awake}
 use Rattle.plans.specs.Values.{canGrab}
@@ -56,7 +57,7 @@ has-busy ables rs c = has-unions (ableFor ables) c (canGrab ables c) (λ r. has-
 
 -- ---- the functions that jobs name
 
-name-test : (q n : ℕ) → q < 16 → ltb n 16 && eqb n q ≡ eqb n q
+name-test : (q n : ℕ) → q < functionCount → ltb n 16 && eqb n q ≡ eqb n q
 name-test q n h = go (ltb n 16) refl
   where
     go : (b : Bool) → ltb n 16 ≡ b → b && eqb n q ≡ eqb n q
@@ -67,14 +68,14 @@ and-assoc : (a b c : Bool) → (a && b) && c ≡ a && (b && c)
 and-assoc true b c = refl
 and-assoc false b c = refl
 
-has-name : (q : ℕ) → q < 16 → (r : JobRow) → has (nameOf r) q ≡ names q r
+has-name : (q : ℕ) → q < functionCount → (r : JobRow) → has (nameOf r) q ≡ names q r
 unfolding nameOf
 has-name q h r =
     let n = r .function in
     has-if (live r && ltb n 16) (insert 0 n) q ∙ ap (λ (b : Bool). (live r && ltb n 16) && b) (has-only n q)
     ∙ and-assoc (live r) (ltb n 16) (eqb n q) ∙ ap (λ (b : Bool). live r && b) (name-test q n h)
 
-pub has-named : (rs : List JobRow) (q : ℕ) → q < 16 → has (namedSet rs) q ≡ any (names q) rs
+pub has-named : (rs : List JobRow) (q : ℕ) → q < functionCount → has (namedSet rs) q ≡ any (names q) rs
 unfolding namedSet
 has-named rs q h = has-unions nameOf q (names q) (has-name q h) 0 rs
 

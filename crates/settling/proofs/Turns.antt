@@ -12,7 +12,7 @@ use Rattle.sets.specs.Sets.{has, union, isEmpty}
 use Rattle.server.specs.declared.Connection.{Connection}
 use Rattle.server.specs.declared.JobRow.{JobRow}
 use Rattle.server.specs.Lists.{numbers}
-use Rattle.server.specs.Table.{noRow, closed}
+use Rattle.server.specs.Table.{noRow, closed, withAsleep}
 use Rattle.server.specs.Events.{lost, awake}
 use Rattle.server.proofs.Lists.{length-numbers}
 use Rattle.rules_kept.proofs.Rows.{length-mapFrom, mapFrom-at}
@@ -72,11 +72,10 @@ marked-at ables s i h =
 -- ---- a row
 
 pub roused-row : (x : Connection) (b : Bool)
-    → _≡_ {A = Connection} (record { opened = x .opened; asleep = x .asleep && not b; exceptions = x .exceptions }) (cond (x .asleep && b) (awake x) x)
-roused-row x b = go (x .opened) (x .asleep) (x .exceptions) b
+    → _≡_ {A = Connection} (withAsleep (x .asleep && not b) x) (cond (x .asleep && b) (awake x) x)
+roused-row x b = go (x .asleep) b refl
   where
-    go : (o a e b : Bool) → _≡_ {A = Connection} (record { opened = o; asleep = a && not b; exceptions = e })
-        (cond (a && b) (record { opened = o; asleep = false; exceptions = e }) (record { opened = o; asleep = a; exceptions = e }))
-    go o true e true = refl
-    go o true e false = refl
-    go o false e b = refl
+    go : (a b : Bool) → x .asleep ≡ a → _≡_ {A = Connection} (withAsleep (a && not b) x) (cond (a && b) (awake x) x)
+    go true true e = refl
+    go true false e = λ i. withAsleep (sym e i) x
+    go false b e = λ i. withAsleep (sym e i) x

@@ -9,6 +9,7 @@ use Rattle.sets.specs.Sets.{has, insert, union, isEmpty}
 use Rattle.server.specs.declared.Connection.{Connection}
 use Rattle.server.specs.declared.JobRow.{JobRow}
 use Rattle.server.specs.Lists.{mapFrom, numbers}
+use Rattle.server.specs.Sizes.{functionCount}
 use Rattle.server.specs.Table.{live, queued}
 use Rattle.server.specs.Events.{awake}
 
@@ -38,11 +39,11 @@ toWakeSet busy cs = unions (wakesNow busy) 0 0 cs
 
 -- the place of the job's function as a set, if a job stands here and the place is one of 16
 unfoldable pub nameOf : JobRow → ℕ
-nameOf r = cond (live r && ltb (r .function) 16) (insert 0 (r .function)) 0
+nameOf r = cond (live r && ltb (r .function) functionCount) (insert 0 (r .function)) 0
 
 unfoldable pub namedSet : List JobRow → ℕ
 namedSet rs = unions (λ i r. nameOf r) 0 0 rs
 
 -- which of the functions are wanted, by the set of those that jobs name
 unfoldable pub markedBy : List ℕ → ℕ → List Bool
-markedBy ables s = map (λ q. not (isEmpty (getD ables q 0)) || has s q) (numbers 0 16)
+markedBy ables s = map (λ q. not (isEmpty (getD ables q 0)) || has s q) (numbers 0 functionCount)

@@ -1,12 +1,16 @@
 // The end of every event that is done, on the numbers by value: lost jobs are dropped, sleepers with a grabbable job are woken, and
 // the functions that are still wanted are marked. Refuses nothing.
 use plans::Values;
+use server::CONNECTIONS;
 use server::Connection;
+use server::FUNCTIONS;
+use server::JOBS;
 use server::JobRow;
 ghost use mathlib.Core.Path.{_≡_};
 ghost use Prim.Native.Nat.{_<_};
 ghost use mathlib.Core.Bool.{cond, _&&_};
 ghost use Rattle.sets.specs.Sets.{has};
+ghost use Rattle.server.specs.Sizes.{connectionCount};
 ghost use Rattle.server.specs.Table.{noRow};
 ghost use Rattle.server.specs.Events.{awake, lost};
 ghost use Rattle.plans.specs.Settling.{droppedRows, settledValues, wantedMarks};
@@ -24,26 +28,18 @@ fn unless_lost(r: JobRow) -> JobRow
     ensures { λ k. ⌜ k ≡ cond (lost r) noRow r ⌝ }
 {
     if is_lost(r) {
-        return JobRow {
-            serial: 0,
-            function: 0,
-            priority: 0,
-            background: false,
-            listeners: 0,
-            holder: 0,
-            size: 0,
-        };
+        return server::no_row();
     }
     r
 }
 
 // The rows without the lost jobs.
-pub fn dropped(rows: [JobRow; 32]) -> [JobRow; 32]
+pub fn dropped(rows: [JobRow; JOBS]) -> [JobRow; JOBS]
     ensures { λ k. ⌜ k ≡ droppedRows rows ⌝ }
 {
     let mut kept = rows;
     let mut i = 0;
-    while i < 32 {
+    while i < JOBS {
         let r = rows[i];
         kept[i] = unless_lost(r);
         i += 1;
@@ -52,7 +48,7 @@ pub fn dropped(rows: [JobRow; 32]) -> [JobRow; 32]
 }
 
 // The connections that can do the job, if it is queued.
-fn able_for(able: [u32; 16], r: JobRow) -> u32
+fn able_for(able: [u32; FUNCTIONS], r: JobRow) -> u32
     ensures { λ s. ⌜ s ≡ ableFor able r ⌝ }
 {
     if searching::is_queued(r) {
@@ -62,12 +58,12 @@ fn able_for(able: [u32; 16], r: JobRow) -> u32
 }
 
 // The connections that can do some queued job.
-pub fn busy(able: [u32; 16], rows: [JobRow; 32]) -> u32
+pub fn busy(able: [u32; FUNCTIONS], rows: [JobRow; JOBS]) -> u32
     ensures { λ s. ⌜ s ≡ busySet able rows ⌝ }
 {
     let mut s = 0;
     let mut i = 0;
-    while i < 32 {
+    while i < JOBS {
         let r = rows[i];
         s = sets::union(s, able_for(able, r));
         i += 1;
@@ -79,20 +75,16 @@ pub fn busy(able: [u32; 16], rows: [JobRow; 32]) -> u32
 fn roused(x: Connection, wakes: bool) -> Connection
     ensures { λ k. ⌜ k ≡ cond (x .asleep && wakes) (awake x) x ⌝ }
 {
-    Connection {
-        opened: x.opened,
-        asleep: x.asleep & !wakes,
-        exceptions: x.exceptions,
-    }
+    server::with_asleep(x, x.asleep & !wakes)
 }
 
 // The connections' rows, with the busy ones awake.
-pub fn woken(connections: [Connection; 16], busy: u32) -> [Connection; 16]
+pub fn woken(connections: [Connection; CONNECTIONS], busy: u32) -> [Connection; CONNECTIONS]
     ensures { λ k. ⌜ k ≡ wokenBy busy connections ⌝ }
 {
     let mut next = connections;
     let mut i = 0;
-    while i < 16 {
+    while i < CONNECTIONS {
         let x = connections[i];
         next[i] = roused(x, sets::has(busy, i));
         i += 1;
@@ -102,7 +94,7 @@ pub fn woken(connections: [Connection; 16], busy: u32) -> [Connection; 16]
 
 // Connection c as a set, if it wakes.
 pub fn waking(x: Connection, busy: u32, c: usize) -> u32
-    requires { ⌜ c < 16 ⌝ }
+    requires { ⌜ c < connectionCount ⌝ }
     ensures { λ s. ⌜ s ≡ wakesNow busy c x ⌝ }
 {
     if x.asleep & sets::has(busy, c) {
@@ -112,12 +104,12 @@ pub fn waking(x: Connection, busy: u32, c: usize) -> u32
 }
 
 // The sleepers among the busy: those that wake.
-pub fn to_wake(connections: [Connection; 16], busy: u32) -> u32
+pub fn to_wake(connections: [Connection; CONNECTIONS], busy: u32) -> u32
     ensures { λ s. ⌜ s ≡ toWakeSet busy connections ⌝ }
 {
     let mut s = 0;
     let mut i = 0;
-    while i < 16 {
+    while i < CONNECTIONS {
         let x = connections[i];
         s = sets::union(s, waking(x, busy, i));
         i += 1;
@@ -130,19 +122,19 @@ fn name_of(r: JobRow) -> u32
     ensures { λ s. ⌜ s ≡ nameOf r ⌝ }
 {
     let q = r.function as usize;
-    if (r.serial != 0) & (q < 16) {
+    if (r.serial != 0) & (q < FUNCTIONS) {
         return sets::insert(0, q);
     }
     0
 }
 
 // The functions that unfinished jobs name.
-fn named(rows: [JobRow; 32]) -> u32
+fn named(rows: [JobRow; JOBS]) -> u32
     ensures { λ s. ⌜ s ≡ namedSet rows ⌝ }
 {
     let mut s = 0;
     let mut i = 0;
-    while i < 32 {
+    while i < JOBS {
         let r = rows[i];
         s = sets::union(s, name_of(r));
         i += 1;
@@ -151,13 +143,13 @@ fn named(rows: [JobRow; 32]) -> u32
 }
 
 // Which functions some connection can do or an unfinished job names.
-pub fn wanted(able: [u32; 16], rows: [JobRow; 32]) -> [bool; 16]
+pub fn wanted(able: [u32; FUNCTIONS], rows: [JobRow; JOBS]) -> [bool; FUNCTIONS]
     ensures { λ m. ⌜ m ≡ wantedMarks able rows ⌝ }
 {
     let s = named(rows);
-    let mut marks = [false; 16];
+    let mut marks = [false; FUNCTIONS];
     let mut i = 0;
-    while i < 16 {
+    while i < FUNCTIONS {
         marks[i] = (able[i] != 0) | sets::has(s, i);
         i += 1;
     }
@@ -173,10 +165,8 @@ pub fn settled(v: Values) -> Values
     let sleeping = v.connections;
     let rows = dropped(before);
     let connections = woken(sleeping, busy(able, rows));
-    Values {
-        last: v.last,
-        connections,
-        able,
-        rows,
-    }
+    let mut next = v;
+    next.connections = connections;
+    next.rows = rows;
+    next
 }

@@ -6,7 +6,7 @@ use mathlib.Core.Path.{_≡_, refl}
 use mathlib.Core.Bool.{false}
 use mathlib.Core.Option.{Option, none, some}
 use mathlib.Core.List.{List, [], _∷_}
-use Rattle.octets.specs.Bytes.{Bytes, same, startsWith, firstZero, every}
+use Rattle.octets.specs.Bytes.{Bytes, same, startsWith, firstZero, every, text}
 use Rattle.sets.specs.Sets.{has}
 use Rattle.hex.specs.Hex.{unhex, hex}
 use Rattle.packet.specs.Layout.{rulesOf, requestShape, responseShape}
@@ -15,9 +15,9 @@ use Rattle.packet.specs.Packet.{header, body, read}
 use Rattle.handle.specs.Handle.{decimal, decimalIn, handle, serialOf, value}
 use Rattle.naming.specs.Names.{labelOf, labelsOf, nameOf, reasonOf}
 use Rattle.naming.specs.Pieces.{pieces}
+use Rattle.server.specs.Sizes.{connectionCount}
 use Rattle.server.specs.Table.{Table, fresh, setJob}
 use Rattle.server.specs.Replay.{frame}
-use Rattle.server.proofs.Histories.{text}
 use Rattle.plans.specs.Values.{serialRow}
 use Rattle.framing.specs.Packets.{packetLines}
 use Rattle.wording.specs.Lines.{argumentText, argumentTexts, labelBefore, packetText, readText, refusalText, refusedText, requestLine, responseLine, saying, seenByte, seenBytes, shown, sized, valueOf}
@@ -33,18 +33,18 @@ bytesIn (some b) = b
 
 -- line k of a capture: its digits, the packets sent in digits, the number, and the table after it
 unfoldable printed : ℕ → Bytes → List Bytes → ℕ → Table → Bytes
-unfolding lineText headingText digitsText headerSeen eventText answerText packetLines sentText numberText tableText jobsAfter concerned jobNamed namedBy handleIn serialOf value handle frame unhex hex requestLine responseLine saying readText packetText refusedText refusalText argumentTexts argumentText pieces labelBefore valueOf sized shown seenBytes seenByte nameOf reasonOf labelOf labelsOf decimal decimalIn read header body split fits rulesOf requestShape responseShape startsWith firstZero every same sleepersText connectionsText each orNone serialText foundText serialRow jobText jobsText noJobText holderText has fresh text
+unfolding lineText headingText digitsText headerSeen eventText answerText packetLines sentText numberText tableText jobsAfter concerned jobNamed namedBy handleIn serialOf value handle frame unhex hex requestLine responseLine saying readText packetText refusedText refusalText argumentTexts argumentText pieces labelBefore valueOf sized shown seenBytes seenByte nameOf reasonOf labelOf labelsOf decimal decimalIn read header body split fits rulesOf requestShape responseShape startsWith firstZero every same sleepersText connectionsText each orNone serialText foundText serialRow jobText jobsText noJobText holderText has fresh
 printed k line sent n t = lineText k (frame line) sent n t
 
 abbrev spelled : String → Bytes
-unfolding text unhex
+unfolding unhex
 spelled s = bytesIn (unhex (text s))
 
 -- one job, with this serial, this holder and these listeners
 abbrev oneJob : ℕ → ℕ → ℕ → Table
 unfolding fresh
 oneJob serial holder listeners =
-    setJob (fresh 16) 0 (record {
+    setJob (fresh connectionCount) 0 (record {
       row = record { serial = serial; function = 0; priority = 1; background = false; listeners = listeners; holder = holder; size = 4 };
       unique = [];
       numerator = 48 ∷ [];

@@ -8,12 +8,12 @@ use lib.ListN.{length, take}
 use Rattle.octets.specs.Bytes.{Bytes}
 use Rattle.octets.specs.Put.{put}
 use Rattle.octets.proofs.Laying.{length-put}
+use Rattle.server.specs.Sizes.{connectionCount}
 use Rattle.server.specs.Asked.{Event}
-use Rattle.server.specs.Layout.{tableOf}
-use Rattle.server.specs.Call.{Result, serverIn, tooShort, isSound, refusedBy, performed, call}
+use Rattle.server.specs.Layout.{tableOf, tableSize}
+use Rattle.server.specs.Call.{Result, serverIn, tooShort, isSound, refusedBy, performed, call, left}
 use Rattle.server.specs.Replay.{frame}
 use Rattle.calls.proofs.Refusals.{taken}
-use Rattle.performing.specs.Concluded.{left}
 use Rattle.framing.specs.Packets.{packetsIn}
 use Rattle.framing.specs.Spoken.{answeredTo, telling}
 use Rattle.framing.proofs.Telling.{frame-told, short-told}
@@ -23,16 +23,16 @@ use Rattle.showing.specs.Shown.{lineText, shown, textSize}
 
 module _ (t w o : Bytes) where
   -- where it is refused neither by 1 nor by 16, there is a table
-  long-call : (e : Event) → (call 16 e t w o .number ≡ 1 → ⊥) → 3796 ≤ length (call 16 e t w o .table)
+  long-call : (e : Event) → (call connectionCount e t w o .number ≡ 1 → ⊥) → tableSize connectionCount ≤ length (call connectionCount e t w o .table)
   unfolding call refusedBy performed
-  long-call e = go (tooShort 16 t w o || not (isSound 16 t)) refl
+  long-call e = go (tooShort connectionCount t w o || not (isSound connectionCount t)) refl
     where
-      go : (b : Bool) → tooShort 16 t w o || not (isSound 16 t) ≡ b
-          → (cond b (refusedBy 1 t w o) (performed e (serverIn 16 t w) t w o) .number ≡ 1 → ⊥) → 3796 ≤ length (cond b (refusedBy 1 t w o) (performed e (serverIn 16 t w) t w o) .table)
+      go : (b : Bool) → tooShort connectionCount t w o || not (isSound connectionCount t) ≡ b
+          → (cond b (refusedBy 1 t w o) (performed e (serverIn connectionCount t w) t w o) .number ≡ 1 → ⊥) → tableSize connectionCount ≤ length (cond b (refusedBy 1 t w o) (performed e (serverIn connectionCount t w) t w o) .table)
       go true q h = absurd (h refl)
-      go false q h = rw length-put (omega (arith, taken 16 t w o q .longTable))
+      go false q h = rw length-put (omega (arith, taken connectionCount t w o q .longTable))
 
-  long-answered : (v : Option Event) → (answeredTo v t w o .number ≡ 1 → ⊥) → (answeredTo v t w o .number ≡ 16 → ⊥) → 3796 ≤ length (answeredTo v t w o .table)
+  long-answered : (v : Option Event) → (answeredTo v t w o .number ≡ 1 → ⊥) → (answeredTo v t w o .number ≡ 16 → ⊥) → tableSize connectionCount ≤ length (answeredTo v t w o .table)
   unfolding answeredTo refusedBy
   long-answered none a b = absurd (b refl)
   long-answered (some e) a b = long-call e a
@@ -44,11 +44,11 @@ module _ (t w o : Bytes) where
   short-text k line x h = short-told t w o textSize (lineText k) line x h
 
   module _ (v : Option Event) (n l : ℕ) (p u s : Bytes) (q : left n l p u s ≡ answeredTo v t w o) where
-    pub table-long : (n ≡ 1 → ⊥) → (n ≡ 16 → ⊥) → 3796 ≤ length u
-    table-long = subst (λ (r : Result). (r .number ≡ 1 → ⊥) → (r .number ≡ 16 → ⊥) → 3796 ≤ length (r .table)) (sym q) (long-answered v)
+    pub table-long : (n ≡ 1 → ⊥) → (n ≡ 16 → ⊥) → tableSize connectionCount ≤ length u
+    table-long = subst (λ (r : Result). (r .number ≡ 1 → ⊥) → (r .number ≡ 16 → ⊥) → tableSize connectionCount ≤ length (r .table)) (sym q) (long-answered v)
 
     pub line-shown : (k : ℕ) (line x : Bytes) → textSize ≤ length x → v ≡ frame line → (r : ℕ) (y : Bytes)
-        → (r ≡ 0 + length (lineText k v (packetsIn (take l p)) n (tableOf 16 u))) × (y ≡ put 0 (lineText k v (packetsIn (take l p)) n (tableOf 16 u)) x)
+        → (r ≡ 0 + length (lineText k v (packetsIn (take l p)) n (tableOf connectionCount u))) × (y ≡ put 0 (lineText k v (packetsIn (take l p)) n (tableOf connectionCount u)) x)
         → telling r y p u s ≡ shown k line t w o x
     unfolding shown
     line-shown k line x h e r y g = frame-told t w o v n l p u s q textSize (lineText k) line x h e r y g

@@ -9,9 +9,9 @@ use lib.ListN.{length}
 use Rattle.octets.specs.Bytes.{Bytes}
 use Rattle.octets.specs.Put.{put}
 use Rattle.octets.proofs.Laying.{length-put}
+use Rattle.server.specs.Sizes.{connectionCount, outputSize}
 use Rattle.server.specs.Table.{Table}
 use Rattle.server.specs.Asked.{Event}
-use Rattle.server.specs.Call.{outputSize}
 use Rattle.framing.specs.Packets.{Packed, packetsIn}
 use Rattle.framing.proofs.Cutting.{packets-in}
 use Rattle.octets.proofs.Runs.{laid-then, laid-third, room-first, room-second, room-then, room-third}
@@ -34,7 +34,7 @@ module _ (k : ℕ) (f : Option Event) (b : Bytes) (n : ℕ) (t : Table) (x : Byt
   abbrev Laid : ℕ → Bytes → Bytes → ℕ → Bytes → Type 0
   Laid at y z p o = (p ≡ at + length y) × (o ≡ put at y z)
 
-  module _ (packed : Packed b) (few : length b ≤ outputSize) (long : textSize ≤ length x) where
+  module _ (packed : Packed b) (few : length b ≤ outputSize connectionCount) (long : textSize ≤ length x) where
     all : 0 + length (lineText k f (packetsIn b) n t) ≤ length x
     all =
         let q : packetsIn b ≡ packed .packets = packets-in b (packed .packets) (packed .formed) (packed .whole) in

@@ -1,9 +1,11 @@
 -- What `show` prints for one line of a capture, and for a whole one. docs/SHOW.md has the layout. Assumes nothing.
-use Prim.Native.Nat.{ℕ}
+use Prim.Native.Nat.{ℕ, _+_, _*_}
 use mathlib.Core.List.{List, [], _∷_, _++_}
 use Rattle.octets.specs.Bytes.{Bytes}
+use Rattle.server.specs.Sizes.{connectionCount, outputSize}
 use Rattle.server.specs.Server.{Server}
 use Rattle.framing.specs.Spoken.{Speech, Told, told, said, spoken}
+use Rattle.standing.specs.Standing.{sleepersRoom, jobsRoom}
 use Rattle.reporting.specs.Parts.{answerText, headingText, tableText}
 
 abbrev pub lineEnd : Bytes
@@ -13,10 +15,10 @@ lineEnd = 10 ∷ []
 unfoldable pub lineText : ℕ → Speech
 lineText k f ps n t = headingText k f ++ (answerText ps n ++ (tableText f ps n t ++ lineEnd))
 
--- room for what any line says: fourteen bytes for each of the 16,592 of the longest output, 1,314 for the heading, 47 for the number,
--- 3,291 for the table, and the line end
+-- room for what any line says: fourteen bytes for each of the longest output, 1,314 for the heading, 47 for the number, the table's,
+-- and the line end
 abbrev pub textSize : ℕ
-textSize = 236941
+textSize = 14 * outputSize connectionCount + 1314 + 47 + (sleepersRoom + jobsRoom) + 1
 
 -- one line on the lent bytes: table, workloads, output, text
 unfoldable pub shown : ℕ → Bytes → Bytes → Bytes → Bytes → Bytes → Told

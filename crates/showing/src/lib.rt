@@ -2,18 +2,23 @@
 // after it. docs/SHOW.md has the layout. A line that is no frame is answered by 16, and a text with too little room by nothing at all.
 // No caller has to check anything first.
 use framing::Frame;
+use performing::Answer;
+use server::OUTPUT_SIZE;
+use standing::JOBS_ROOM;
+use standing::SLEEPERS_ROOM;
 ghost use mathlib.Core.Path.{_≡_};
 ghost use Prim.Native.Nat.{_+_, _≤_};
 ghost use lib.ListN.{length};
 ghost use Rattle.octets.specs.Put.{put};
-ghost use Rattle.server.specs.Layout.{tableOf};
+ghost use Rattle.server.specs.Sizes.{connectionCount, outputSize};
+ghost use Rattle.server.specs.Layout.{tableOf, tableSize};
 ghost use Rattle.framing.specs.Frames.{Bounded, eventOf};
 ghost use Rattle.framing.specs.Packets.{Packed, packetsIn};
 ghost use Rattle.framing.specs.Spoken.{telling};
-ghost use Rattle.showing.specs.Shown.{lineText, shown};
+ghost use Rattle.showing.specs.Shown.{lineText, shown, textSize};
 
 // Room for what any line says.
-const TEXT: usize = 236941;
+pub const TEXT_SIZE: usize = 14 * OUTPUT_SIZE + 1314 + 47 + (SLEEPERS_ROOM + JOBS_ROOM) + 1;
 
 // Lays all that is said of a line.
 fn put_line(
@@ -25,10 +30,10 @@ fn put_line(
     sent: &[u8],
     outcome: u8,
 ) -> usize
-    requires { ⌜ Bounded frame × Packed (now sent) × ((outcome ≡ 1 → ⊥) → (outcome ≡ 16 → ⊥) → 3796 ≤ length (now table))
-        × (length (now sent) ≤ 16592) × (236941 ≤ length (now text)) ⌝ }
-    ensures { λ r. ⌜ (r ≡ 0 + length (lineText number (eventOf frame (now (bytes .entry))) (packetsIn (now (sent .entry))) outcome (tableOf 16 (now (table .entry)))))
-        × (now (text .exit) ≡ put 0 (lineText number (eventOf frame (now (bytes .entry))) (packetsIn (now (sent .entry))) outcome (tableOf 16 (now (table .entry)))) (now (text .entry))) ⌝ }
+    requires { ⌜ Bounded frame × Packed (now sent) × ((outcome ≡ 1 → ⊥) → (outcome ≡ 16 → ⊥) → tableSize connectionCount ≤ length (now table))
+        × (length (now sent) ≤ outputSize connectionCount) × (textSize ≤ length (now text)) ⌝ }
+    ensures { λ r. ⌜ (r ≡ 0 + length (lineText number (eventOf frame (now (bytes .entry))) (packetsIn (now (sent .entry))) outcome (tableOf connectionCount (now (table .entry)))))
+        × (now (text .exit) ≡ put 0 (lineText number (eventOf frame (now (bytes .entry))) (packetsIn (now (sent .entry))) outcome (tableOf connectionCount (now (table .entry)))) (now (text .entry))) ⌝ }
 {
     let answer = reporting::put_heading(text, number, frame, bytes);
     let standing = reporting::put_answer(text, answer, sent, outcome);
@@ -37,7 +42,7 @@ fn put_line(
 }
 
 // One line of a capture, without its line end: lays what is shown of it over the start of the text, and returns how long that is.
-// Nothing is said, and nothing changed, where the text has less room than 236,941 bytes.
+// Nothing is said, and nothing changed, where the text has less room than `TEXT_SIZE` bytes.
 pub fn step(
     table: &mut [u8],
     workloads: &mut [u8],
@@ -49,12 +54,12 @@ pub fn step(
     ensures { λ r. ⌜ telling r (now (text .exit)) (now (output .exit)) (now (table .exit)) (now (workloads .exit))
         ≡ shown number (now (line .entry)) (now (table .entry)) (now (workloads .entry)) (now (output .entry)) (now (text .entry)) ⌝ }
 {
-    if text.len() < TEXT {
+    if text.len() < TEXT_SIZE {
         return 0;
     }
     let mut bytes = [0u8; 1040];
     let frame = framing::read_frame(line, &mut bytes);
-    let answer = framing::answer_frame(table, workloads, output, frame, &bytes);
+    let answer: Answer = framing::answer_frame(table, workloads, output, frame, &bytes);
     let length = answer.length;
     put_line(
         text,

@@ -6,10 +6,11 @@ use mathlib.Core.Option.{Option, none, some}
 use mathlib.Core.List.{List, [], _++_}
 use lib.ListN.{length}
 use Rattle.octets.specs.Bytes.{Bytes}
+use Rattle.server.specs.Sizes.{connectionCount, workloadsSize, outputSize}
 use Rattle.server.specs.Asked.{Event}
 use Rattle.server.specs.Server.{Server, start}
 use Rattle.server.specs.Layout.{tableSize}
-use Rattle.server.specs.Call.{workloadsSize, outputSize, make}
+use Rattle.server.specs.Call.{make}
 use Rattle.server.specs.Replay.{frame}
 use Rattle.outcomes.proofs.Cases.{All2}
 use Rattle.calls.proofs.Follows.{Running, running-next}
@@ -34,8 +35,8 @@ AlikeLines l m = AlikeFrames (frame l) (frame m)
 -- ---- one line, at two running servers with equal tables
 
 record Pair (s r : Server) : Type 0 where
-  first : Running 16 s
-  second : Running 16 r
+  first : Running connectionCount s
+  second : Running connectionCount r
   tables : s .table ≡ r .table
 
 module _ (s r : Server) (p : Pair s r) where
@@ -46,7 +47,7 @@ module _ (s r : Server) (p : Pair s r) where
   pair-after : {f g : Option Event} → AlikeFrames f g → Pair (serverAfter f s) (serverAfter g r)
   pair-after nothing = p
   pair-after (alike {e = e} {f = f} a) =
-      record { first = running-next 16 e s (p .first); second = running-next 16 f r (p .second); tables = table-alike a s r (p .tables) }
+      record { first = running-next connectionCount e s (p .first); second = running-next connectionCount f r (p .second); tables = table-alike a s r (p .tables) }
 
 -- ---- captures
 
@@ -57,21 +58,21 @@ captures-alike (All2.more {a = l} {b = m} a rest) k s r p =
     ap₂ {C = Bytes} (λ (x y : Bytes). x ++ y) (spoken-alike s r p a k) (captures-alike rest (suc k) (serverAfter (frame l) s) (serverAfter (frame m) r) (pair-after s r p a))
 
 -- by the definitions
-pub show-blind : (ls ms : List Bytes) → All2 AlikeLines ls ms → answeredText ls (start 16) ≡ answeredText ms (start 16)
-show-blind ls ms a = captures-alike a 1 (start 16) (start 16) (record { first = running-start 16; second = running-start 16; tables = refl })
+pub show-blind : (ls ms : List Bytes) → All2 AlikeLines ls ms → answeredText ls (start connectionCount) ≡ answeredText ms (start connectionCount)
+show-blind ls ms a = captures-alike a 1 (start connectionCount) (start connectionCount) (record { first = running-start connectionCount; second = running-start connectionCount; tables = refl })
 
 -- ---- on lent bytes
 
 -- the bytes lent to show a capture are long enough
 pub record Lent (t w o x : Bytes) : Type 0 where
-  pub table : tableSize 16 ≤ length t
+  pub table : tableSize connectionCount ≤ length t
   pub workloads : workloadsSize ≤ length w
-  pub output : outputSize ≤ length o
+  pub output : outputSize connectionCount ≤ length o
   pub text : textSize ≤ length x
 
 -- by the code, from a fresh table in whatever bytes are lent to each
 pub shown-blind : (ls ms : List Bytes) → All2 AlikeLines ls ms → (t w o x : Bytes) → Lent t w o x → (u v p y : Bytes) → Lent u v p y
-    → shownText ls (make 16 t w .table) (make 16 t w .workloads) o x ≡ shownText ms (make 16 u v .table) (make 16 u v .workloads) p y
+    → shownText ls (make connectionCount t w .table) (make connectionCount t w .workloads) o x ≡ shownText ms (make connectionCount u v .table) (make connectionCount u v .workloads) p y
 shown-blind ls ms a t w o x h u v p y g =
     show-text t w (h .table) (h .workloads) ls o x (h .output) (h .text)
     ∙ show-blind ls ms a

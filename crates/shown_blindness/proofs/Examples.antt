@@ -10,6 +10,7 @@ use Rattle.hex.specs.Hex.{unhex, hex}
 use Rattle.packet.specs.Layout.{rulesOf, requestShape}
 use Rattle.packet.specs.Packet.{requests, header, packet}
 use Rattle.packet.specs.Opaque.{hasZeros, past, hides, seen, visible, opaque}
+use Rattle.server.specs.Sizes.{connectionCount}
 use Rattle.server.specs.Server.{start}
 use Rattle.server.specs.Replay.{frame}
 use Rattle.outcomes.proofs.Cases.{All2}
@@ -47,5 +48,5 @@ unfolding compute
 captures-alike = All2.more (alike opening) (All2.more (alike (sending refl refl)) (All2.more (alike (sending refl refl)) (All2.more nothing All2.none)))
 
 -- they are shown by the same bytes
-captures-shown : answeredText (capture test) (start 16) ≡ answeredText (capture zeros) (start 16)
+captures-shown : answeredText (capture test) (start connectionCount) ≡ answeredText (capture zeros) (start connectionCount)
 captures-shown = show-blind (capture test) (capture zeros) captures-alike

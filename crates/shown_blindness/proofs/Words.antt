@@ -7,6 +7,7 @@ use mathlib.Core.List.{List, _++_, map}
 use Rattle.octets.specs.Bytes.{Bytes}
 use Rattle.handle.specs.declared.Serial as S
 use Rattle.server.specs.declared.JobRow.{JobRow}
+use Rattle.server.specs.Sizes.{connectionCount}
 use Rattle.server.specs.Table.{Table}
 use Rattle.server.specs.Asked.{Event}
 use Rattle.server.specs.Server.{Server, Sent, addressed, next, answer}
@@ -62,7 +63,7 @@ module _ {ps qs : List Sent} (r : All2 AlikeSent ps qs) where
 
 -- ---- two servers
 
-pub words-alike : {e f : Event} → Alike e f → (s r : Server) → Running 16 s → Running 16 r → s .table ≡ r .table → (k : ℕ)
+pub words-alike : {e f : Event} → Alike e f → (s r : Server) → Running connectionCount s → Running connectionCount r → s .table ≡ r .table → (k : ℕ)
     → spokenTo (lineText k) (some e) s ≡ spokenTo (lineText k) (some f) r
 words-alike {e} {f} a s r h g q k =
     let b = answer-alike a s r q in

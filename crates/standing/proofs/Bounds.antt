@@ -15,11 +15,12 @@ use Rattle.handle.proofs.Decimal.{decimal-most}
 use Rattle.handle.proofs.Handles.{handle-most}
 use Rattle.server.specs.declared.Connection.{Connection}
 use Rattle.server.specs.declared.JobRow.{JobRow}
+use Rattle.server.specs.Sizes.{connectionCount, jobCount}
 use Rattle.server.specs.Table.{live, noRow}
 use Rattle.plans.specs.Values.{serialRow}
 use Rattle.naming.specs.Names.{space}
 use Rattle.naming.proofs.Pieces.{pieces-short}
-use Rattle.standing.specs.Standing.{connectionsText, each, foundText, holderText, holderWord, jobText, jobsText, listenersWord, noJobText, orNone, serialText, sleepersText}
+use Rattle.standing.specs.Standing.{connectionsText, each, foundText, holderText, holderWord, jobText, jobsText, listenersWord, noJobText, orNone, serialText, sleepersText, connectionsRoom, sleepersRoom, jobRoom, jobsRoom}
 use Rattle.standing.proofs.Connections.{shown, sleeps}
 use Rattle.standing.proofs.Jobs.{unfinished}
 
@@ -33,23 +34,23 @@ two-digits c h = either (ltb c 10)
     either true = omega arith
     either false = rw (lt-ltb (c / 10) 10 (omega arith)) (omega arith)
 
-connection-short : (f : ℕ → Bool) (c : ℕ) → c < 16 → length (shown f c) ≤ 3
+connection-short : (f : ℕ → Bool) (c : ℕ) → c < connectionCount → length (shown f c) ≤ 3
 connection-short f c h = either (f c)
   where
     either : (b : Bool) → length (cond b (space ++ decimal c) []) ≤ 3
     either true = omega (arith, two-digits c (omega arith))
     either false = omega arith
 
-or-none-short : (s : Bytes) → length s ≤ 48 → length (orNone s) ≤ 48
+or-none-short : (s : Bytes) → length s ≤ connectionsRoom → length (orNone s) ≤ connectionsRoom
 unfolding orNone
 or-none-short [] h = omega arith
 or-none-short (x ∷ s) h = h
 
-connections-short : (f : ℕ → Bool) → length (connectionsText f 16) ≤ 48
+connections-short : (f : ℕ → Bool) → length (connectionsText f connectionCount) ≤ connectionsRoom
 unfolding connectionsText each
-connections-short f = or-none-short (each f 16) (pieces-short (shown f) 3 16 (connection-short f))
+connections-short f = or-none-short (each f connectionCount) (pieces-short (shown f) 3 connectionCount (connection-short f))
 
-pub sleepers-short : (cs : List Connection) → length (sleepersText 16 cs) ≤ 59
+pub sleepers-short : (cs : List Connection) → length (sleepersText connectionCount cs) ≤ sleepersRoom
 unfolding sleepersText
 sleepers-short cs = omega (arith, connections-short (sleeps cs))
 
@@ -60,10 +61,10 @@ unfolding holderText
 holder-short zero = omega arith
 holder-short (suc c) = omega (arith, decimal-most c)
 
-job-short : (r : JobRow) → length (jobText 16 r) ≤ 101
+job-short : (r : JobRow) → length (jobText connectionCount r) ≤ jobRoom
 unfolding jobText
 job-short r =
-    let l : Bytes = connectionsText (has (r .listeners)) 16 in
+    let l : Bytes = connectionsText (has (r .listeners)) connectionCount in
     omega (
       arith,
       length-append (handle lap (r .serial)) (holderWord ++ (holderText (r .holder) ++ (listenersWord ++ l))),
@@ -73,26 +74,26 @@ job-short r =
       connections-short (has (r .listeners)),
     )
 
-no-job-short : (serial : ℕ) → length (noJobText serial) ≤ 101
+no-job-short : (serial : ℕ) → length (noJobText serial) ≤ jobRoom
 unfolding noJobText
 no-job-short serial = omega (arith, handle-most lap serial)
 
-found-short : (serial : ℕ) (rs : List JobRow) (o : Option ℕ) → length (foundText 16 serial rs o) ≤ 101
+found-short : (serial : ℕ) (rs : List JobRow) (o : Option ℕ) → length (foundText connectionCount serial rs o) ≤ jobRoom
 unfolding foundText
 found-short serial rs (some p) = job-short (getD rs p noRow)
 found-short serial rs none = no-job-short serial
 
-pub serial-text-short : (serial : ℕ) (rs : List JobRow) → length (serialText 16 serial rs) ≤ 101
+pub serial-text-short : (serial : ℕ) (rs : List JobRow) → length (serialText connectionCount serial rs) ≤ jobRoom
 unfolding serialText
 serial-text-short serial rs = found-short serial rs (serialRow serial rs)
 
-row-short : (r : JobRow) → length (cond (live r) (jobText 16 r) []) ≤ 101
+row-short : (r : JobRow) → length (cond (live r) (jobText connectionCount r) []) ≤ jobRoom
 row-short r = either (live r)
   where
-    either : (b : Bool) → length (cond b (jobText 16 r) []) ≤ 101
+    either : (b : Bool) → length (cond b (jobText connectionCount r) []) ≤ jobRoom
     either true = job-short r
     either false = omega arith
 
-pub jobs-short : (rs : List JobRow) → length (jobsText 16 rs) ≤ 3232
+pub jobs-short : (rs : List JobRow) → length (jobsText connectionCount rs) ≤ jobsRoom
 unfolding jobsText
-jobs-short rs = pieces-short (unfinished rs) 101 32 (λ p h. row-short (getD rs p noRow))
+jobs-short rs = pieces-short (unfinished rs) jobRoom jobCount (λ p h. row-short (getD rs p noRow))

@@ -8,6 +8,7 @@ use lib.ListN.{getD}
 use Rattle.octets.specs.Bytes.{Bytes}
 use Rattle.handle.specs.Handle.{decimal}
 use Rattle.server.specs.declared.JobRow.{JobRow}
+use Rattle.server.specs.Sizes.{connectionCount}
 use Rattle.server.specs.Table.{live, noRow}
 use Rattle.plans.proofs.Places.{searched}
 use Rattle.plans.specs.declared.Place.the-variants.{At, Nowhere}
@@ -17,7 +18,7 @@ use Rattle.standing.specs.Standing.{foundText, holderText, holderWord, j
 
 -- the piece of place p
 abbrev pub unfinished : List JobRow → ℕ → Bytes
-unfinished rs p = cond (live (getD rs p noRow)) (jobText 16 (getD rs p noRow)) []
+unfinished rs p = cond (live (getD rs p noRow)) (jobText connectionCount (getD rs p noRow)) []
 
 -- ---- a holder, from the number in the row
 

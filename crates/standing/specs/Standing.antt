@@ -1,6 +1,6 @@
 -- How the table stands after an event, in words: who is asleep, and a job with its holder and its listeners. A line begins with a
 -- line end and four spaces, and has no line end after it. Assumes nothing.
-use Prim.Native.Nat.{ℕ, zero, suc}
+use Prim.Native.Nat.{ℕ, zero, suc, _+_, _*_}
 use mathlib.Core.Bool.{Bool, cond}
 use mathlib.Core.List.{List, [], _∷_, _++_}
 use mathlib.Core.Option.{Option, none, some}
@@ -10,6 +10,7 @@ use Rattle.sets.specs.Sets.{has}
 use Rattle.handle.specs.Handle.{decimal, handle, lap}
 use Rattle.server.specs.declared.Connection.{Connection}
 use Rattle.server.specs.declared.JobRow.{JobRow}
+use Rattle.server.specs.Sizes.{connectionCount, jobCount}
 use Rattle.server.specs.Table.{closed, live, noRow}
 use Rattle.plans.specs.Values.{serialRow}
 use Rattle.naming.specs.Names.{space}
@@ -84,4 +85,19 @@ serialText n serial rs = foundText n serial rs (serialRow serial rs)
 
 -- every unfinished job, in the order of the places
 unfoldable pub jobsText : ℕ → List JobRow → Bytes
-jobsText n rs = pieces (λ p. cond (live (getD rs p noRow)) (jobText n (getD rs p noRow)) []) 32
+jobsText n rs = pieces (λ p. cond (live (getD rs p noRow)) (jobText n (getD rs p noRow)) []) jobCount
+
+-- ---- room for them
+
+-- a space and two digits for each connection
+abbrev pub connectionsRoom : ℕ
+connectionsRoom = 3 * connectionCount
+
+abbrev pub sleepersRoom : ℕ
+sleepersRoom = connectionsRoom + 11
+
+abbrev pub jobRoom : ℕ
+jobRoom = connectionsRoom + 53
+
+abbrev pub jobsRoom : ℕ
+jobsRoom = jobRoom * jobCount

@@ -1,7 +1,9 @@
 // How the table stands after an event, in words laid over a lent text: who is asleep, and a job with its holder and its listeners.
 // Each function returns the place after what it laid. An inner crate: its callers see to the room, and no table is refused.
 use plans::Place;
+use server::CONNECTIONS;
 use server::Connection;
+use server::JOBS;
 use server::JobRow;
 ghost use mathlib.Core.Path.{_≡_};
 ghost use Prim.Native.Nat.{_+_, _≤_, _<_};
@@ -12,15 +14,21 @@ ghost use lib.Dec.{eqb};
 ghost use Rattle.octets.specs.Put.{put};
 ghost use Rattle.sets.specs.Sets.{has};
 ghost use Rattle.handle.specs.Handle.{decimal, handle, lap};
+ghost use Rattle.server.specs.Sizes.{connectionCount};
 ghost use Rattle.server.specs.Table.{closed, live};
 ghost use Rattle.naming.specs.Names.{space};
 ghost use Rattle.standing.specs.Standing.{connectionsText, each, holderText, holderWord, jobText, jobsText, listenersWord, noJobText, noneWord, serialText, sleepersText};
+
+// Room for who sleeps, and for all jobs: a space and two digits for each connection, and the words.
+pub const SLEEPERS_ROOM: usize = 3 * CONNECTIONS + 11;
+
+pub const JOBS_ROOM: usize = (3 * CONNECTIONS + 53) * JOBS;
 
 // ---- connections
 
 // Lays a connection's number after a space, if it is one of those that are shown.
 fn put_one(out: &mut [u8], at: usize, shown: bool, c: usize) -> usize
-    requires { ⌜ (c < 16) × (at + length (cond shown (space ++ decimal c) []) ≤ length (now out)) ⌝ }
+    requires { ⌜ (c < connectionCount) × (at + length (cond shown (space ++ decimal c) []) ≤ length (now out)) ⌝ }
     ensures { λ r. ⌜ (r ≡ at + length (cond shown (space ++ decimal c) [])) × (now (out .exit) ≡ put at (cond shown (space ++ decimal c) []) (now (out .entry))) ⌝ }
 {
     if shown {
@@ -42,13 +50,13 @@ fn put_none(out: &mut [u8], at: usize, place: usize) -> usize
 }
 
 // Lays the connections that are asleep, in rising order.
-fn put_asleep(out: &mut [u8], at: usize, connections: [Connection; 16]) -> usize
-    requires { ⌜ at + length (each (λ c. getD connections c closed .asleep) 16) ≤ length (now out) ⌝ }
-    ensures { λ r. ⌜ (r ≡ at + length (each (λ c. getD connections c closed .asleep) 16)) × (now (out .exit) ≡ put at (each (λ c. getD connections c closed .asleep) 16) (now (out .entry))) ⌝ }
+fn put_asleep(out: &mut [u8], at: usize, connections: [Connection; CONNECTIONS]) -> usize
+    requires { ⌜ at + length (each (λ c. getD connections c closed .asleep) connectionCount) ≤ length (now out) ⌝ }
+    ensures { λ r. ⌜ (r ≡ at + length (each (λ c. getD connections c closed .asleep) connectionCount)) × (now (out .exit) ≡ put at (each (λ c. getD connections c closed .asleep) connectionCount) (now (out .entry))) ⌝ }
 {
     let mut place = at;
     let mut c = 0;
-    while c < 16 {
+    while c < CONNECTIONS {
         let connection = connections[c];
         place = put_one(out, place, connection.asleep, c);
         c += 1;
@@ -58,12 +66,12 @@ fn put_asleep(out: &mut [u8], at: usize, connections: [Connection; 16]) -> usize
 
 // Lays the connections of a set, in rising order.
 fn put_members(out: &mut [u8], at: usize, set: u32) -> usize
-    requires { ⌜ at + length (each (has set) 16) ≤ length (now out) ⌝ }
-    ensures { λ r. ⌜ (r ≡ at + length (each (has set) 16)) × (now (out .exit) ≡ put at (each (has set) 16) (now (out .entry))) ⌝ }
+    requires { ⌜ at + length (each (has set) connectionCount) ≤ length (now out) ⌝ }
+    ensures { λ r. ⌜ (r ≡ at + length (each (has set) connectionCount)) × (now (out .exit) ≡ put at (each (has set) connectionCount) (now (out .entry))) ⌝ }
 {
     let mut place = at;
     let mut c = 0;
-    while c < 16 {
+    while c < CONNECTIONS {
         place = put_one(out, place, sets::has(set, c), c);
         c += 1;
     }
@@ -71,9 +79,9 @@ fn put_members(out: &mut [u8], at: usize, set: u32) -> usize
 }
 
 // Lays who is asleep.
-pub fn put_sleepers(out: &mut [u8], at: usize, connections: [Connection; 16]) -> usize
-    requires { ⌜ at + length (sleepersText 16 connections) ≤ length (now out) ⌝ }
-    ensures { λ r. ⌜ (r ≡ at + length (sleepersText 16 connections)) × (now (out .exit) ≡ put at (sleepersText 16 connections) (now (out .entry))) ⌝ }
+pub fn put_sleepers(out: &mut [u8], at: usize, connections: [Connection; CONNECTIONS]) -> usize
+    requires { ⌜ at + length (sleepersText connectionCount connections) ≤ length (now out) ⌝ }
+    ensures { λ r. ⌜ (r ≡ at + length (sleepersText connectionCount connections)) × (now (out .exit) ≡ put at (sleepersText connectionCount connections) (now (out .entry))) ⌝ }
 {
     let list = octets::put(out, at, b"\n    asleep");
     let place = put_asleep(out, list, connections);
@@ -106,8 +114,8 @@ fn put_holder(out: &mut [u8], at: usize, holder: u16) -> usize
 
 // Lays a row's listeners.
 fn put_listeners(out: &mut [u8], at: usize, listeners: u32) -> usize
-    requires { ⌜ at + length (listenersWord ++ connectionsText (has listeners) 16) ≤ length (now out) ⌝ }
-    ensures { λ r. ⌜ (r ≡ at + length (listenersWord ++ connectionsText (has listeners) 16)) × (now (out .exit) ≡ put at (listenersWord ++ connectionsText (has listeners) 16) (now (out .entry))) ⌝ }
+    requires { ⌜ at + length (listenersWord ++ connectionsText (has listeners) connectionCount) ≤ length (now out) ⌝ }
+    ensures { λ r. ⌜ (r ≡ at + length (listenersWord ++ connectionsText (has listeners) connectionCount)) × (now (out .exit) ≡ put at (listenersWord ++ connectionsText (has listeners) connectionCount) (now (out .entry))) ⌝ }
 {
     let list = octets::put(out, at, b" listeners");
     let place = put_members(out, list, listeners);
@@ -116,8 +124,8 @@ fn put_listeners(out: &mut [u8], at: usize, listeners: u32) -> usize
 
 // Lays the job of a row: its handle, its holder, its listeners.
 fn put_job(out: &mut [u8], at: usize, row: JobRow) -> usize
-    requires { ⌜ at + length (jobText 16 row) ≤ length (now out) ⌝ }
-    ensures { λ r. ⌜ (r ≡ at + length (jobText 16 row)) × (now (out .exit) ≡ put at (jobText 16 row) (now (out .entry))) ⌝ }
+    requires { ⌜ at + length (jobText connectionCount row) ≤ length (now out) ⌝ }
+    ensures { λ r. ⌜ (r ≡ at + length (jobText connectionCount row)) × (now (out .exit) ≡ put at (jobText connectionCount row) (now (out .entry))) ⌝ }
 {
     let serial = octets::put(out, at, b"\n    job ");
     let holder = put_handle(out, serial, row.serial);
@@ -135,9 +143,9 @@ fn put_no_job(out: &mut [u8], at: usize, serial: u32) -> usize
 }
 
 // Lays the unfinished job of a serial; or that there is none.
-pub fn put_job_of(out: &mut [u8], at: usize, rows: [JobRow; 32], serial: u32) -> usize
-    requires { ⌜ at + length (serialText 16 serial rows) ≤ length (now out) ⌝ }
-    ensures { λ r. ⌜ (r ≡ at + length (serialText 16 serial rows)) × (now (out .exit) ≡ put at (serialText 16 serial rows) (now (out .entry))) ⌝ }
+pub fn put_job_of(out: &mut [u8], at: usize, rows: [JobRow; JOBS], serial: u32) -> usize
+    requires { ⌜ at + length (serialText connectionCount serial rows) ≤ length (now out) ⌝ }
+    ensures { λ r. ⌜ (r ≡ at + length (serialText connectionCount serial rows)) × (now (out .exit) ≡ put at (serialText connectionCount serial rows) (now (out .entry))) ⌝ }
 {
     let place = searching::serial_row(rows, serial);
     match place {
@@ -148,8 +156,8 @@ pub fn put_job_of(out: &mut [u8], at: usize, rows: [JobRow; 32], serial: u32) ->
 
 // Lays the job of a row, if the row is not free.
 fn put_row(out: &mut [u8], at: usize, row: JobRow) -> usize
-    requires { ⌜ at + length (cond (live row) (jobText 16 row) []) ≤ length (now out) ⌝ }
-    ensures { λ r. ⌜ (r ≡ at + length (cond (live row) (jobText 16 row) [])) × (now (out .exit) ≡ put at (cond (live row) (jobText 16 row) []) (now (out .entry))) ⌝ }
+    requires { ⌜ at + length (cond (live row) (jobText connectionCount row) []) ≤ length (now out) ⌝ }
+    ensures { λ r. ⌜ (r ≡ at + length (cond (live row) (jobText connectionCount row) [])) × (now (out .exit) ≡ put at (cond (live row) (jobText connectionCount row) []) (now (out .entry))) ⌝ }
 {
     if searching::is_live(row) {
         return put_job(out, at, row);
@@ -158,13 +166,13 @@ fn put_row(out: &mut [u8], at: usize, row: JobRow) -> usize
 }
 
 // Lays every unfinished job, in the order of the places.
-pub fn put_jobs(out: &mut [u8], at: usize, rows: [JobRow; 32]) -> usize
-    requires { ⌜ at + length (jobsText 16 rows) ≤ length (now out) ⌝ }
-    ensures { λ r. ⌜ (r ≡ at + length (jobsText 16 rows)) × (now (out .exit) ≡ put at (jobsText 16 rows) (now (out .entry))) ⌝ }
+pub fn put_jobs(out: &mut [u8], at: usize, rows: [JobRow; JOBS]) -> usize
+    requires { ⌜ at + length (jobsText connectionCount rows) ≤ length (now out) ⌝ }
+    ensures { λ r. ⌜ (r ≡ at + length (jobsText connectionCount rows)) × (now (out .exit) ≡ put at (jobsText connectionCount rows) (now (out .entry))) ⌝ }
 {
     let mut place = at;
     let mut p = 0;
-    while p < 32 {
+    while p < JOBS {
         place = put_row(out, place, rows[p]);
         p += 1;
     }

@@ -34,7 +34,7 @@ use Rattle.plans.specs.Values.{valuesOf}
 use Rattle.plans.specs.Plans.{planCanDo, planCantDo, planGrab, planNew, planJoin, planSubmit, planWork, planStatus, planOption, planServed}
 use Rattle.plans.proofs.Numbers.{best-values}
 use Rattle.planned.proofs.Decides.{Suits, for-open, for-close, for-reset, for-sleep, for-echo, for-bad, for-can, for-cannot, for-grab, for-submit, for-work, for-status, for-option}
-use Rattle.carrying.proofs.Changes.{Whole}
+use Rattle.carrying.proofs.Laid.{Whole}
 use Rattle.sending.specs.Messages.{Forwards}
 use Rattle.sending.proofs.Forwarding.{read-forwards, served-below, work-forwards, forward-sendable, forward-given}
 use Rattle.answering.specs.Orderly.{Orderly}

@@ -13,6 +13,7 @@ use Rattle.octets.proofs.Strings.{and-left, and-right}
 use Rattle.packet.specs.declared.Rule.the-variants.{Text, Digits}
 use Rattle.packet.specs.Arguments.{digits, fits}
 use Rattle.server.specs.Lists.{find}
+use Rattle.server.specs.Sizes.{connectionCount, functionCount, jobCount}
 use Rattle.server.specs.Table.{Job, Table, noRow, noJob, live, hasHandle, roomFor, joined}
 use Rattle.server.specs.Asked.{Work, Asked, toOpen, toClose}
 use Rattle.server.specs.Events.{exceptionsName, holdsHandle}
@@ -24,7 +25,7 @@ use Rattle.plans.specs.declared.Plan.{Plan}
 use Rattle.plans.specs.Values.{rowsOf, valuesOf, freeRow}
 use Rattle.plans.specs.Plans.{planCanDo, planCantDo, planGrab, planNew, planJoin, planSubmit, planWork, planStatus, planOption, planServed, planFor}
 use Rattle.planned.proofs.Decides.{Words, Says, that-tells, that-reports, that-ends, that-throws, Suits, for-open, for-close, for-reset, for-sleep, for-echo, for-bad, for-can, for-cannot, for-grab, for-submit, for-work, for-status, for-option}
-use Rattle.carrying.proofs.Changes.{Whole}
+use Rattle.carrying.proofs.Laid.{Whole}
 use Rattle.applying.specs.Fitting.{Fitting}
 use Rattle.suited.proofs.Requests.{wordsGiven}
 use Rattle.suited.proofs.Served.{each-plan}
@@ -48,10 +49,10 @@ module _ (w : Words) (c : ℕ) (t : Table) (whole : Whole t) where
   abbrev Fits : Plan → Type 0
   Fits p = Fitting (p .change) (w .first) (w .second) (w .third)
 
-  function-place : (q : ℕ) → roomFor (t .functions) (w .first) ≡ some q → q < 16
+  function-place : (q : ℕ) → roomFor (t .functions) (w .first) ≡ some q → q < functionCount
   function-place q e = omega (arith, room t (w .first) q e .inside, whole .functions)
 
-  free-place : (p : ℕ) → freeRow (rowsOf t) ≡ some p → p < 32
+  free-place : (p : ℕ) → freeRow (rowsOf t) ≡ some p → p < jobCount
   unfolding freeRow
   free-place p e = omega (arith, found (λ r. not (live r)) noRow (rowsOf t) (some p) e .inside, length-map (t .jobs) (λ (j : Job). j .row), whole .jobs)
 
@@ -104,7 +105,7 @@ module _ (w : Words) (c : ℕ) (t : Table) (whole : Whole t) where
 
   -- ---- every plan
 
-  pub served-fitting : c < 16 → {a : Asked} → Suits w a → Good a → Fits (planServed c a t)
+  pub served-fitting : c < connectionCount → {a : Asked} → Suits w a → Good a → Fits (planServed c a t)
   unfolding planServed
   served-fitting h for-open g = zero-le
   served-fitting h for-close g = h

@@ -11,16 +11,15 @@ use Rattle.sets.specs.Sets.{remove}
 use Rattle.server.specs.declared.Connection.{Connection}
 use Rattle.server.specs.declared.JobRow.{JobRow}
 use Rattle.server.specs.Lists.{find}
-use Rattle.server.specs.Table.{Table, closed, hasHandle, known, roomFor, joined}
+use Rattle.server.specs.Table.{Job, Function, Table, closed, hasHandle, known, roomFor, joined}
 use Rattle.server.specs.Asked.{Work, tells, reports, ends, throws, Asked, toOpen, toClose, reset, preSleep, echo, bad, canDo, cantDo, grab, submit, work, getStatus, option}
 use Rattle.server.specs.Events.{exceptionsName, holdsHandle}
 use Rattle.outcomes.proofs.Cases.{cond-both}
 use Rattle.plans.specs.declared.Values.{Values}
 use Rattle.plans.specs.declared.Plan.{Plan}
-use Rattle.plans.specs.Values.{rowsOf, ablesOf, valuesOf, freeRow, bestRow}
-use Rattle.plans.specs.Plans.{withConnection, withAble, putRow, leftRow, closedIn, planCanDo, planCantDo, planGrab, planNew, planJoin, planSubmit, planWork, planStatus, planOption, planServed, planFor}
-use Rattle.carrying.proofs.Changes as Changes
-use Rattle.carrying.proofs.Changes.{Whole}
+use Rattle.plans.specs.Values.{rowsOf, ablesOf, valuesOf, freeRow, bestRow, withAbles}
+use Rattle.plans.specs.Plans.{withConnection, putRow, leftRow, closedIn, planCanDo, planCantDo, planGrab, planNew, planJoin, planSubmit, planWork, planStatus, planOption, planServed, planFor}
+use Rattle.carrying.proofs.Laid.{Whole}
 use Rattle.applying.specs.Fitting.{Sized}
 use Rattle.suited.proofs.Served.{each-plan}
 
@@ -33,7 +32,7 @@ module _ (v : Values) (s : Sized v) where
   connection-sized : (c : ℕ) (x : Connection) → Sized (withConnection c x v)
   connection-sized c x = record { connections = length-set (v .connections) c x ∙ s .connections; able = s .able; rows = s .rows }
 
-  able-sized : (l : List ℕ) → length l ≡ length (v .able) → Sized (withAble l v)
+  able-sized : (l : List ℕ) → length l ≡ length (v .able) → Sized (withAbles l v)
   able-sized l e = record { connections = s .connections; able = e ∙ s .able; rows = s .rows }
 
   row-sized : (p : ℕ) (r : JobRow) → Sized (putRow p r v)
@@ -98,7 +97,13 @@ module _ (c : ℕ) (v : Values) (s : Sized v) where
 -- ---- every plan
 
 values-sized : (t : Table) → Whole t → Sized (valuesOf t)
-values-sized t whole = let s = Changes.sized t whole in record { connections = s .connections; able = s .able; rows = s .rows }
+unfolding valuesOf
+values-sized t whole =
+    record {
+      connections = whole .connections;
+      able = length-map (t .functions) (λ (x : Function). x .able) ∙ whole .functions;
+      rows = length-map (t .jobs) (λ (j : Job). j .row) ∙ whole .jobs;
+    }
 
 module _ (c : ℕ) (t : Table) (whole : Whole t) where
   own : Sized (valuesOf t)

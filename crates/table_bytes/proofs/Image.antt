@@ -14,10 +14,12 @@ use Rattle.octets.proofs.Strings.{same-refl, same-is}
 use Rattle.octets.proofs.Laying.{put-start}
 use Rattle.server.specs.declared.Connection.{Connection}
 use Rattle.server.specs.Lists.{numbers}
+use Rattle.server.specs.Sizes.{functionCount, jobCount, nameSize, uniqueSize, numberSize}
 use Rattle.server.specs.Table.{Table}
-use Rattle.server.specs.Layout.{little, littleAt, flagByte, column, bytesOf, tableOf, tableSize, isImage, connectionIn, functionIn, jobIn, connectionsAt}
+use Rattle.server.specs.Layout.{little, littleAt, flagByte, column, bytesOf, tableOf, tableSize, isImage, connectionIn, functionIn, jobIn, setSize, ableAt, serialsAt, listenersAt, sizesAt, holdersAt, prioritiesAt, backgroundsAt, functionsAt, namesAt, uniquesAt, numeratorsAt, denominatorsAt, openedAt, asleepAt, exceptionsAt}
 use Rattle.table_bytes.specs.Tests.{part, areFlags, imageTests}
 use Rattle.table_bytes.proofs.Fields.{length-little, little-again, byte-is}
+use Rattle.table_bytes.proofs.Columns.{length-places}
 use Rattle.table_bytes.proofs.Laid.{length-bytes}
 use Rattle.table_bytes.proofs.Round.{Fitting, table-put}
 use Rattle.table_bytes.proofs.Same.{Agrees, next-agrees, next-numbers, next-flags, next-texts, same-flags, flags-add}
@@ -55,18 +57,17 @@ image-put n t b ok e h =
 
 module _ (n : ℕ) (b : Bytes) (small : (i : ℕ) → getD b i 0 < 256) (long : tableSize n ≤ length b) where
   -- the connections' flags: three columns, one run of flags
-  connection-flags : Agrees (n + (n + n)) b connectionsAt
+  connection-flags : Agrees (n + (n + n)) b (openedAt n)
       (column (λ x. flagByte (x .opened)) (map (connectionIn n b) (numbers 0 n))
       ++ (column (λ x. flagByte (x .asleep)) (map (connectionIn n b) (numbers 0 n))
-      ++ column (λ x. flagByte (x .exceptions)) (map (connectionIn n b) (numbers 0 n)))) (areFlags (3 * n) b connectionsAt)
+      ++ column (λ x. flagByte (x .exceptions)) (map (connectionIn n b) (numbers 0 n)))) (areFlags (3 * n) b (openedAt n))
   connection-flags =
-      let e : connectionsAt + 2 * n ≡ connectionsAt + n + n = omega arith in
       let k : 3 * n ≡ n + (n + n) = omega arith in
       let g = connectionIn n b in
-      let c = next-flags b g n (λ x. x .opened) connectionsAt (omega arith) (λ i. refl)
-      (next-flags b g n (λ x. x .asleep) (connectionsAt + n) (omega arith) (λ i. refl)
-      (record { agrees = rw e at (same-flags (λ (x : Connection). x .exceptions) g b (connectionsAt + 2 * n) n (omega arith) (λ i. refl)) })) in
-      record { agrees = c .agrees ∙ ap (λ (z : Bool). areFlags n b connectionsAt && z) (flags-add n n b (connectionsAt + n)) ∙ flags-add n (n + n) b connectionsAt ∙ rw k }
+      let c = next-flags b g n (λ x. x .opened) (openedAt n) (omega arith) (λ i. refl)
+      (next-flags b g n (λ x. x .asleep) (asleepAt n) (omega arith) (λ i. refl)
+      (record { agrees = same-flags (λ (x : Connection). x .exceptions) g b (exceptionsAt n) n (omega arith) (λ i. refl) })) in
+      record { agrees = c .agrees ∙ ap (λ (z : Bool). areFlags n b (openedAt n) && z) (flags-add n n b (asleepAt n)) ∙ flags-add n (n + n) b (openedAt n) ∙ rw k }
 
   -- a number in one byte
   one-byte : (at i : ℕ) → getD b (at + i) 0 ≡ littleAt 1 b (at + 1 * i)
@@ -75,22 +76,23 @@ module _ (n : ℕ) (b : Bytes) (small : (i : ℕ) → getD b i 0 < 256) (long : 
   pub image-tests : isImage n b ≡ imageTests n b
   unfolding isImage tableOf bytesOf imageTests
   image-tests =
-      let k : tableSize n ≡ 4 + (64 + (128 + (128 + (64 + (64 + (32 + (32 + (32 + (512 + (2048 + (320 + (320 + (n + (n + n)))))))))))))) = omega arith in
+      let k : tableSize n ≡ 4 + (4 * jobCount + (2 * jobCount + (2 * jobCount + (1 * jobCount + (jobCount + (1 * jobCount + (nameSize * functionCount + (uniqueSize * jobCount
+      + (numberSize * jobCount + (numberSize * jobCount + (setSize n * functionCount + (setSize n * jobCount + (n + (n + n)))))))))))))) = omega arith in
       let z : same (part 4 b 0) (little 4 (littleAt 4 b 0)) ≡ true = rw (little-again 4 b 0 small (omega arith)) (same-refl (part 4 b 0)) in
-      let f = functionIn b in
-      let j = jobIn b in
-      rw k
+      let f = functionIn n b in
+      let j = jobIn n b in
+      rw (k, length-places (connectionIn n b) 0 n)
       ((next-agrees 4 b 0 (little 4 (littleAt 4 b 0)) (omega arith) (length-little 4 (littleAt 4 b 0)) z
-      (next-numbers b f 4 16 (λ x. x .able) 4 small (omega arith) (λ i. refl)
-      (next-numbers b j 4 32 (λ x. x .row .serial) 68 small (omega arith) (λ i. refl)
-      (next-numbers b j 4 32 (λ x. x .row .listeners) 196 small (omega arith) (λ i. refl)
-      (next-numbers b j 2 32 (λ x. x .row .size) 324 small (omega arith) (λ i. refl)
-      (next-numbers b j 2 32 (λ x. x .row .holder) 388 small (omega arith) (λ i. refl)
-      (next-numbers b j 1 32 (λ x. x .row .priority) 452 small (omega arith) (one-byte 452)
-      (next-flags b j 32 (λ x. x .row .background) 484 (omega arith) (λ i. refl)
-      (next-numbers b j 1 32 (λ x. x .row .function) 516 small (omega arith) (one-byte 516)
-      (next-texts b f 32 16 (λ x. x .name) 548 (omega arith) (λ i. refl)
-      (next-texts b j 64 32 (λ x. x .unique) 1060 (omega arith) (λ i. refl)
-      (next-texts b j 10 32 (λ x. x .numerator) 3108 (omega arith) (λ i. refl)
-      (next-texts b j 10 32 (λ x. x .denominator) 3428 (omega arith) (λ i. refl)
+      (next-numbers b j 4 jobCount (λ x. x .row .serial) serialsAt small (omega arith) (λ i. refl)
+      (next-numbers b j 2 jobCount (λ x. x .row .size) sizesAt small (omega arith) (λ i. refl)
+      (next-numbers b j 2 jobCount (λ x. x .row .holder) holdersAt small (omega arith) (λ i. refl)
+      (next-numbers b j 1 jobCount (λ x. x .row .priority) prioritiesAt small (omega arith) (one-byte prioritiesAt)
+      (next-flags b j jobCount (λ x. x .row .background) backgroundsAt (omega arith) (λ i. refl)
+      (next-numbers b j 1 jobCount (λ x. x .row .function) functionsAt small (omega arith) (one-byte functionsAt)
+      (next-texts b f nameSize functionCount (λ x. x .name) namesAt (omega arith) (λ i. refl)
+      (next-texts b j uniqueSize jobCount (λ x. x .unique) uniquesAt (omega arith) (λ i. refl)
+      (next-texts b j numberSize jobCount (λ x. x .numerator) numeratorsAt (omega arith) (λ i. refl)
+      (next-texts b j numberSize jobCount (λ x. x .denominator) denominatorsAt (omega arith) (λ i. refl)
+      (next-numbers b f (setSize n) functionCount (λ x. x .able) ableAt small (omega arith) (λ i. refl)
+      (next-numbers b j (setSize n) jobCount (λ x. x .row .listeners) (listenersAt n) small (omega arith) (λ i. refl)
       connection-flags))))))))))))) .agrees)

@@ -1,20 +1,22 @@
--- A table of at most 32 connections that obeys the table rules fits its places. Assumes nothing.
-use Prim.Native.Nat.{ℕ, zero, suc, _^_, _<_, _≤_}
-use mathlib.Core.Path.{_≡_, refl, ap}
+-- A table of at most 256 connections that obeys the table rules fits its places. Assumes nothing.
+use Prim.Native.Nat.{ℕ, zero, suc, _*_, _^_, _<_, _≤_}
+use mathlib.Core.Path.{_≡_, refl, sym, ap, _∙_}
 use mathlib.Core.Bool.{Bool, true, false, not, cond, _&&_}
 use mathlib.Core.List.{List, [], _∷_}
-use native.Mathlib.Nat.{not-suc-le-zero, le-of-suc-le-suc}
+use native.Mathlib.Nat.{mul-zero, mul-suc, pow-zero, pow-suc, not-suc-le-zero, le-of-suc-le-suc}
 use native.Mathlib.Omega.{arith}
 use borrow.Author.Tests.{leb-true, ltb-true, eqb-true, ne-eqb, eq-eqb}
 use lib.ListN.{length, getD}
 use lib.Dec.{leb, ltb, eqb}
-use lib.Pow.{pow-mono}
+use lib.Pow.{pow-mono, pow-add}
 use Rattle.octets.specs.Bytes.{Bytes, same, firstZero, zeroFree, within, every}
 use Rattle.octets.proofs.Strings.{and-left, and-right, same-is}
 use Rattle.packet.specs.Arguments.{digits}
 use Rattle.sets.specs.Sets.{isEmpty}
 use Rattle.server.specs.Lists.{all}
+use Rattle.server.specs.Sizes.{functionCount, jobCount, nameSize, uniqueSize}
 use Rattle.server.specs.Table.{Job, Table, noFunction, noJob, functionAt, jobAt, live}
+use Rattle.server.specs.Layout.{setSize}
 use Rattle.server.specs.Rules.{implies, nextSmall, serialsBelow, serialsDistinct, textWithin, storedNumber, namesWithin, textsWithin, together, sizesWithin, rowIsFree, rowHasMeaning, rowsHaveMeaning, functionsDistinct, functionsAsDefined, onlyOpen, abilitiesOpen, listenersOpen, obeys}
 use Rattle.table_bytes.proofs.Round.{TextFits, Fitting}
 
@@ -50,10 +52,18 @@ number-fits s e =
 
 -- ---- sets
 
-set-fits : (t : Table) (s : ℕ) → length (t .connections) ≤ 32 → onlyOpen t s ≡ true → s < 2 ^ 32
-set-fits t s h e =
-    let m : s < 2 ^ length (t .connections) = ltb-true s (2 ^ length (t .connections)) (and-left (ltb s (2 ^ length (t .connections))) _ e) in
-    let p : 2 ^ length (t .connections) ≤ 2 ^ 32 = pow-mono h in
+pow-mul : (a m n : ℕ) → a ^ (m * n) ≡ (a ^ m) ^ n
+pow-mul a m zero = ap (λ (x : ℕ). a ^ x) (mul-zero m) ∙ pow-zero a ∙ sym (pow-zero (a ^ m))
+pow-mul a m (suc n) = ap (λ (x : ℕ). a ^ x) (mul-suc m n) ∙ pow-add a (m * n) m ∙ ap (λ (x : ℕ). x * a ^ m) (pow-mul a m n) ∙ sym (pow-suc (a ^ m) n)
+
+-- a set of n connections fits its bytes
+set-fits : (t : Table) (s : ℕ) → onlyOpen t s ≡ true → s < 256 ^ setSize (length (t .connections))
+set-fits t s e =
+    let n : ℕ = length (t .connections) in
+    let m : s < 2 ^ n = ltb-true s (2 ^ n) (and-left (ltb s (2 ^ n)) _ e) in
+    let h : n ≤ 8 * setSize n = omega arith in
+    let p : 2 ^ n ≤ 2 ^ (8 * setSize n) = pow-mono h in
+    let q : 2 ^ (8 * setSize n) ≡ 256 ^ setSize n = pow-mul 2 8 (setSize n) in
     omega arith
 
 -- ---- rows
@@ -67,13 +77,13 @@ record RowFits (j : Job) : Type 0 where
   pub numerator : TextFits 10 (j .numerator)
   pub denominator : TextFits 10 (j .denominator)
 
-module _ (t : Table) (fs : length (t .functions) ≡ 16) (cs : length (t .connections) ≤ 32) where
+module _ (t : Table) (fs : length (t .functions) ≡ functionCount) (cs : length (t .connections) ≤ 256) where
   row-fits : (j : Job) (b : Bool) → live (j .row) ≡ b
-      → implies b (textWithin 64 (j .unique) && (storedNumber (j .numerator) && storedNumber (j .denominator))) ≡ true
+      → implies b (textWithin uniqueSize (j .unique) && (storedNumber (j .numerator) && storedNumber (j .denominator))) ≡ true
       → cond b (rowHasMeaning t j) (rowIsFree j) ≡ true → RowFits j
   row-fits j true l x m =
       let r = j .row in
-      let x2 = and-right (textWithin 64 (j .unique)) _ x in
+      let x2 = and-right (textWithin uniqueSize (j .unique)) _ x in
       let m2 = and-right (leb (r .priority) 2) _ m in
       let p : r .priority ≤ 2 = leb-true _ _ (and-left (leb (r .priority) 2) _ m) in
       let f : r .function < length (t .functions) = ltb-true _ _ (and-left (ltb (r .function) (length (t .functions))) _ m2) in
@@ -82,7 +92,7 @@ module _ (t : Table) (fs : length (t .functions) ≡ 16) (cs : length (t .connec
         holder = omega arith;
         priority = omega arith;
         function = omega arith;
-        unique = text-fits 64 (j .unique) (and-left (textWithin 64 (j .unique)) _ x);
+        unique = text-fits 64 (j .unique) (and-left (textWithin uniqueSize (j .unique)) _ x);
         numerator = number-fits (j .numerator) (and-left (storedNumber (j .numerator)) (storedNumber (j .denominator)) x2);
         denominator = number-fits (j .denominator) (and-right (storedNumber (j .numerator)) (storedNumber (j .denominator)) x2);
       }
@@ -109,7 +119,7 @@ module _ (t : Table) (fs : length (t .functions) ≡ 16) (cs : length (t .connec
 
 -- ---- the table
 
-pub obeys-fitting : (t : Table) → length (t .functions) ≡ 16 → length (t .jobs) ≡ 32 → length (t .connections) ≤ 32 → obeys t ≡ true → Fitting t
+pub obeys-fitting : (t : Table) → length (t .functions) ≡ functionCount → length (t .jobs) ≡ jobCount → length (t .connections) ≤ 256 → obeys t ≡ true → Fitting t
 unfolding obeys
 obeys-fitting t fs js cs e =
     let e2 = and-right (nextSmall t) _ e in
@@ -137,20 +147,20 @@ obeys-fitting t fs js cs e =
       functions = λ q h.
           let i : q < length (t .functions) = rw fs h in
           record {
-            able = set-fits t (functionAt t q .able) cs (all-at (λ x. onlyOpen t (x .able)) (t .functions) q noFunction abilities i);
-            name = text-fits 32 (functionAt t q .name) (all-at (λ x. textWithin 32 (x .name)) (t .functions) q noFunction names i);
+            able = set-fits t (functionAt t q .able) (all-at (λ x. onlyOpen t (x .able)) (t .functions) q noFunction abilities i);
+            name = text-fits 32 (functionAt t q .name) (all-at (λ x. textWithin nameSize (x .name)) (t .functions) q noFunction names i);
           };
       jobs = λ p h.
           let i : p < length (t .jobs) = rw js h in
           let j = jobAt t p in
           let r = row-fits t fs cs j (live (j .row)) refl
-          (all-at (λ j. implies (live (j .row)) (textWithin 64 (j .unique) && (storedNumber (j .numerator) && storedNumber (j .denominator)))) (t .jobs) p noJob texts i)
+          (all-at (λ j. implies (live (j .row)) (textWithin uniqueSize (j .unique) && (storedNumber (j .numerator) && storedNumber (j .denominator)))) (t .jobs) p noJob texts i)
           (all-at (λ j. cond (live (j .row)) (rowHasMeaning t j) (rowIsFree j)) (t .jobs) p noJob rows i) in
           let s : j .row .serial ≤ t .last = leb-true _ _ (all-at (λ j. leb (j .row .serial) (t .last)) (t .jobs) p noJob below i) in
           let z : together t j ≤ 1022 = leb-true _ _ (all-at (λ j. leb (together t j) 1022) (t .jobs) p noJob sizes i) in
           record {
             serial = omega arith;
-            listeners = set-fits t (j .row .listeners) cs (all-at (λ j. onlyOpen t (j .row .listeners)) (t .jobs) p noJob hearers i);
+            listeners = set-fits t (j .row .listeners) (all-at (λ j. onlyOpen t (j .row .listeners)) (t .jobs) p noJob hearers i);
             size = omega arith;
             holder = r .holder;
             priority = r .priority;

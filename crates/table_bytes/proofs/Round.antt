@@ -11,8 +11,9 @@ use Rattle.octets.specs.Put.{put}
 use Rattle.octets.proofs.Laying.{put-start}
 use Rattle.server.specs.declared.Connection.{Connection}
 use Rattle.server.specs.declared.JobRow.{JobRow}
+use Rattle.server.specs.Sizes.{functionCount, jobCount}
 use Rattle.server.specs.Table.{Function, Job, Table, closed, noFunction, noJob, connectionAt, functionAt, jobAt}
-use Rattle.server.specs.Layout.{bytesOf, tableOf, tableSize, connectionIn, functionIn, rowIn, jobIn}
+use Rattle.server.specs.Layout.{bytesOf, tableOf, tableSize, setSize, connectionIn, functionIn, rowIn, jobIn}
 use Rattle.table_bytes.proofs.Fields.{little-lies}
 use Rattle.table_bytes.proofs.Columns.{places-are, number-at, byte-at, flag-at, text-at}
 use Rattle.table_bytes.proofs.Laid.{Laid, laid, length-bytes}
@@ -24,13 +25,13 @@ pub record TextFits (k : ℕ) (s : Bytes) : Type 0 where
   pub within : length s ≤ k
   pub clean : zeroFree s ≡ true
 
-pub record FunctionFits (x : Function) : Type 0 where
-  pub able : x .able < 2 ^ 32
+pub record FunctionFits (n : ℕ) (x : Function) : Type 0 where
+  pub able : x .able < 256 ^ setSize n
   pub name : TextFits 32 (x .name)
 
-pub record JobFits (j : Job) : Type 0 where
+pub record JobFits (n : ℕ) (j : Job) : Type 0 where
   pub serial : j .row .serial < 2 ^ 32
-  pub listeners : j .row .listeners < 2 ^ 32
+  pub listeners : j .row .listeners < 256 ^ setSize n
   pub size : j .row .size < 65536
   pub holder : j .row .holder < 65536
   pub priority : j .row .priority < 256
@@ -41,11 +42,11 @@ pub record JobFits (j : Job) : Type 0 where
 
 -- "known functions 16; unfinished jobs 32", and every field fits its place
 pub record Fitting (t : Table) : Type 0 where
-  pub sixteen : length (t .functions) ≡ 16
-  pub thirtyTwo : length (t .jobs) ≡ 32
+  pub sixteen : length (t .functions) ≡ functionCount
+  pub thirtyTwo : length (t .jobs) ≡ jobCount
   pub last : t .last < 2 ^ 32
-  pub functions : (q : ℕ) → q < 16 → FunctionFits (functionAt t q)
-  pub jobs : (p : ℕ) → p < 32 → JobFits (jobAt t p)
+  pub functions : (q : ℕ) → q < functionCount → FunctionFits (length (t .connections)) (functionAt t q)
+  pub jobs : (p : ℕ) → p < jobCount → JobFits (length (t .connections)) (jobAt t p)
 
 -- ---- a row from its fields
 
@@ -78,15 +79,15 @@ module _ (t : Table) (b : Bytes) (ok : Fitting t) (l : Laid t b) where
       (flag-at b _ (t .connections) c closed h (λ x. x .asleep) (l .asleep))
       (flag-at b _ (t .connections) c closed h (λ x. x .exceptions) (l .exceptions))
 
-  functions-back : (q : ℕ) → q < 16 → functionIn b q ≡ functionAt t q
+  functions-back : (q : ℕ) → q < functionCount → functionIn (length (t .connections)) b q ≡ functionAt t q
   functions-back q h =
       let f = ok .functions q h in
       let i : q < length (t .functions) = rw (ok .sixteen) h in
       function-is (functionAt t q)
       (text-at b _ (t .functions) q noFunction i 32 (λ x. x .name) (l .name) (f .name .within) (f .name .clean))
-      (number-at b _ (t .functions) q noFunction i 4 (λ x. x .able) (l .able) (f .able))
+      (number-at b _ (t .functions) q noFunction i (setSize (length (t .connections))) (λ x. x .able) (l .able) (f .able))
 
-  rows-back : (p : ℕ) → p < 32 → rowIn b p ≡ jobAt t p .row
+  rows-back : (p : ℕ) → p < jobCount → rowIn (length (t .connections)) b p ≡ jobAt t p .row
   rows-back p h =
       let f = ok .jobs p h in
       let i : p < length (t .jobs) = rw (ok .thirtyTwo) h in
@@ -95,11 +96,11 @@ module _ (t : Table) (b : Bytes) (ok : Fitting t) (l : Laid t b) where
       (byte-at b _ (t .jobs) p noJob i (λ j. j .row .function) (l .function) (f .function))
       (byte-at b _ (t .jobs) p noJob i (λ j. j .row .priority) (l .priority) (f .priority))
       (flag-at b _ (t .jobs) p noJob i (λ j. j .row .background) (l .background))
-      (number-at b _ (t .jobs) p noJob i 4 (λ j. j .row .listeners) (l .listening) (f .listeners))
+      (number-at b _ (t .jobs) p noJob i (setSize (length (t .connections))) (λ j. j .row .listeners) (l .listening) (f .listeners))
       (number-at b _ (t .jobs) p noJob i 2 (λ j. j .row .holder) (l .holder) (f .holder))
       (number-at b _ (t .jobs) p noJob i 2 (λ j. j .row .size) (l .size) (f .size))
 
-  jobs-back : (p : ℕ) → p < 32 → jobIn b p ≡ jobAt t p
+  jobs-back : (p : ℕ) → p < jobCount → jobIn (length (t .connections)) b p ≡ jobAt t p
   jobs-back p h =
       let f = ok .jobs p h in
       let i : p < length (t .jobs) = rw (ok .thirtyTwo) h in
@@ -113,8 +114,8 @@ module _ (t : Table) (b : Bytes) (ok : Fitting t) (l : Laid t b) where
   laid-back =
       table-is t (little-lies 4 (t .last) b 0 (ok .last) (l .last))
       (places-are (connectionIn (length (t .connections)) b) closed (length (t .connections)) (t .connections) refl connections-back)
-      (places-are (functionIn b) noFunction 16 (t .functions) (ok .sixteen) functions-back)
-      (places-are (jobIn b) noJob 32 (t .jobs) (ok .thirtyTwo) jobs-back)
+      (places-are (functionIn (length (t .connections)) b) noFunction functionCount (t .functions) (ok .sixteen) functions-back)
+      (places-are (jobIn (length (t .connections)) b) noJob jobCount (t .jobs) (ok .thirtyTwo) jobs-back)
 
 -- "bytes of table beyond what the layout uses" have no say
 pub table-back : (t : Table) (r : Bytes) → Fitting t → tableOf (length (t .connections)) (bytesOf t ++ r) ≡ t

@@ -6,7 +6,8 @@ use lib.ListN.{take, drop}
 use lib.Dec.{eqb, leb}
 use Rattle.octets.specs.Bytes.{Bytes, firstZero, every}
 use Rattle.server.specs.Lists.{all, numbers}
-use Rattle.server.specs.Layout.{backgroundAt, namesAt, uniquesAt, numeratorsAt, denominatorsAt, connectionsAt}
+use Rattle.server.specs.Sizes.{functionCount, jobCount, nameSize, uniqueSize, numberSize}
+use Rattle.server.specs.Layout.{backgroundsAt, namesAt, uniquesAt, numeratorsAt, denominatorsAt, openedAt}
 
 -- the k bytes of b from a place on
 abbrev pub part : ℕ → Bytes → ℕ → Bytes
@@ -32,9 +33,9 @@ arePadded k m b at = all (λ i. isPadded k b (at + k * i)) (numbers 0 m)
 -- of the table's bytes: every flag, and every place of a text, in the order of the layout
 unfoldable pub imageTests : ℕ → Bytes → Bool
 imageTests n b =
-    areFlags 32 b backgroundAt
-    && (arePadded 32 16 b namesAt
-    && (arePadded 64 32 b uniquesAt
-    && (arePadded 10 32 b numeratorsAt
-    && (arePadded 10 32 b denominatorsAt
-    && areFlags (3 * n) b connectionsAt))))
+    areFlags jobCount b backgroundsAt
+    && (arePadded nameSize functionCount b namesAt
+    && (arePadded uniqueSize jobCount b uniquesAt
+    && (arePadded numberSize jobCount b numeratorsAt
+    && (arePadded numberSize jobCount b denominatorsAt
+    && areFlags (3 * n) b (openedAt n)))))

@@ -10,6 +10,7 @@ use lib.ListN.{length, getD, take, drop, length-take}
 use lib.Dec.{eqb, leb}
 use Rattle.octets.specs.Bytes.{Bytes, same, firstZero, every}
 use Rattle.octets.proofs.Strings.{and-false}
+use Rattle.server.specs.Sizes.{numberSize}
 use Rattle.server.specs.Layout.{textAt}
 use Rattle.server.specs.Rules.{storedNumber}
 use Rattle.table_bytes.specs.Tests.{part, isZero, isPadded}
@@ -77,7 +78,7 @@ place false (suc x) s h =
 
 -- the place of 10 bytes that begins at a byte
 pub stored-place : (free : Bool) (b : Bytes) (at : ℕ) → at + 10 ≤ length b
-    → cond (not free) (storedNumber (textAt 10 b at)) (same (textAt 10 b at) []) && isPadded 10 b at
-    ≡ ((not free && isDigit (getD b at 0)) || (free && eqb (getD b at 0) 0)) && (every digitOrZero (part 10 b at) && isPadded 10 b at)
+    → cond (not free) (storedNumber (textAt numberSize b at)) (same (textAt numberSize b at) []) && isPadded numberSize b at
+    ≡ ((not free && isDigit (getD b at 0)) || (free && eqb (getD b at 0) 0)) && (every digitOrZero (part 10 b at) && isPadded numberSize b at)
 unfolding textAt isPadded
 stored-place free b at h = rw (part-cons 9 b at (omega arith)) (place free (getD b at 0) (part 9 b (suc at)) (omega (arith, length-take 9 (drop (suc at) b))))

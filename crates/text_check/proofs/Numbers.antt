@@ -13,8 +13,9 @@ use lib.Dec.{eqb}
 use Rattle.octets.specs.Bytes.{Bytes, same, every}
 use Rattle.octets.proofs.Strings.{and-left, and-right, and-both}
 use Rattle.server.specs.Lists.{all, numbers}
+use Rattle.server.specs.Sizes.{connectionCount, jobCount, numberSize}
 use Rattle.server.specs.Table.{live}
-use Rattle.server.specs.Layout.{textAt, rowIn}
+use Rattle.server.specs.Layout.{textAt, rowIn, serialsAt, numeratorsAt, denominatorsAt, tableSize}
 use Rattle.server.specs.Rules.{storedNumber}
 use Rattle.table_bytes.specs.Tests.{part, isPadded, arePadded}
 use Rattle.passes.proofs.Tests.{or-none, or-left, or-right, or-not, and-same, below-at, below-by, same-below, all-and, runs}
@@ -35,11 +36,11 @@ and-swap false false = refl
 
 -- what the bytes of place k say, whatever its row is
 abbrev cleanAt : Bytes → ℕ → ℕ → Bool
-cleanAt b at k = every digitOrZero (part 10 b (at + 10 * k)) && isPadded 10 b (at + 10 * k)
+cleanAt b at k = every digitOrZero (part 10 b (at + 10 * k)) && isPadded numberSize b (at + 10 * k)
 
 module _ (b : Bytes) (at : ℕ) (h : at + 320 ≤ length b) where
   -- zeros and digits, byte by byte and place by place
-  digits-each : all (λ k. digitOrZero (getD b (at + k) 0)) (numbers 0 320) ≡ all (λ k. every digitOrZero (part 10 b (at + 10 * k))) (numbers 0 32)
+  digits-each : all (λ k. digitOrZero (getD b (at + k) 0)) (numbers 0 320) ≡ all (λ k. every digitOrZero (part 10 b (at + 10 * k))) (numbers 0 jobCount)
   digits-each =
       runs (λ k. digitOrZero (getD b (at + k) 0)) 10 32
       ∙ same-below (λ k. all (λ j. digitOrZero (getD b (at + (10 * k + j)) 0)) (numbers 0 10)) (λ k. every digitOrZero (part 10 b (at + 10 * k))) 32
@@ -49,37 +50,37 @@ module _ (b : Bytes) (at : ℕ) (h : at + 320 ≤ length b) where
       ∙ sym (every-each digitOrZero 10 b (at + 10 * k) (omega arith)))
 
   -- padded, byte by byte and place by place
-  followed-each : all (lastOrFollowed lastsOf10 b at) (numbers 0 320) ≡ all (λ k. isPadded 10 b (at + 10 * k)) (numbers 0 32)
+  followed-each : all (lastOrFollowed lastsOf10 b at) (numbers 0 320) ≡ all (λ k. isPadded numberSize b (at + 10 * k)) (numbers 0 jobCount)
   followed-each = insides-padded 9 b at 0 32 (omega arith)
 
   -- both
-  clean-each : all (digitPadded lastsOf10 b at) (numbers 0 320) ≡ all (cleanAt b at) (numbers 0 32)
+  clean-each : all (digitPadded lastsOf10 b at) (numbers 0 320) ≡ all (cleanAt b at) (numbers 0 jobCount)
   clean-each =
       all-and (lastOrFollowed lastsOf10 b at) (λ k. digitOrZero (getD b (at + k) 0)) (numbers 0 320)
       ∙ and-same followed-each digits-each
-      ∙ and-swap (all (λ k. isPadded 10 b (at + 10 * k)) (numbers 0 32)) (all (λ k. every digitOrZero (part 10 b (at + 10 * k))) (numbers 0 32))
-      ∙ sym (all-and (λ k. every digitOrZero (part 10 b (at + 10 * k))) (λ k. isPadded 10 b (at + 10 * k)) (numbers 0 32))
+      ∙ and-swap (all (λ k. isPadded numberSize b (at + 10 * k)) (numbers 0 jobCount)) (all (λ k. every digitOrZero (part 10 b (at + 10 * k))) (numbers 0 jobCount))
+      ∙ sym (all-and (λ k. every digitOrZero (part 10 b (at + 10 * k))) (λ k. isPadded numberSize b (at + 10 * k)) (numbers 0 jobCount))
 
 -- the text of place k is what its row asks for
 abbrev keptAt : Bytes → ℕ → ℕ → Bool
-keptAt b at k = cond (live (rowIn b k)) (storedNumber (textAt 10 b (at + 10 * k))) (same (textAt 10 b (at + 10 * k)) [])
+keptAt b at k = cond (live (rowIn connectionCount b k)) (storedNumber (textAt numberSize b (at + 10 * k))) (same (textAt numberSize b (at + 10 * k)) [])
 
-module _ (b : Bytes) (marks : List ℕ) (marked : Marked 4 b 68 marks) (at : ℕ) (h : at + 320 ≤ length b) where
+module _ (b : Bytes) (marks : List ℕ) (marked : Marked 4 b serialsAt marks) (at : ℕ) (h : at + 320 ≤ length b) where
   -- one place by its row
-  place-kept : (k : ℕ) → k < 32 → beginsAt marks b at k && cleanAt b at k ≡ keptAt b at k && isPadded 10 b (at + 10 * k)
+  place-kept : (k : ℕ) → k < jobCount → beginsAt marks b at k && cleanAt b at k ≡ keptAt b at k && isPadded numberSize b (at + 10 * k)
   place-kept k g =
       let x = getD b (at + 10 * k) 0 in
-      ap (λ (t : Bool). ((not t && isDigit x) || (t && eqb x 0)) && cleanAt b at k) (ap (λ (m : ℕ). eqb m 0) (marked k g) ∙ mark-none (rowIn b k .serial))
-      ∙ sym (stored-place (eqb (rowIn b k .serial) 0) b (at + 10 * k) (omega arith))
+      ap (λ (t : Bool). ((not t && isDigit x) || (t && eqb x 0)) && cleanAt b at k) (ap (λ (m : ℕ). eqb m 0) (marked k g) ∙ mark-none (rowIn connectionCount b k .serial))
+      ∙ sym (stored-place (eqb (rowIn connectionCount b k .serial) 0) b (at + 10 * k) (omega arith))
 
   -- all places of the column
-  column-kept : all (beginsAt marks b at) (numbers 0 32) && all (digitPadded lastsOf10 b at) (numbers 0 320) ≡ all (keptAt b at) (numbers 0 32) && arePadded 10 32 b at
+  column-kept : all (beginsAt marks b at) (numbers 0 jobCount) && all (digitPadded lastsOf10 b at) (numbers 0 320) ≡ all (keptAt b at) (numbers 0 jobCount) && arePadded numberSize jobCount b at
   unfolding arePadded
   column-kept =
-      ap (λ (x : Bool). all (beginsAt marks b at) (numbers 0 32) && x) (clean-each b at h)
-      ∙ sym (all-and (beginsAt marks b at) (cleanAt b at) (numbers 0 32))
-      ∙ same-below (λ k. beginsAt marks b at k && cleanAt b at k) (λ k. keptAt b at k && isPadded 10 b (at + 10 * k)) 32 place-kept
-      ∙ all-and (keptAt b at) (λ k. isPadded 10 b (at + 10 * k)) (numbers 0 32)
+      ap (λ (x : Bool). all (beginsAt marks b at) (numbers 0 jobCount) && x) (clean-each b at h)
+      ∙ sym (all-and (beginsAt marks b at) (cleanAt b at) (numbers 0 jobCount))
+      ∙ same-below (λ k. beginsAt marks b at k && cleanAt b at k) (λ k. keptAt b at k && isPadded numberSize b (at + 10 * k)) 32 place-kept
+      ∙ all-and (keptAt b at) (λ k. isPadded numberSize b (at + 10 * k)) (numbers 0 jobCount)
 
 -- ---- both columns
 
@@ -88,12 +89,12 @@ cond-and true a b c d = refl
 cond-and false a b c d = refl
 
 -- the rule on texts, column by column
-kept-both : (b : Bytes) → all (storedAt b) (numbers 0 32) ≡ all (keptAt b 3108) (numbers 0 32) && all (keptAt b 3428) (numbers 0 32)
+kept-both : (b : Bytes) → all (storedAt b) (numbers 0 jobCount) ≡ all (keptAt b numeratorsAt) (numbers 0 jobCount) && all (keptAt b denominatorsAt) (numbers 0 jobCount)
 kept-both b =
-    same-below (storedAt b) (λ k. keptAt b 3108 k && keptAt b 3428 k) 32
-    (λ k _. cond-and (live (rowIn b k)) (storedNumber (textAt 10 b (3108 + 10 * k))) (storedNumber (textAt 10 b (3428 + 10 * k)))
-    (same (textAt 10 b (3108 + 10 * k)) []) (same (textAt 10 b (3428 + 10 * k)) []))
-    ∙ all-and (keptAt b 3108) (keptAt b 3428) (numbers 0 32)
+    same-below (storedAt b) (λ k. keptAt b numeratorsAt k && keptAt b denominatorsAt k) 32
+    (λ k _. cond-and (live (rowIn connectionCount b k)) (storedNumber (textAt numberSize b (numeratorsAt + numberSize * k))) (storedNumber (textAt numberSize b (denominatorsAt + numberSize * k)))
+    (same (textAt numberSize b (numeratorsAt + numberSize * k)) []) (same (textAt numberSize b (denominatorsAt + numberSize * k)) []))
+    ∙ all-and (keptAt b numeratorsAt) (keptAt b denominatorsAt) (numbers 0 jobCount)
 
 pair-up : (a b c d : Bool) → a && (b && (c && d)) ≡ (a && c) && (b && d)
 pair-up true true c d = refl
@@ -110,19 +111,19 @@ pair-off false true false d = and-swap false d
 pair-off false false c d = refl
 
 -- first bytes of both columns, and then all bytes
-pub stored-hold : (b : Bytes) (marks : List ℕ) → Marked 4 b 68 marks → 3796 ≤ length b → (p q r : Bool)
-    → p ≡ all (beginsAt marks b 3108) (numbers 0 32) → q ≡ all (beginsAt marks b 3428) (numbers 0 32)
-    → r ≡ all (digitPadded lastsOf10 b 3108) (numbers 0 320) && all (digitPadded lastsOf10 b 3428) (numbers 0 320) → p && (q && r) ≡ storedRules b
+pub stored-hold : (b : Bytes) (marks : List ℕ) → Marked 4 b serialsAt marks → tableSize connectionCount ≤ length b → (p q r : Bool)
+    → p ≡ all (beginsAt marks b numeratorsAt) (numbers 0 jobCount) → q ≡ all (beginsAt marks b denominatorsAt) (numbers 0 jobCount)
+    → r ≡ all (digitPadded lastsOf10 b numeratorsAt) (numbers 0 320) && all (digitPadded lastsOf10 b denominatorsAt) (numbers 0 320) → p && (q && r) ≡ storedRules b
 unfolding storedRules
 stored-hold b marks marked long p q r ep eq er =
-    let p′ = all (beginsAt marks b 3108) (numbers 0 32) in
-    let q′ = all (beginsAt marks b 3428) (numbers 0 32) in
-    let r′ = all (digitPadded lastsOf10 b 3108) (numbers 0 320) in
-    let s′ = all (digitPadded lastsOf10 b 3428) (numbers 0 320) in
+    let p′ = all (beginsAt marks b numeratorsAt) (numbers 0 jobCount) in
+    let q′ = all (beginsAt marks b denominatorsAt) (numbers 0 jobCount) in
+    let r′ = all (digitPadded lastsOf10 b numeratorsAt) (numbers 0 320) in
+    let s′ = all (digitPadded lastsOf10 b denominatorsAt) (numbers 0 320) in
     and-same ep (and-same eq er) ∙ pair-up p′ q′ r′ s′
-    ∙ and-same (column-kept b marks marked 3108 (omega arith)) (column-kept b marks marked 3428 (omega arith))
-    ∙ pair-off (all (keptAt b 3108) (numbers 0 32)) (arePadded 10 32 b 3108) (all (keptAt b 3428) (numbers 0 32)) (arePadded 10 32 b 3428)
-    ∙ ap (λ (x : Bool). (arePadded 10 32 b 3108 && arePadded 10 32 b 3428) && x) (sym (kept-both b))
+    ∙ and-same (column-kept b marks marked numeratorsAt (omega arith)) (column-kept b marks marked denominatorsAt (omega arith))
+    ∙ pair-off (all (keptAt b numeratorsAt) (numbers 0 jobCount)) (arePadded numberSize jobCount b numeratorsAt) (all (keptAt b denominatorsAt) (numbers 0 jobCount)) (arePadded numberSize jobCount b denominatorsAt)
+    ∙ ap (λ (x : Bool). (arePadded numberSize jobCount b numeratorsAt && arePadded numberSize jobCount b denominatorsAt) && x) (sym (kept-both b))
 
 -- ---- numbers of one digit
 
@@ -139,7 +140,7 @@ begins-right m x e = go (eqb m 0) e
         last false g = g
 
 -- places that begin as their rows say
-pub begun : (b : Bytes) (marks : List ℕ) (at : ℕ) → all (beginsAt marks b at) (numbers 0 32) ≡ true → Begun b at
+pub begun : (b : Bytes) (marks : List ℕ) (at : ℕ) → all (beginsAt marks b at) (numbers 0 jobCount) ≡ true → Begun b at
 begun b marks at e k g = begins-right (getD marks k 0) (getD b (at + 10 * k) 0) (below-at (beginsAt marks b at) 32 k e g)
 
 -- the masks, by computation: a byte that is not marked as the first is not; the tenth is marked as the last
@@ -190,14 +191,14 @@ not-first f x y s e = rw e (go (eqb f 0))
     go false = refl
 
 -- only first bytes are not zero
-pub one-digit-each : (b : Bytes) → Begun b 3108 → Begun b 3428 → all (firstAlone firstsOf10 b) (numbers 0 320) ≡ true
-    → true ≡ all (digitPadded lastsOf10 b 3108) (numbers 0 320) && all (digitPadded lastsOf10 b 3428) (numbers 0 320)
+pub one-digit-each : (b : Bytes) → Begun b numeratorsAt → Begun b denominatorsAt → all (firstAlone firstsOf10 b) (numbers 0 320) ≡ true
+    → true ≡ all (digitPadded lastsOf10 b numeratorsAt) (numbers 0 320) && all (digitPadded lastsOf10 b denominatorsAt) (numbers 0 320)
 one-digit-each b f g e =
-    sym (and-both (all (digitPadded lastsOf10 b 3108) (numbers 0 320)) (all (digitPadded lastsOf10 b 3428) (numbers 0 320))
-    (alone-column b 3108 f (λ k h n. and-left (eqb (getD b (3108 + k) 0) 0) (eqb (getD b (3428 + k) 0) 0) (both k h n)))
-    (alone-column b 3428 g (λ k h n. and-right (eqb (getD b (3108 + k) 0) 0) (eqb (getD b (3428 + k) 0) 0) (both k h n))))
+    sym (and-both (all (digitPadded lastsOf10 b numeratorsAt) (numbers 0 320)) (all (digitPadded lastsOf10 b denominatorsAt) (numbers 0 320))
+    (alone-column b numeratorsAt f (λ k h n. and-left (eqb (getD b (numeratorsAt + k) 0) 0) (eqb (getD b (denominatorsAt + k) 0) 0) (both k h n)))
+    (alone-column b denominatorsAt g (λ k h n. and-right (eqb (getD b (numeratorsAt + k) 0) 0) (eqb (getD b (denominatorsAt + k) 0) 0) (both k h n))))
   where
-    both : (k : ℕ) → k < 320 → eqb (k % 10) 0 ≡ false → eqb (getD b (3108 + k) 0) 0 && eqb (getD b (3428 + k) 0) 0 ≡ true
+    both : (k : ℕ) → k < 320 → eqb (k % 10) 0 ≡ false → eqb (getD b (numeratorsAt + k) 0) 0 && eqb (getD b (denominatorsAt + k) 0) 0 ≡ true
     both k h n =
-        or-not (not (eqb (getD firstsOf10 k 0) 0)) (eqb (getD b (3108 + k) 0) 0 && eqb (getD b (3428 + k) 0) 0) (below-at (firstAlone firstsOf10 b) 320 k e h)
+        or-not (not (eqb (getD firstsOf10 k 0) 0)) (eqb (getD b (numeratorsAt + k) 0) 0 && eqb (getD b (denominatorsAt + k) 0) 0) (below-at (firstAlone firstsOf10 b) 320 k e h)
         (ap not (or-not (eqb (k % 10) 0) (eqb (getD firstsOf10 k 0) 0) (first-mask k h) n))

@@ -7,8 +7,9 @@ use lib.ListN.{getD}
 use lib.Dec.{eqb, leb}
 use Rattle.octets.specs.Bytes.{Bytes, same}
 use Rattle.server.specs.Lists.{all, numbers}
+use Rattle.server.specs.Sizes.{jobCount, numberSize, connectionCount}
 use Rattle.server.specs.Table.{live}
-use Rattle.server.specs.Layout.{column, rowIn, jobIn}
+use Rattle.server.specs.Layout.{column, rowIn, jobIn, numeratorsAt, denominatorsAt}
 use Rattle.server.specs.Rules.{storedNumber}
 use Rattle.table_bytes.specs.Tests.{arePadded}
 
@@ -17,11 +18,11 @@ use Rattle.table_bytes.specs.Tests.{arePadded}
 -- both numbers of a live row are stored numbers, those of a free row are empty
 abbrev pub storedAt : Bytes → ℕ → Bool
 storedAt b k =
-    cond (live (rowIn b k)) (storedNumber (jobIn b k .numerator) && storedNumber (jobIn b k .denominator)) (same (jobIn b k .numerator) [] && same (jobIn b k .denominator) [])
+    cond (live (rowIn connectionCount b k)) (storedNumber (jobIn connectionCount b k .numerator) && storedNumber (jobIn connectionCount b k .denominator)) (same (jobIn connectionCount b k .numerator) [] && same (jobIn connectionCount b k .denominator) [])
 
 -- all of them, and zeros follow each text
 unfoldable pub storedRules : Bytes → Bool
-storedRules b = (arePadded 10 32 b 3108 && arePadded 10 32 b 3428) && all (storedAt b) (numbers 0 32)
+storedRules b = (arePadded numberSize jobCount b numeratorsAt && arePadded numberSize jobCount b denominatorsAt) && all (storedAt b) (numbers 0 jobCount)
 
 -- ---- the tests
 
@@ -41,15 +42,15 @@ beginsAt marks b at k = beginsWith (getD marks k 0) (getD b (at + 10 * k) 0)
 
 -- m has the first byte of each of the 32 places
 abbrev pub FirstBytes : Bytes → ℕ → List ℕ → Type 0
-FirstBytes b at m = (k : ℕ) → k < 32 → getD m k 0 ≡ getD b (at + 10 * k) 0
+FirstBytes b at m = (k : ℕ) → k < jobCount → getD m k 0 ≡ getD b (at + 10 * k) 0
 
 -- each of the 32 places begins with a digit or a zero
 abbrev pub Begun : Bytes → ℕ → Type 0
-Begun b at = (k : ℕ) → k < 32 → digitOrZero (getD b (at + 10 * k) 0) ≡ true
+Begun b at = (k : ℕ) → k < jobCount → digitOrZero (getD b (at + 10 * k) 0) ≡ true
 
 -- by a mask of first bytes: byte k of both columns is zero
 abbrev pub firstAlone : Bytes → Bytes → ℕ → Bool
-firstAlone first b k = not (eqb (getD first k 0) 0) || (eqb (getD b (3108 + k) 0) 0 && eqb (getD b (3428 + k) 0) 0)
+firstAlone first b k = not (eqb (getD first k 0) 0) || (eqb (getD b (numeratorsAt + k) 0) 0 && eqb (getD b (denominatorsAt + k) 0) 0)
 
 -- by a mask of last bytes: byte k of a column is not zero or a zero follows, and it is zero or a digit
 abbrev pub digitPadded : Bytes → Bytes → ℕ → ℕ → Bool
@@ -58,13 +59,13 @@ digitPadded last b at k =
 
 -- the masks of 32 places of 10 bytes
 abbrev pub firstsOf10 : Bytes
-firstsOf10 = column (λ k. 1 ∷ 0 ∷ 0 ∷ 0 ∷ 0 ∷ 0 ∷ 0 ∷ 0 ∷ 0 ∷ 0 ∷ []) (numbers 0 32)
+firstsOf10 = column (λ k. 1 ∷ 0 ∷ 0 ∷ 0 ∷ 0 ∷ 0 ∷ 0 ∷ 0 ∷ 0 ∷ 0 ∷ []) (numbers 0 jobCount)
 
 abbrev pub lastsOf10 : Bytes
-lastsOf10 = column (λ k. 0 ∷ 0 ∷ 0 ∷ 0 ∷ 0 ∷ 0 ∷ 0 ∷ 0 ∷ 0 ∷ 1 ∷ []) (numbers 0 32)
+lastsOf10 = column (λ k. 0 ∷ 0 ∷ 0 ∷ 0 ∷ 0 ∷ 0 ∷ 0 ∷ 0 ∷ 0 ∷ 1 ∷ []) (numbers 0 jobCount)
 
 -- ---- sizes
 
 -- with a name of 32 bytes and a unique of 64, 1,022 together
 abbrev pub sizeSmall : Bytes → ℕ → Bool
-sizeSmall b k = leb (rowIn b k .size) 926
+sizeSmall b k = leb (rowIn connectionCount b k .size) 926

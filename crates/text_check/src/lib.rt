@@ -1,21 +1,29 @@
 // What refusal 1 asks of the stored numbers and of the sizes of workloads. A numerator and a denominator are texts of 1 to 10 digits in
 // places of 10 bytes, empty in a free row, and zeros follow them. No loop has an exit, so that each becomes vector code; numbers of one
 // digit are found first, by the zeros after them. Whatever the bytes are, the answer is `true` or `false`.
+use server::DENOMINATORS_AT;
+use server::JOBS;
+use server::NUMBER_SIZE;
+use server::NUMERATORS_AT;
 ghost use mathlib.Core.Path.{_≡_};
 ghost use mathlib.Core.Bool.{_&&_};
 ghost use Prim.Native.Nat.{_+_, _≤_};
 ghost use lib.ListN.{length, getD};
 ghost use Rattle.server.specs.Lists.{all, numbers};
-ghost use Rattle.server.specs.Layout.{tableOf};
+ghost use Rattle.server.specs.Sizes.{connectionCount, jobCount};
 ghost use Rattle.server.specs.Rules.{sizesWithin};
+ghost use Rattle.server.specs.Layout.{denominatorsAt, numeratorsAt, serialsAt, tableOf, tableSize};
 ghost use Rattle.row_check.specs.Rows.{Marked};
 ghost use Rattle.text_check.specs.Stored.{Begun, FirstBytes, beginsAt, beginsWith, digitPadded, firstAlone, isDigit, lastsOf10, sizeSmall, storedRules};
 
+// The bytes of all numerators, and of all denominators.
+const NUMBERS: usize = NUMBER_SIZE * JOBS;
+
 // The first byte of each of 32 places of 10 bytes, and the last one.
-const FIRSTS_OF_10: [u8; 320] =
+const FIRSTS_OF_10: [u8; NUMBERS] =
     *b"\x01\0\0\0\0\0\0\0\0\0\x01\0\0\0\0\0\0\0\0\0\x01\0\0\0\0\0\0\0\0\0\x01\0\0\0\0\0\0\0\0\0\x01\0\0\0\0\0\0\0\0\0\x01\0\0\0\0\0\0\0\0\0\x01\0\0\0\0\0\0\0\0\0\x01\0\0\0\0\0\0\0\0\0\x01\0\0\0\0\0\0\0\0\0\x01\0\0\0\0\0\0\0\0\0\x01\0\0\0\0\0\0\0\0\0\x01\0\0\0\0\0\0\0\0\0\x01\0\0\0\0\0\0\0\0\0\x01\0\0\0\0\0\0\0\0\0\x01\0\0\0\0\0\0\0\0\0\x01\0\0\0\0\0\0\0\0\0\x01\0\0\0\0\0\0\0\0\0\x01\0\0\0\0\0\0\0\0\0\x01\0\0\0\0\0\0\0\0\0\x01\0\0\0\0\0\0\0\0\0\x01\0\0\0\0\0\0\0\0\0\x01\0\0\0\0\0\0\0\0\0\x01\0\0\0\0\0\0\0\0\0\x01\0\0\0\0\0\0\0\0\0\x01\0\0\0\0\0\0\0\0\0\x01\0\0\0\0\0\0\0\0\0\x01\0\0\0\0\0\0\0\0\0\x01\0\0\0\0\0\0\0\0\0\x01\0\0\0\0\0\0\0\0\0\x01\0\0\0\0\0\0\0\0\0\x01\0\0\0\0\0\0\0\0\0\x01\0\0\0\0\0\0\0\0\0";
 
-const LASTS_OF_10: [u8; 320] =
+const LASTS_OF_10: [u8; NUMBERS] =
     *b"\0\0\0\0\0\0\0\0\0\x01\0\0\0\0\0\0\0\0\0\x01\0\0\0\0\0\0\0\0\0\x01\0\0\0\0\0\0\0\0\0\x01\0\0\0\0\0\0\0\0\0\x01\0\0\0\0\0\0\0\0\0\x01\0\0\0\0\0\0\0\0\0\x01\0\0\0\0\0\0\0\0\0\x01\0\0\0\0\0\0\0\0\0\x01\0\0\0\0\0\0\0\0\0\x01\0\0\0\0\0\0\0\0\0\x01\0\0\0\0\0\0\0\0\0\x01\0\0\0\0\0\0\0\0\0\x01\0\0\0\0\0\0\0\0\0\x01\0\0\0\0\0\0\0\0\0\x01\0\0\0\0\0\0\0\0\0\x01\0\0\0\0\0\0\0\0\0\x01\0\0\0\0\0\0\0\0\0\x01\0\0\0\0\0\0\0\0\0\x01\0\0\0\0\0\0\0\0\0\x01\0\0\0\0\0\0\0\0\0\x01\0\0\0\0\0\0\0\0\0\x01\0\0\0\0\0\0\0\0\0\x01\0\0\0\0\0\0\0\0\0\x01\0\0\0\0\0\0\0\0\0\x01\0\0\0\0\0\0\0\0\0\x01\0\0\0\0\0\0\0\0\0\x01\0\0\0\0\0\0\0\0\0\x01\0\0\0\0\0\0\0\0\0\x01\0\0\0\0\0\0\0\0\0\x01\0\0\0\0\0\0\0\0\0\x01\0\0\0\0\0\0\0\0\0\x01";
 
 // ---- first bytes
@@ -28,26 +36,26 @@ fn is_digit(x: u8) -> bool
 }
 
 // The first byte of each of the 32 places of 10 bytes from `at` on.
-fn first_bytes(table: &[u8], at: usize) -> [u8; 32]
+fn first_bytes(table: &[u8], at: usize) -> [u8; JOBS]
     requires { ⌜ at + 320 ≤ length (now table) ⌝ }
     ensures { λ r. ⌜ FirstBytes (now (table .entry)) at r ⌝ }
 {
-    let mut m = [0u8; 32];
+    let mut m = [0u8; JOBS];
     let mut i = 0;
-    while i < 32 {
-        m[i] = table[at + 10 * i];
+    while i < JOBS {
+        m[i] = table[at + NUMBER_SIZE * i];
         i += 1;
     }
     m
 }
 
 // Whether each first byte is a digit in a live row, and zero in a free one.
-fn begun(live: &[u8; 32], first: &[u8; 32]) -> bool
-    ensures { λ r. ⌜ r ≡ all (λ k. beginsWith (getD (now (live .entry)) k 0) (getD (now (first .entry)) k 0)) (numbers 0 32) ⌝ }
+fn begun(live: &[u8; JOBS], first: &[u8; JOBS]) -> bool
+    ensures { λ r. ⌜ r ≡ all (λ k. beginsWith (getD (now (live .entry)) k 0) (getD (now (first .entry)) k 0)) (numbers 0 jobCount) ⌝ }
 {
     let mut ok = true;
     let mut i = 0;
-    while i < 32 {
+    while i < JOBS {
         ok = ok & (((live[i] != 0) & is_digit(first[i])) | ((live[i] == 0) & (first[i] == 0)));
         i += 1;
     }
@@ -55,9 +63,9 @@ fn begun(live: &[u8; 32], first: &[u8; 32]) -> bool
 }
 
 // The same of the 32 places from `at` on.
-fn numbers_begin(table: &[u8], at: usize, live: &[u8; 32]) -> bool
+fn numbers_begin(table: &[u8], at: usize, live: &[u8; JOBS]) -> bool
     requires { ⌜ at + 320 ≤ length (now table) ⌝ }
-    ensures { λ r. ⌜ r ≡ all (beginsAt (now (live .entry)) (now (table .entry)) at) (numbers 0 32) ⌝ }
+    ensures { λ r. ⌜ r ≡ all (beginsAt (now (live .entry)) (now (table .entry)) at) (numbers 0 jobCount) ⌝ }
 {
     let first = first_bytes(table, at);
     begun(live, &first)
@@ -66,27 +74,31 @@ fn numbers_begin(table: &[u8], at: usize, live: &[u8; 32]) -> bool
 // ---- all bytes
 
 // Whether each byte of the stored numbers is the first of its place or zero.
-fn one_digit_each(table: &[u8], first: &[u8; 320]) -> bool
-    requires { ⌜ 3796 ≤ length (now table) ⌝ }
+fn one_digit_each(table: &[u8], first: &[u8; NUMBERS]) -> bool
+    requires { ⌜ tableSize connectionCount ≤ length (now table) ⌝ }
     ensures { λ r. ⌜ r ≡ all (firstAlone (now (first .entry)) (now (table .entry))) (numbers 0 320) ⌝ }
 {
     let mut found = 0;
     let mut i = 0;
-    while i < 320 {
-        found = found | image_check::after_end(first[i], table[3108 + i] | table[3428 + i]);
+    while i < NUMBERS {
+        found = found
+            | image_check::after_end(
+                first[i],
+                table[NUMERATORS_AT + i] | table[DENOMINATORS_AT + i],
+            );
         i += 1;
     }
     found == 0
 }
 
 // Whether each of 320 bytes is zero or a digit, and is the last of its place, or not zero, or followed by a zero.
-fn digits_padded(table: &[u8], at: usize, last: &[u8; 320]) -> bool
+fn digits_padded(table: &[u8], at: usize, last: &[u8; NUMBERS]) -> bool
     requires { ⌜ at + 321 ≤ length (now table) ⌝ }
     ensures { λ r. ⌜ r ≡ all (digitPadded (now (last .entry)) (now (table .entry)) at) (numbers 0 320) ⌝ }
 {
     let mut ok = true;
     let mut k = 0;
-    while k < 320 {
+    while k < NUMBERS {
         let x = table[at + k];
         ok = ok
             & (((last[k] != 0) | ((x != 0) | (table[at + k + 1] == 0))) & ((x == 0) | is_digit(x)));
@@ -97,28 +109,28 @@ fn digits_padded(table: &[u8], at: usize, last: &[u8; 320]) -> bool
 
 // The same of both columns of numbers, where each place begins with a digit or a zero.
 fn all_digits(table: &[u8]) -> bool
-    requires { ⌜ (3796 ≤ length (now table)) × (Begun (now table) 3108 × Begun (now table) 3428) ⌝ }
-    ensures { λ r. ⌜ r ≡ all (digitPadded lastsOf10 (now (table .entry)) 3108) (numbers 0 320) && all (digitPadded lastsOf10 (now (table .entry)) 3428) (numbers 0 320) ⌝ }
+    requires { ⌜ (tableSize connectionCount ≤ length (now table)) × (Begun (now table) numeratorsAt × Begun (now table) denominatorsAt) ⌝ }
+    ensures { λ r. ⌜ r ≡ all (digitPadded lastsOf10 (now (table .entry)) numeratorsAt) (numbers 0 320) && all (digitPadded lastsOf10 (now (table .entry)) denominatorsAt) (numbers 0 320) ⌝ }
 {
     let first = FIRSTS_OF_10;
     if one_digit_each(table, &first) {
         return true;
     }
     let last = LASTS_OF_10;
-    if digits_padded(table, 3108, &last) {
-        return digits_padded(table, 3428, &last);
+    if digits_padded(table, NUMERATORS_AT, &last) {
+        return digits_padded(table, DENOMINATORS_AT, &last);
     }
     false
 }
 
 // Whether the stored numbers of each live row are 1 to 10 digits and those of each free row are empty, all followed by zeros. `live` has
 // the marks of the serials.
-pub fn stored_hold(table: &[u8], live: &[u8; 32]) -> bool
-    requires { ⌜ (3796 ≤ length (now table)) × Marked 4 (now table) 68 (now live) ⌝ }
+pub fn stored_hold(table: &[u8], live: &[u8; JOBS]) -> bool
+    requires { ⌜ (tableSize connectionCount ≤ length (now table)) × Marked 4 (now table) serialsAt (now live) ⌝ }
     ensures { λ r. ⌜ r ≡ storedRules (now (table .entry)) ⌝ }
 {
-    if numbers_begin(table, 3108, live) {
-        if numbers_begin(table, 3428, live) {
+    if numbers_begin(table, NUMERATORS_AT, live) {
+        if numbers_begin(table, DENOMINATORS_AT, live) {
             return all_digits(table);
         }
     }
@@ -129,12 +141,12 @@ pub fn stored_hold(table: &[u8], live: &[u8; 32]) -> bool
 
 // Whether no workload is above 926 bytes: with the longest name and the longest unique 1,022 together.
 fn sizes_small(table: &[u8]) -> bool
-    requires { ⌜ 3796 ≤ length (now table) ⌝ }
-    ensures { λ r. ⌜ r ≡ all (sizeSmall (now (table .entry))) (numbers 0 32) ⌝ }
+    requires { ⌜ tableSize connectionCount ≤ length (now table) ⌝ }
+    ensures { λ r. ⌜ r ≡ all (sizeSmall (now (table .entry))) (numbers 0 jobCount) ⌝ }
 {
     let mut ok = true;
     let mut i = 0;
-    while i < 32 {
+    while i < JOBS {
         ok = ok & (fields::size(table, i) <= 926);
         i += 1;
     }
@@ -143,8 +155,8 @@ fn sizes_small(table: &[u8]) -> bool
 
 // Whether function, unique and workload of each job are at most 1,022 bytes together. Texts are read only where a workload is above 926.
 pub fn sizes_hold(table: &[u8]) -> bool
-    requires { ⌜ 3796 ≤ length (now table) ⌝ }
-    ensures { λ r. ⌜ r ≡ sizesWithin (tableOf 16 (now (table .entry))) ⌝ }
+    requires { ⌜ tableSize connectionCount ≤ length (now table) ⌝ }
+    ensures { λ r. ⌜ r ≡ sizesWithin (tableOf connectionCount (now (table .entry))) ⌝ }
 {
     if sizes_small(table) {
         return true;

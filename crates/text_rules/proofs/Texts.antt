@@ -10,6 +10,7 @@ use lib.Seq.{length-take-le}
 use lib.Dec.{eqb}
 use Rattle.octets.specs.Bytes.{Bytes, same, firstZero}
 use Rattle.octets.proofs.Strings.{zero-le-length}
+use Rattle.server.specs.Sizes.{connectionCount, functionCount}
 use Rattle.server.specs.Table.{Function, Job, functionAt}
 use Rattle.server.specs.Layout.{textAt, functionIn, tableOf}
 use Rattle.server.specs.Rules.{uniquesApart}
@@ -27,11 +28,11 @@ text-within s k b at e =
     omega (arith, ap length e, text-long k b at, zero-le-length (take k (drop at b)), length-take k (drop at b))
 
 -- the length of a function's name; past the last function there is none
-pub name-length : (b s : Bytes) (q : ℕ) → s ≡ functionIn b q .name → q < 16 → length s ≡ length (functionAt (tableOf 16 b) q .name)
-name-length b s q e h = ap length e ∙ ap (λ (x : Function). length (x .name)) (sym (function-at 16 b q h))
+pub name-length : (b s : Bytes) (q : ℕ) → s ≡ functionIn connectionCount b q .name → q < functionCount → length s ≡ length (functionAt (tableOf connectionCount b) q .name)
+name-length b s q e h = ap length e ∙ ap (λ (x : Function). length (x .name)) (sym (function-at connectionCount b q h))
 
-pub no-name : (b : Bytes) (q : ℕ) → 16 ≤ q → 0 ≡ length (functionAt (tableOf 16 b) q .name)
-no-name b q h = ap (λ (x : Function). length (x .name)) (sym (no-function 16 b q h))
+pub no-name : (b : Bytes) (q : ℕ) → 16 ≤ q → 0 ≡ length (functionAt (tableOf connectionCount b) q .name)
+no-name b q h = ap (λ (x : Function). length (x .name)) (sym (no-function connectionCount b q h))
 
 -- ---- tests of texts
 

@@ -17,13 +17,12 @@ use Rattle.octets.proofs.Strings.{and-left, and-right, and-both}
 use Rattle.sets.specs.Sets.{has}
 use Rattle.sets.proofs.Laws.{has-insert-same, has-insert-other, has-remove-same, has-remove-other}
 use Rattle.server.specs.Lists.{any}
-use Rattle.server.specs.Table.{Function, Table, noFunction, noJob, connectionAt, functionAt, jobAt, setFunction, queued, able, grabbable, known, roomFor}
+use Rattle.server.specs.Table.{Function, Table, noFunction, noJob, connectionAt, functionAt, jobAt, setFunction, queued, able, grabbable, known, roomFor, withFunctions}
 use Rattle.server.specs.Asked.{canDo, cantDo, reset}
 use Rattle.server.specs.Events.{settle, wakes, toWake, forgot, noop, ableTo, unable, canDoAt, cantDoAt, unableToAll, served}
 use Rattle.server.specs.Rules.{sleeperIdle, obeys}
 use Rattle.outcomes.proofs.Cases.{All2, all2-set, all2-map, all2-at}
 use Rattle.rules_kept.proofs.Rows.{clash, implies-by, never, iff, any-at, any-where}
-use Rattle.rules_kept.proofs.Sound.{withFunctions}
 use Rattle.rules_kept.proofs.Functions.{room}
 use Rattle.rules_kept.proofs.Settled.{woken-at, idle-by}
 use Rattle.rules_kept.proofs.Obeyed.{obeyed}
@@ -140,9 +139,9 @@ unable-weaker c x k e = go (ℕ-discrete k c)
 module _ (t : Table) (c : ℕ) (h : obeys t ≡ true) where
   -- fewer abilities: nothing is sent, and connections and jobs stay as they are, so held jobs and sleep too
   weaker-quiet : (fs : List Function) → All2 Weaker (t .functions) fs
-      → Quiet [] t (settle [] (withFunctions t fs))
+      → Quiet [] t (settle [] (withFunctions fs t))
   weaker-quiet fs r =
-      let u = withFunctions t fs in
+      let u = withFunctions fs t in
       let m : NoMore t u = record {
         long = refl;
         asleep = λ k e. e;

@@ -21,13 +21,12 @@ pub fn write(server: &Server, table: &mut [u8]) {
     put(LAST_SERIAL, &server.last_serial.to_le_bytes());
     for (q, function) in server.functions.iter().enumerate() {
         let Some(function) = function else { continue };
-        put(ABLE + 4 * q, &u32::from(function.able).to_le_bytes());
         put(NAME + NAME_BYTES * q, function.name.bytes());
+        put(ABLE + 4 * q, &u32::from(function.able).to_le_bytes());
     }
     for (p, job) in server.jobs.iter().enumerate() {
         let Some(job) = job else { continue };
         put(SERIAL + 4 * p, &job.serial.to_le_bytes());
-        put(LISTENERS + 4 * p, &u32::from(job.listeners).to_le_bytes());
         put(SIZE + 2 * p, &(job.size as u16).to_le_bytes());
         put(HOLDER + 2 * p, &(job.holder.map_or(0, |holder| holder as u16 + 1)).to_le_bytes());
         put(PRIORITY + p, &[job.priority]);
@@ -36,6 +35,7 @@ pub fn write(server: &Server, table: &mut [u8]) {
         put(UNIQUE + UNIQUE_BYTES * p, job.unique.bytes());
         put(NUMERATOR + DIGITS_BYTES * p, job.numerator.bytes());
         put(DENOMINATOR + DIGITS_BYTES * p, job.denominator.bytes());
+        put(LISTENERS + 4 * p, &u32::from(job.listeners).to_le_bytes());
     }
     for (c, connection) in server.connections.iter().enumerate() {
         put(OPEN + c, &[u8::from(connection.open)]);

@@ -1,27 +1,30 @@
 //! Where each field of the table stands (docs/TABLE.md), and how long the lent buffers are at least.
 #![forbid(unsafe_code)]
 
-pub const LAST_SERIAL: usize = 0;
-pub const ABLE: usize = 4;
-pub const SERIAL: usize = 68;
-pub const LISTENERS: usize = 196;
-pub const SIZE: usize = 324;
-pub const HOLDER: usize = 388;
-pub const PRIORITY: usize = 452;
-pub const BACKGROUND: usize = 484;
-pub const FUNCTION: usize = 516;
-pub const NAME: usize = 548;
-pub const UNIQUE: usize = 1_060;
-pub const NUMERATOR: usize = 3_108;
-pub const DENOMINATOR: usize = 3_428;
-pub const OPEN: usize = 3_748;
-pub const ASLEEP: usize = 3_764;
-pub const EXCEPTIONS: usize = 3_780;
-/// The layout ends here: the least length of a lent table.
-pub const TABLE: usize = 3_796;
-/// The least length of a lent output: one copy of the largest request to each of 16 listeners.
-pub const OUTPUT: usize = 16_592;
+use crate::server::{CONNECTIONS, FUNCTIONS, JOBS};
 
 pub const NAME_BYTES: usize = 32;
 pub const UNIQUE_BYTES: usize = 64;
 pub const DIGITS_BYTES: usize = 10;
+
+// Each column begins where the one before it ends.
+pub const LAST_SERIAL: usize = 0;
+pub const SERIAL: usize = LAST_SERIAL + 4;
+pub const SIZE: usize = SERIAL + 4 * JOBS;
+pub const HOLDER: usize = SIZE + 2 * JOBS;
+pub const PRIORITY: usize = HOLDER + 2 * JOBS;
+pub const BACKGROUND: usize = PRIORITY + JOBS;
+pub const FUNCTION: usize = BACKGROUND + JOBS;
+pub const NAME: usize = FUNCTION + JOBS;
+pub const UNIQUE: usize = NAME + NAME_BYTES * FUNCTIONS;
+pub const NUMERATOR: usize = UNIQUE + UNIQUE_BYTES * JOBS;
+pub const DENOMINATOR: usize = NUMERATOR + DIGITS_BYTES * JOBS;
+pub const ABLE: usize = DENOMINATOR + DIGITS_BYTES * JOBS;
+pub const LISTENERS: usize = ABLE + 4 * FUNCTIONS;
+pub const OPEN: usize = LISTENERS + 4 * JOBS;
+pub const ASLEEP: usize = OPEN + CONNECTIONS;
+pub const EXCEPTIONS: usize = ASLEEP + CONNECTIONS;
+/// The layout ends here: the least length of a lent table.
+pub const TABLE: usize = EXCEPTIONS + CONNECTIONS;
+/// The least length of a lent output: one copy of the largest request to each of 16 listeners.
+pub const OUTPUT: usize = 16_592;

@@ -49,14 +49,8 @@ impl<'a> Table<'a> {
     pub fn last_serial(self) -> u32 {
         self.four(LAST_SERIAL)
     }
-    pub fn able(self, q: usize) -> u32 {
-        self.four(ABLE + 4 * q)
-    }
     pub fn serial(self, p: usize) -> u32 {
         self.four(SERIAL + 4 * p)
-    }
-    pub fn listeners(self, p: usize) -> u32 {
-        self.four(LISTENERS + 4 * p)
     }
     pub fn size(self, p: usize) -> u16 {
         self.two(SIZE + 2 * p)
@@ -85,6 +79,12 @@ impl<'a> Table<'a> {
     }
     pub fn denominator_place(self, p: usize) -> &'a [u8] {
         &self.0[DENOMINATOR + DIGITS_BYTES * p..][..DIGITS_BYTES]
+    }
+    pub fn able(self, q: usize) -> u32 {
+        self.four(ABLE + 4 * q)
+    }
+    pub fn listeners(self, p: usize) -> u32 {
+        self.four(LISTENERS + 4 * p)
     }
     pub fn open(self, c: usize) -> u8 {
         self.0[OPEN + c]

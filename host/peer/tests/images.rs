@@ -1,4 +1,5 @@
-//! The table's bytes: docs/TABLE.md's example, round trips over random histories, and each table rule broken.
+//! The table's bytes: docs/TABLE.md's offsets and its example, round trips over random histories, and each table rule
+//! broken.
 mod common;
 use common::{done, opened, response};
 use peer::damage;
@@ -22,19 +23,28 @@ fn example() -> Server {
     server
 }
 
+/// The layout adds up the columns; the page has the sums.
+#[test]
+fn the_offsets_of_the_table_page() {
+    assert_eq!([LAST_SERIAL, SERIAL, SIZE, HOLDER], [0, 4, 132, 196]);
+    assert_eq!([PRIORITY, BACKGROUND, FUNCTION, NAME], [260, 292, 324, 356]);
+    assert_eq!([UNIQUE, NUMERATOR, DENOMINATOR, ABLE], [868, 2_916, 3_236, 3_556]);
+    assert_eq!([LISTENERS, OPEN, ASLEEP, EXCEPTIONS, TABLE], [3_620, 3_748, 3_764, 3_780, 3_796]);
+}
+
 #[test]
 fn the_example_of_the_table_page() {
     let mut bytes = vec![0; TABLE];
     for (at, part) in [
         (0, &b"\x01"[..]),
-        (4, b"\x02"),
-        (68, b"\x01"),
-        (196, b"\x01"),
-        (324, b"\x04"),
-        (452, b"\x01"),
-        (548, b"reverse"),
-        (3_108, b"0"),
-        (3_428, b"0"),
+        (4, b"\x01"),
+        (132, b"\x04"),
+        (260, b"\x01"),
+        (356, b"reverse"),
+        (2_916, b"0"),
+        (3_236, b"0"),
+        (3_556, b"\x02"),
+        (3_620, b"\x01"),
         (3_748, b"\x01\x01"),
     ] {
         bytes[at..at + part.len()].copy_from_slice(part);
@@ -42,7 +52,7 @@ fn the_example_of_the_table_page() {
     let mut server = example();
     assert_eq!(image(&server), bytes);
     done(&mut server, 1, 9, &[], &[response(1, 11, &[b"H:lap:1", b"reverse", b"test"])]);
-    bytes[388] = 2;
+    bytes[196] = 2;
     assert_eq!(image(&server), bytes);
     assert_eq!(image(&Server::new()), vec![0; TABLE]);
 }

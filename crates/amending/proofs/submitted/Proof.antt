@@ -4,8 +4,11 @@ use borrow.Author.Needs.{needs}
 use Rattle.amending.proofs.submitted.Statement.{statement}
 use Rattle.amending.proofs.submitted.Tie as tie
 
+in-background-requires : tie.Need-in-background-requires
+in-background-requires c κs = search needs
+
 returns : tie.Need-returns
-returns c = rw (c .if1 .taken)
+returns c = c .in-background .ensures ∙ rw (c .before .if1 .taken)
 
 insert-requires : tie.Need-insert-requires
 insert-requires c κs = search needs
@@ -17,4 +20,4 @@ returns-2 : tie.Need-returns-2
 returns-2 c = c .with-listeners .ensures ∙ rw (c .before .insert .ensures, c .before .before .if1 .left)
 
 pub submitted-spec : {M : Type 1} → statement M
-submitted-spec = tie.close (tie.spec returns insert-requires with-listeners-requires returns-2)
+submitted-spec = tie.close (tie.spec in-background-requires returns insert-requires with-listeners-requires returns-2)

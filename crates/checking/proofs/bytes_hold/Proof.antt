@@ -6,6 +6,8 @@ use Rattle.table_bytes.specs.Tests.{arePadded}
 use Rattle.passes.proofs.Tests.{and-same, and-fails}
 use Rattle.checking.specs.Parts.{byteRules}
 use borrow.Author.Needs.{needs}
+use Rattle.server.specs.Sizes.{functionCount, jobCount, nameSize, uniqueSize}
+use Rattle.server.specs.Layout.{namesAt, uniquesAt}
 use Rattle.checking.proofs.bytes_hold.Statement.{statement}
 use Rattle.checking.proofs.bytes_hold.Tie as tie
 
@@ -28,12 +30,12 @@ returns c = and-same (sym (c .before .before .before .if1 .taken) ∙ and-same (
 returns-2 : tie.Need-returns-2
 unfolding byteRules
 returns-2 c = let b = now (c .before .before .before .before .before .before .args .table) in
-    and-same (sym (c .before .before .if1 .taken) ∙ and-same (c .before .before .before .before .flags .ensures) (c .before .before .before .flags2 .ensures)) (and-fails (arePadded 64 32 b 1060) (sym (c .if2 .left) ∙ c .before .names-padded .ensures))
+    and-same (sym (c .before .before .if1 .taken) ∙ and-same (c .before .before .before .before .flags .ensures) (c .before .before .before .flags2 .ensures)) (and-fails (arePadded uniqueSize jobCount b uniquesAt) (sym (c .if2 .left) ∙ c .before .names-padded .ensures))
 
 returns-3 : tie.Need-returns-3
 unfolding byteRules
 returns-3 c = let b = now (c .before .before .before .before .args .table) in
-    and-fails (arePadded 32 16 b 548 && arePadded 64 32 b 1060) (sym (c .if1 .left) ∙ and-same (c .before .before .flags .ensures) (c .before .flags2 .ensures))
+    and-fails (arePadded nameSize functionCount b namesAt && arePadded uniqueSize jobCount b uniquesAt) (sym (c .if1 .left) ∙ and-same (c .before .before .flags .ensures) (c .before .flags2 .ensures))
 
 pub bytes-hold-spec : {M : Type 1} → statement M
 bytes-hold-spec =

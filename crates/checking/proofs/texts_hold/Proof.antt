@@ -2,6 +2,7 @@
 use mathlib.Core.Path.{sym, _∙_}
 use mathlib.Core.Bool.{_&&_}
 use denote.Ref.{now}
+use Rattle.server.specs.Sizes.{connectionCount}
 use Rattle.server.specs.Layout.{tableOf}
 use Rattle.server.specs.Rules.{sizesWithin, functionsDistinct, uniquesDistinct}
 use Rattle.passes.proofs.Tests.{and-same, and-fails}
@@ -28,17 +29,17 @@ returns c = and-same (sym (c .before .before .before .before .before .if1 .taken
 
 returns-2 : tie.Need-returns-2
 unfolding textRules
-returns-2 c = let t = tableOf 16 (now (c .before .before .before .before .before .before .before .args .table)) in
+returns-2 c = let t = tableOf connectionCount (now (c .before .before .before .before .before .before .before .args .table)) in
     and-same (sym (c .before .before .before .before .if1 .taken) ∙ c .before .before .before .before .before .stored-hold .ensures) (and-same (sym (c .before .before .if2 .taken) ∙ c .before .before .before .sizes-hold .ensures) (and-fails (uniquesDistinct t) (sym (c .if3 .left) ∙ c .before .names-hold .ensures)))
 
 returns-3 : tie.Need-returns-3
 unfolding textRules
-returns-3 c = let t = tableOf 16 (now (c .before .before .before .before .before .args .table)) in
+returns-3 c = let t = tableOf connectionCount (now (c .before .before .before .before .before .args .table)) in
     and-same (sym (c .before .before .if1 .taken) ∙ c .before .before .before .stored-hold .ensures) (and-fails (functionsDistinct t && uniquesDistinct t) (sym (c .if2 .left) ∙ c .before .sizes-hold .ensures))
 
 returns-4 : tie.Need-returns-4
 unfolding textRules
-returns-4 c = let t = tableOf 16 (now (c .before .before .before .args .table)) in
+returns-4 c = let t = tableOf connectionCount (now (c .before .before .before .args .table)) in
     and-fails (sizesWithin t && (functionsDistinct t && uniquesDistinct t)) (sym (c .if1 .left) ∙ c .before .stored-hold .ensures)
 
 pub texts-hold-spec : {M : Type 1} → statement M

@@ -5,13 +5,14 @@ use borrow.Author.Needs.{needs}
 use mathlib.Core.List.{map}
 use lib.ListN.{length, take}
 use Rattle.server.specs.Lists.{numbers}
+use Rattle.server.specs.Sizes.{jobCount}
 use Rattle.server.specs.Layout.{littleAt}
 use Rattle.rows.proofs.Reading.{fill-more, filled}
 use Rattle.columns.proofs.fours.Statement.{statement}
 use Rattle.columns.proofs.fours.Tie as tie
 
 abbrev Inv-loop : tie.InvT-loop
-Inv-loop table at s₀ i₀ s i = (i ≤ 32) × (length s ≡ 32) × (take i s ≡ map (λ k. littleAt 4 table (at + 4 * k)) (numbers 0 i))
+Inv-loop table at s₀ i₀ s i = (i ≤ jobCount) × (length s ≡ 32) × (take i s ≡ map (λ k. littleAt 4 table (at + 4 * k)) (numbers 0 i))
 
 abbrev μ-loop : tie.MeasureT-loop
 μ-loop table at s₀ i₀ s i = 32 - i

@@ -3,6 +3,7 @@ use mathlib.Core.Path.{sym, _∙_}
 use borrow.Author.Needs.{needs}
 use Rattle.server.specs.Layout.{tableOf}
 use Rattle.server.specs.Lists.{any}
+use Rattle.server.specs.Sizes.{connectionCount}
 use Rattle.plans.specs.Values.{valuesOf}
 use Rattle.steps.specs.Steps.{waits}
 use Rattle.ending.proofs.Walks.{none-to-choose}
@@ -15,7 +16,7 @@ sleepers-requires c κs = search needs
 returns : tie.Need-returns
 returns c =
     let a = c .before .before .before .args in
-    none-to-choose (any (waits (a .q)) (valuesOf (tableOf 16 (a .table .now)) .rows)) _ _ (c .before .sleepers .ensures) (c .if1 .taken)
+    none-to-choose (any (waits (a .q)) (valuesOf (tableOf connectionCount (a .table .now)) .rows)) _ _ (c .before .sleepers .ensures) (c .if1 .taken)
 
 some-wait-requires : tie.Need-some-wait-requires
 some-wait-requires c κs = search needs

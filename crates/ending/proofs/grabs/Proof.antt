@@ -1,5 +1,6 @@
 -- `ending::grabs` meets its contract: the row that stands there, and the set of its function. Assumes nothing.
 use borrow.Author.Needs.{needs}
+use Rattle.server.specs.Sizes.{connectionCount}
 use Rattle.server.specs.Layout.{tableOf}
 use Rattle.plans.specs.Values.{valuesOf}
 use Rattle.ending.proofs.Walks.{grab-read}
@@ -21,7 +22,7 @@ has-requires c κs = search needs
 returns : tie.Need-returns
 returns c =
     let a = c .before .before .before .before .before .before .before .args in
-    grab-read (valuesOf (tableOf 16 (a .table .now))) (a .c) (a .i) _ _ _ (c .before .before .before .before .before .row-at .ensures) (c .before .able-at .ensures) (c .has .ensures)
+    grab-read (valuesOf (tableOf connectionCount (a .table .now))) (a .c) (a .i) _ _ _ (c .before .before .before .before .before .row-at .ensures) (c .before .able-at .ensures) (c .has .ensures)
 
 pub grabs-spec : {M : Type 1} → statement M
 grabs-spec =

@@ -5,6 +5,7 @@ use mathlib.Core.Path.{_≡_, refl, ap, _∙_}
 use native.Mathlib.Omega.{arith}
 use borrow.Author.Needs.{needs}
 use lib.ListN.{drop}
+use Rattle.server.specs.Sizes.{connectionCount}
 use Rattle.server.specs.Layout.{tableOf}
 use Rattle.server.specs.Table.{closed}
 use Rattle.plans.specs.Values.{valuesOf}
@@ -16,7 +17,7 @@ use Rattle.ending.proofs.sleepers.Tie as tie
 
 abbrev Inv-loop : tie.InvT-loop
 Inv-loop table able s₀ k₀ s k =
-    (k ≤ 16) × (toWakeSet able (valuesOf (tableOf 16 table) .connections) ≡ unions (wakesNow able) s k (drop k (valuesOf (tableOf 16 table) .connections)))
+    (k ≤ 16) × (toWakeSet able (valuesOf (tableOf connectionCount table) .connections) ≡ unions (wakesNow able) s k (drop k (valuesOf (tableOf connectionCount table) .connections)))
 
 abbrev μ-loop : tie.MeasureT-loop
 μ-loop table able s₀ k₀ s k = 16 - k

@@ -9,6 +9,7 @@ use lib.ListN.{drop}
 use Rattle.server.specs.Layout.{tableOf}
 use Rattle.server.specs.Table.{noRow}
 use Rattle.server.specs.Lists.{any}
+use Rattle.server.specs.Sizes.{connectionCount, jobCount}
 use Rattle.plans.specs.Values.{canGrab, valuesOf}
 use Rattle.steps.proofs.Sizes.{rows-long}
 use Rattle.ending.proofs.Walks.{any-turn, any-end}
@@ -17,8 +18,8 @@ use Rattle.ending.proofs.some_grab.Tie as tie
 
 abbrev Inv-loop : tie.InvT-loop
 Inv-loop table k found₀ i₀ found i =
-    (i ≤ 32)
-    × (any (canGrab (valuesOf (tableOf 16 table) .able) k) (valuesOf (tableOf 16 table) .rows) ≡ found || any (canGrab (valuesOf (tableOf 16 table) .able) k) (drop i (valuesOf (tableOf 16 table) .rows)))
+    (i ≤ jobCount)
+    × (any (canGrab (valuesOf (tableOf connectionCount table) .able) k) (valuesOf (tableOf connectionCount table) .rows) ≡ found || any (canGrab (valuesOf (tableOf connectionCount table) .able) k) (drop i (valuesOf (tableOf connectionCount table) .rows)))
 
 abbrev μ-loop : tie.MeasureT-loop
 μ-loop table k found₀ i₀ found i = 32 - i
@@ -39,13 +40,13 @@ loop-again : tie.Need-loop-again Inv-loop μ-loop
 loop-again c =
     let l = c .before .before .loop in
     let a = c .before .before .before .before .args in
-    (omega arith, any-turn (canGrab (valuesOf (tableOf 16 (a .table .now)) .able) (a .c)) _ 32 (l .i) (l .found) (rows-long _) (l .inv .1) noRow (c .grabs .result) (omega arith) (c .grabs .ensures))
+    (omega arith, any-turn (canGrab (valuesOf (tableOf connectionCount (a .table .now)) .able) (a .c)) _ 32 (l .i) (l .found) (rows-long _) (l .inv .1) noRow (c .grabs .result) (omega arith) (c .grabs .ensures))
 
 returns : tie.Need-returns Inv-loop μ-loop
 returns c =
     let l = c .before .loop in
     let a = c .before .before .before .args in
-    any-end (canGrab (valuesOf (tableOf 16 (a .table .now)) .able) (a .c)) _ 32 (l .i) (l .found) (rows-long _) (l .inv .1) (omega arith)
+    any-end (canGrab (valuesOf (tableOf connectionCount (a .table .now)) .able) (a .c)) _ 32 (l .i) (l .found) (rows-long _) (l .inv .1) (omega arith)
 
 pub some-grab-spec : {M : Type 1} → statement M
 some-grab-spec =

@@ -9,6 +9,7 @@ use lib.ListN.{set, drop}
 use Rattle.server.specs.Layout.{tableOf}
 use Rattle.server.specs.Table.{noRow, names}
 use Rattle.server.specs.Lists.{any}
+use Rattle.server.specs.Sizes.{connectionCount, jobCount}
 use Rattle.plans.specs.Values.{valuesOf}
 use Rattle.ending.proofs.Walks.{any-turn, any-end, left-long}
 use Rattle.ending.proofs.some_name.Statement.{statement}
@@ -16,8 +17,8 @@ use Rattle.ending.proofs.some_name.Tie as tie
 
 abbrev Inv-loop : tie.InvT-loop
 Inv-loop table q over found₀ i₀ found i =
-    (i ≤ 32)
-    × (any (names q) (set (valuesOf (tableOf 16 table) .rows) over noRow) ≡ found || any (names q) (drop i (set (valuesOf (tableOf 16 table) .rows) over noRow)))
+    (i ≤ jobCount)
+    × (any (names q) (set (valuesOf (tableOf connectionCount table) .rows) over noRow) ≡ found || any (names q) (drop i (set (valuesOf (tableOf connectionCount table) .rows) over noRow)))
 
 abbrev μ-loop : tie.MeasureT-loop
 μ-loop table q over found₀ i₀ found i = 32 - i

@@ -9,6 +9,7 @@ use lib.ListN.{drop}
 use Rattle.server.specs.Layout.{tableOf}
 use Rattle.server.specs.Table.{noRow}
 use Rattle.server.specs.Lists.{any}
+use Rattle.server.specs.Sizes.{connectionCount, jobCount}
 use Rattle.plans.specs.Values.{valuesOf}
 use Rattle.steps.specs.Steps.{waits}
 use Rattle.steps.proofs.Sizes.{rows-long}
@@ -17,7 +18,7 @@ use Rattle.ending.proofs.some_wait.Statement.{statement}
 use Rattle.ending.proofs.some_wait.Tie as tie
 
 abbrev Inv-loop : tie.InvT-loop
-Inv-loop table q found₀ i₀ found i = (i ≤ 32) × (any (waits q) (valuesOf (tableOf 16 table) .rows) ≡ found || any (waits q) (drop i (valuesOf (tableOf 16 table) .rows)))
+Inv-loop table q found₀ i₀ found i = (i ≤ jobCount) × (any (waits q) (valuesOf (tableOf connectionCount table) .rows) ≡ found || any (waits q) (drop i (valuesOf (tableOf connectionCount table) .rows)))
 
 abbrev μ-loop : tie.MeasureT-loop
 μ-loop table q found₀ i₀ found i = 32 - i

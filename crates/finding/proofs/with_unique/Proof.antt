@@ -6,7 +6,8 @@ use native.Mathlib.Omega.{arith}
 use denote.Ref.{now}
 use lib.ListN.{drop}
 use Rattle.server.specs.Lists.{find, numbers}
-use Rattle.server.specs.Layout.{littleAt}
+use Rattle.server.specs.Sizes.{jobCount}
+use Rattle.server.specs.Layout.{littleAt, serialsAt}
 use Rattle.rows.proofs.Reading.{column-at}
 use Rattle.searching.proofs.Lowest.{upBy, lowest-start, number-here, number-on, number-none}
 use Rattle.finding.specs.Uniques.{liesFor}
@@ -16,7 +17,7 @@ use Rattle.finding.proofs.with_unique.Statement.{statement}
 use Rattle.finding.proofs.with_unique.Tie as tie
 
 abbrev Inv-loop : tie.InvT-loop
-Inv-loop table function unique serials place i₀ i = (i ≤ 32) × (find (liesFor table function place) (numbers 0 32) ≡ upBy i (find (liesFor table function place) (drop i (numbers 0 32))))
+Inv-loop table function unique serials place i₀ i = (i ≤ jobCount) × (find (liesFor table function place) (numbers 0 jobCount) ≡ upBy i (find (liesFor table function place) (drop i (numbers 0 jobCount))))
 
 abbrev μ-loop : tie.MeasureT-loop
 μ-loop table function unique serials place i₀ i = 32 - i
@@ -28,7 +29,7 @@ padded-unique-requires : tie.Need-padded-unique-requires Inv-loop μ-loop
 padded-unique-requires c κs = search needs
 
 loop-holds : tie.Need-loop-holds Inv-loop μ-loop
-loop-holds c = (omega arith, lowest-start (liesFor _ _ _) (numbers 0 32))
+loop-holds c = (omega arith, lowest-start (liesFor _ _ _) (numbers 0 jobCount))
 
 mul-has-unique : tie.Need-mul-has-unique Inv-loop μ-loop
 mul-has-unique c = search needs
@@ -40,7 +41,7 @@ has-unique-requires : tie.Need-has-unique-requires Inv-loop μ-loop
 has-unique-requires c κs =
     let l = c .before .before .loop in
     let s = c .before .before .before .before .before .before .before in
-    (s .pre .1, omega arith, column-at (λ k. littleAt 4 (now (s .args .table)) (68 + 4 * k)) 0 32 _ (l .i) (c .before .before .before .before .fours .ensures) (omega arith))
+    (s .pre .1, omega arith, column-at (λ k. littleAt 4 (now (s .args .table)) (serialsAt + 4 * k)) 0 32 _ (l .i) (c .before .before .before .before .fours .ensures) (omega arith))
 
 returns : tie.Need-returns Inv-loop μ-loop
 returns c =

@@ -5,6 +5,7 @@ use native.Mathlib.Omega.{arith}
 use denote.Ref.{now}
 use borrow.Author.Needs.{needs}
 use Rattle.server.specs.Lists.{all, numbers}
+use Rattle.server.specs.Layout.{namesAt}
 use Rattle.passes.proofs.Tests.{each-on, each-end}
 use Rattle.table_bytes.specs.Tests.{arePadded}
 use Rattle.image_check.specs.Padded.{lastOf32}
@@ -13,7 +14,7 @@ use Rattle.image_check.proofs.names_padded.Statement.{statement}
 use Rattle.image_check.proofs.names_padded.Tie as tie
 
 abbrev Inv-loop : tie.InvT-loop
-Inv-loop table last ok₀ i₀ ok i = (i ≤ 4) × ((last ≡ lastOf32) × (ok ≡ all (λ k. arePadded 32 4 table (548 + 128 * k)) (numbers 0 i)))
+Inv-loop table last ok₀ i₀ ok i = (i ≤ 4) × ((last ≡ lastOf32) × (ok ≡ all (λ k. arePadded 32 4 table (namesAt + 128 * k)) (numbers 0 i)))
 
 abbrev μ-loop : tie.MeasureT-loop
 μ-loop table last ok₀ i₀ ok i = 4 - i
@@ -39,12 +40,12 @@ loop-less c = search needs
 loop-again : tie.Need-loop-again Inv-loop μ-loop
 loop-again c = let l = c .before .before .before .loop in
     let a = c .before .before .before .before .before .args in
-    (omega arith, (l .inv .1 .0, each-on (λ k. arePadded 32 4 (now (a .table)) (548 + 128 * k)) 4 (l .i) (l .ok) _ (l .inv .1 .1) (c .four-padded .ensures)))
+    (omega arith, (l .inv .1 .0, each-on (λ k. arePadded 32 4 (now (a .table)) (namesAt + 128 * k)) 4 (l .i) (l .ok) _ (l .inv .1 .1) (c .four-padded .ensures)))
 
 returns : tie.Need-returns Inv-loop μ-loop
 returns c = let l = c .before .loop in
     let b = now (c .before .before .before .args .table) in
-    each-end (λ k. arePadded 32 4 b (548 + 128 * k)) 4 (l .i) (l .ok) (l .inv .1 .1) (omega arith) (omega arith) ∙ padded-runs 32 4 4 b 548
+    each-end (λ k. arePadded 32 4 b (namesAt + 128 * k)) 4 (l .i) (l .ok) (l .inv .1 .1) (omega arith) (omega arith) ∙ padded-runs 32 4 4 b namesAt
 
 pub names-padded-spec : {M : Type 1} → statement M
 names-padded-spec =

@@ -3,11 +3,12 @@ use borrow.Author.Needs.{needs}
 use Prim.Native.Nat.{_≤_, _-_}
 use Rattle.key_check.specs.Keys.{nameKey}
 use Rattle.passes.proofs.Arrays.{Written, written-more, written}
+use Rattle.server.specs.Sizes.{functionCount}
 use Rattle.key_check.proofs.name_keys.Statement.{statement}
 use Rattle.key_check.proofs.name_keys.Tie as tie
 
 abbrev Inv-loop : tie.InvT-loop
-Inv-loop table w₀ q₀ w q = (q ≤ 16) × Written 16 (nameKey table) q w
+Inv-loop table w₀ q₀ w q = (q ≤ functionCount) × Written 16 (nameKey table) q w
 
 abbrev μ-loop : tie.MeasureT-loop
 μ-loop table w₀ q₀ w q = 16 - q

@@ -3,11 +3,12 @@ use borrow.Author.Needs.{needs}
 use Prim.Native.Nat.{_≤_, _-_}
 use Rattle.key_check.specs.Keys.{uniqueKey}
 use Rattle.passes.proofs.Arrays.{Written, written-more, written}
+use Rattle.server.specs.Sizes.{jobCount}
 use Rattle.key_check.proofs.unique_keys.Statement.{statement}
 use Rattle.key_check.proofs.unique_keys.Tie as tie
 
 abbrev Inv-loop : tie.InvT-loop
-Inv-loop table w₀ p₀ w p = (p ≤ 32) × Written 32 (uniqueKey table) p w
+Inv-loop table w₀ p₀ w p = (p ≤ jobCount) × Written 32 (uniqueKey table) p w
 
 abbrev μ-loop : tie.MeasureT-loop
 μ-loop table w₀ p₀ w p = 32 - p

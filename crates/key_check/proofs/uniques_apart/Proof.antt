@@ -5,13 +5,14 @@ use mathlib.Core.Path.{_≡_, refl}
 use native.Mathlib.Omega.{arith}
 use denote.Ref.{now}
 use Rattle.server.specs.Lists.{all, numbers}
+use Rattle.server.specs.Sizes.{jobCount}
 use Rattle.passes.proofs.Tests.{each-on, each-end}
 use Rattle.key_check.specs.Keys.{differs}
 use Rattle.key_check.proofs.uniques_apart.Statement.{statement}
 use Rattle.key_check.proofs.uniques_apart.Tie as tie
 
 abbrev Inv-loop : tie.InvT-loop
-Inv-loop w ok₀ d₀ ok d = (d ≤ 16) × (ok ≡ all (λ k. all (differs w (k + 1)) (numbers 0 32)) (numbers 0 d))
+Inv-loop w ok₀ d₀ ok d = (d ≤ 16) × (ok ≡ all (λ k. all (differs w (k + 1)) (numbers 0 jobCount)) (numbers 0 d))
 
 abbrev μ-loop : tie.MeasureT-loop
 μ-loop w ok₀ d₀ ok d = 16 - d
@@ -35,7 +36,7 @@ loop-again : tie.Need-loop-again Inv-loop μ-loop
 loop-again c =
     let l = c .before .before .loop in
     let w = now (c .before .before .before .args .w) in
-    (omega arith, each-on (λ k. all (differs w (k + 1)) (numbers 0 32)) 16 (l .d) (l .ok) _ (l .inv .1) (c .uniques-apart-by .ensures))
+    (omega arith, each-on (λ k. all (differs w (k + 1)) (numbers 0 jobCount)) 16 (l .d) (l .ok) _ (l .inv .1) (c .uniques-apart-by .ensures))
 
 returns : tie.Need-returns Inv-loop μ-loop
 returns c = search (needs, each-end)

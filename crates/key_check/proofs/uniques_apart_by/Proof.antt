@@ -4,13 +4,14 @@ use Prim.Native.Nat.{_≤_, _-_}
 use mathlib.Core.Path.{_≡_, refl}
 use native.Mathlib.Omega.{arith}
 use Rattle.server.specs.Lists.{all, numbers}
+use Rattle.server.specs.Sizes.{jobCount}
 use Rattle.passes.proofs.Tests.{each-on, each-end}
 use Rattle.key_check.specs.Keys.{differs}
 use Rattle.key_check.proofs.uniques_apart_by.Statement.{statement}
 use Rattle.key_check.proofs.uniques_apart_by.Tie as tie
 
 abbrev Inv-loop : tie.InvT-loop
-Inv-loop w d ok₀ i₀ ok i = (i ≤ 32) × (ok ≡ all (differs w d) (numbers 0 i))
+Inv-loop w d ok₀ i₀ ok i = (i ≤ jobCount) × (ok ≡ all (differs w d) (numbers 0 i))
 
 abbrev μ-loop : tie.MeasureT-loop
 μ-loop w d ok₀ i₀ ok i = 32 - i

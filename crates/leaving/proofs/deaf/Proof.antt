@@ -1,4 +1,5 @@
--- `leaving::deaf` meets its contract, from what its callee ensures. Assumes nothing.
+-- `leaving::deaf` meets its contract, from what its callees ensure. Assumes nothing.
+use mathlib.Core.Path.{_∙_}
 use borrow.Author.Needs.{needs}
 use Rattle.leaving.proofs.deaf.Statement.{statement}
 use Rattle.leaving.proofs.deaf.Tie as tie
@@ -6,8 +7,11 @@ use Rattle.leaving.proofs.deaf.Tie as tie
 remove-requires : tie.Need-remove-requires
 remove-requires c κs = search needs
 
+with-listeners-requires : tie.Need-with-listeners-requires
+with-listeners-requires c κs = search needs
+
 returns : tie.Need-returns
-returns c = rw (c .remove .ensures)
+returns c = c .with-listeners .ensures ∙ rw (c .before .remove .ensures)
 
 pub deaf-spec : {M : Type 1} → statement M
-deaf-spec = tie.close (tie.spec remove-requires returns)
+deaf-spec = tie.close (tie.spec remove-requires with-listeners-requires returns)

@@ -6,13 +6,14 @@ use native.Mathlib.Omega.{arith}
 use borrow.Author.Needs.{needs}
 use lib.ListN.{length, take, length-set, length-map, List·getD-map}
 use Rattle.settling.proofs.Turns.{fill-turn, fill-end}
+use Rattle.server.specs.Sizes.{jobCount}
 use Rattle.server.specs.Table.{noRow}
 use Rattle.plans.specs.Plans.{leftRow}
 use Rattle.leaving.proofs.left_rows.Statement.{statement}
 use Rattle.leaving.proofs.left_rows.Tie as tie
 
 abbrev Inv-loop : tie.InvT-loop
-Inv-loop c rows next₀ i₀ next i = (i ≤ 32) × (length next ≡ 32) × (take i next ≡ take i (map (leftRow c) rows))
+Inv-loop c rows next₀ i₀ next i = (i ≤ jobCount) × (length next ≡ 32) × (take i next ≡ take i (map (leftRow c) rows))
 
 abbrev μ-loop : tie.MeasureT-loop
 μ-loop c rows next₀ i₀ next i = 32 - i

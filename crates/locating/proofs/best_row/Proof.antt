@@ -8,11 +8,12 @@ use denote.Ref.{now}
 use Rattle.locating.specs.Queue.{BestOf}
 use Rattle.locating.proofs.Walk.{best-start, best-end, unable-nowhere}
 use borrow.Author.Needs.{needs}
+use Rattle.server.specs.Sizes.{jobCount}
 use Rattle.locating.proofs.best_row.Statement.{statement}
 use Rattle.locating.proofs.best_row.Tie as tie
 
 abbrev Inv-loop : tie.InvT-loop
-Inv-loop table c v₀ p₀ v p = (p ≤ 32) × (p % 8 ≡ 0) × BestOf table c p v
+Inv-loop table c v₀ p₀ v p = (p ≤ jobCount) × (p % 8 ≡ 0) × BestOf table c p v
 
 abbrev μ-loop : tie.MeasureT-loop
 μ-loop table c v₀ p₀ v p = 32 - p

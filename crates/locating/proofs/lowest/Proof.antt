@@ -10,6 +10,7 @@ use denote.Ref.{now}
 use lib.ListN.{getD, drop}
 use lib.Dec.{eqb}
 use Rattle.server.specs.Lists.{find, numbers}
+use Rattle.server.specs.Sizes.{jobCount}
 use Rattle.searching.proofs.Lowest.{upBy, lowest-start, number-here, number-on, number-none}
 use borrow.Author.Needs.{needs}
 use Rattle.locating.proofs.lowest.Statement.{statement}
@@ -20,13 +21,13 @@ abbrev stands : List ℕ → ℕ → ℕ → Bool
 stands column x k = eqb (getD column k 0) x
 
 abbrev Inv-loop : tie.InvT-loop
-Inv-loop column x i₀ i = (i ≤ 32) × (find (stands column x) (numbers 0 32) ≡ upBy i (find (stands column x) (drop i (numbers 0 32))))
+Inv-loop column x i₀ i = (i ≤ jobCount) × (find (stands column x) (numbers 0 jobCount) ≡ upBy i (find (stands column x) (drop i (numbers 0 jobCount))))
 
 abbrev μ-loop : tie.MeasureT-loop
 μ-loop column x i₀ i = 32 - i
 
 loop-holds : tie.Need-loop-holds Inv-loop μ-loop
-loop-holds c = (omega arith, lowest-start (stands (now (c .args .column)) (c .args .x)) (numbers 0 32))
+loop-holds c = (omega arith, lowest-start (stands (now (c .args .column)) (c .args .x)) (numbers 0 jobCount))
 
 mul-if1 : tie.Need-mul-if1 Inv-loop μ-loop
 mul-if1 c = search needs

@@ -3,6 +3,7 @@ use Prim.Native.Nat.{_≤_, _+_, _-_}
 use mathlib.Core.Path.{_≡_, refl}
 use native.Mathlib.Omega.{arith}
 use Rattle.server.specs.Lists.{all, numbers}
+use Rattle.server.specs.Sizes.{jobCount}
 use Rattle.passes.proofs.Tests.{each-on, each-end}
 use Rattle.number_check.specs.Numbers.{apartAt}
 use borrow.Author.Needs.{needs}
@@ -10,7 +11,7 @@ use Rattle.number_check.proofs.all_apart.Statement.{statement}
 use Rattle.number_check.proofs.all_apart.Tie as tie
 
 abbrev Inv-loop : tie.InvT-loop
-Inv-loop w ok₀ d₀ ok d = (d ≤ 16) × (ok ≡ all (λ d. all (apartAt w (d + 1)) (numbers 0 32)) (numbers 0 d))
+Inv-loop w ok₀ d₀ ok d = (d ≤ 16) × (ok ≡ all (λ d. all (apartAt w (d + 1)) (numbers 0 jobCount)) (numbers 0 d))
 
 abbrev μ-loop : tie.MeasureT-loop
 μ-loop w ok₀ d₀ ok d = 16 - d

@@ -5,11 +5,12 @@ use native.Mathlib.Omega.{arith}
 use Rattle.number_check.specs.Surveyed.{Surveyed}
 use Rattle.number_check.proofs.Walk.{none-surveyed}
 use borrow.Author.Needs.{needs}
+use Rattle.server.specs.Sizes.{jobCount}
 use Rattle.number_check.proofs.all_surveyed.Statement.{statement}
 use Rattle.number_check.proofs.all_surveyed.Tie as tie
 
 abbrev Inv-loop : tie.InvT-loop
-Inv-loop table v₀ p₀ v p = (p ≤ 32) × (p % 8 ≡ 0) × Surveyed table p v
+Inv-loop table v₀ p₀ v p = (p ≤ jobCount) × (p % 8 ≡ 0) × Surveyed table p v
 
 abbrev μ-loop : tie.MeasureT-loop
 μ-loop table v₀ p₀ v p = 32 - p

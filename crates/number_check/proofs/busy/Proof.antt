@@ -10,11 +10,12 @@ use Rattle.passes.proofs.Unions.{joins-on, joins-end}
 use Rattle.passes.specs.Unions.{Joined}
 use Rattle.number_check.specs.Numbers.{ableIf}
 use borrow.Author.Needs.{needs}
+use Rattle.server.specs.Sizes.{functionCount}
 use Rattle.number_check.proofs.busy.Statement.{statement}
 use Rattle.number_check.proofs.busy.Tie as tie
 
 abbrev Inv-loop : tie.InvT-loop
-Inv-loop table queued s₀ q₀ s q = (q ≤ 16) × Joined (ableIf table queued) q s
+Inv-loop table queued s₀ q₀ s q = (q ≤ functionCount) × Joined (ableIf table queued) q s
 
 abbrev μ-loop : tie.MeasureT-loop
 μ-loop table queued s₀ q₀ s q = 16 - q

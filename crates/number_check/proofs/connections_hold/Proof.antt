@@ -2,10 +2,11 @@
 use lib.Dec.{ltb}
 use mathlib.Core.Bool.{Bool, _&&_}
 use denote.Ref.{now}
-use Prim.Native.Nat.{_≤_, _-_}
+use Prim.Native.Nat.{_≤_, _-_, _^_}
 use mathlib.Core.Path.{_≡_, refl, ap}
 use native.Mathlib.Omega.{arith}
 use Rattle.server.specs.Lists.{all, numbers}
+use Rattle.server.specs.Sizes.{connectionCount}
 use Rattle.passes.proofs.Tests.{each-on, each-end}
 use Rattle.number_check.specs.Numbers.{connectionHolds}
 use borrow.Author.Needs.{needs}
@@ -13,7 +14,7 @@ use Rattle.number_check.proofs.connections_hold.Statement.{statement}
 use Rattle.number_check.proofs.connections_hold.Tie as tie
 
 abbrev Inv-loop : tie.InvT-loop
-Inv-loop table used busy ok₀ c₀ ok c = (c ≤ 16) × (ok ≡ all (connectionHolds table used busy) (numbers 0 c))
+Inv-loop table used busy ok₀ c₀ ok c = (c ≤ connectionCount) × (ok ≡ all (connectionHolds table used busy) (numbers 0 c))
 
 abbrev μ-loop : tie.MeasureT-loop
 μ-loop table used busy ok₀ c₀ ok c = 16 - c
@@ -59,7 +60,7 @@ loop-again c = let l = c .before .before .before .before .before .before .loop i
 returns : tie.Need-returns Inv-loop μ-loop
 returns c = let l = c .before .loop in
     let a = c .before .before .before .args in
-    ap (λ (t : Bool). ltb (a .used) 65536 && t) (each-end (connectionHolds (now (a .table)) (a .used) (a .busy)) 16 (l .c) (l .ok) (l .inv .1) (l .inv .0) (omega arith))
+    ap (λ (t : Bool). ltb (a .used) (2 ^ connectionCount) && t) (each-end (connectionHolds (now (a .table)) (a .used) (a .busy)) 16 (l .c) (l .ok) (l .inv .1) (l .inv .0) (omega arith))
 
 pub connections-hold-spec : {M : Type 1} → statement M
 connections-hold-spec =

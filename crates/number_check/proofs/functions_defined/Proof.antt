@@ -4,6 +4,7 @@ use Prim.Native.Nat.{_≤_, _-_}
 use mathlib.Core.Path.{_≡_, refl}
 use native.Mathlib.Omega.{arith}
 use Rattle.server.specs.Lists.{all, numbers}
+use Rattle.server.specs.Sizes.{functionCount}
 use Rattle.passes.proofs.Tests.{each-on, each-end}
 use Rattle.number_check.specs.Numbers.{isDefined}
 use borrow.Author.Needs.{needs}
@@ -11,7 +12,7 @@ use Rattle.number_check.proofs.functions_defined.Statement.{statement}
 use Rattle.number_check.proofs.functions_defined.Tie as tie
 
 abbrev Inv-loop : tie.InvT-loop
-Inv-loop table named ok₀ q₀ ok q = (q ≤ 16) × (ok ≡ all (isDefined table named) (numbers 0 q))
+Inv-loop table named ok₀ q₀ ok q = (q ≤ functionCount) × (ok ≡ all (isDefined table named) (numbers 0 q))
 
 abbrev μ-loop : tie.MeasureT-loop
 μ-loop table named ok₀ q₀ ok q = 16 - q

@@ -1,6 +1,7 @@
 -- `number_check::numbers_hold` meets its contract. Rule after rule; where one fails, so do all. Assumes nothing.
 use mathlib.Core.Bool.{_&&_}
 use denote.Ref.{now}
+use Rattle.server.specs.Sizes.{connectionCount}
 use Rattle.server.specs.Layout.{tableOf}
 use Rattle.server.specs.Rules.{functionsAsDefined, serialsBelow, serialsDistinct}
 use mathlib.Core.Path.{sym, _∙_}
@@ -26,12 +27,12 @@ returns c = and-same (sym (c .before .before .before .if1 .taken) ∙ c .before 
 returns-2 : tie.Need-returns-2
 unfolding numberRules
 returns-2 c = let b = now (c .before .before .before .before .before .args .table) in
-    and-same (sym (c .before .before .if1 .taken) ∙ c .before .before .before .all-surveyed .ensures .clear) (and-fails (connectionRules b && functionsAsDefined (tableOf 16 b)) (sym (c .if2 .left) ∙ c .before .serials-hold .ensures))
+    and-same (sym (c .before .before .if1 .taken) ∙ c .before .before .before .all-surveyed .ensures .clear) (and-fails (connectionRules b && functionsAsDefined (tableOf connectionCount b)) (sym (c .if2 .left) ∙ c .before .serials-hold .ensures))
 
 returns-3 : tie.Need-returns-3
 unfolding numberRules
 returns-3 c = let b = now (c .before .before .before .args .table) in
-    let t = tableOf 16 b in
+    let t = tableOf connectionCount b in
     and-fails ((serialsBelow t && serialsDistinct t) && (connectionRules b && functionsAsDefined t)) (sym (c .if1 .left) ∙ c .before .all-surveyed .ensures .clear)
 
 pub numbers-hold-spec : {M : Type 1} → statement M

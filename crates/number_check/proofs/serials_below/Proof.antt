@@ -5,6 +5,7 @@ use Prim.Native.Nat.{_≤_, _-_, ℕ}
 use mathlib.Core.Path.{_≡_, refl, ap}
 use native.Mathlib.Omega.{arith}
 use Rattle.server.specs.Lists.{all, numbers}
+use Rattle.server.specs.Sizes.{jobCount}
 use Rattle.passes.proofs.Tests.{each-on, each-end}
 use Rattle.number_check.specs.Numbers.{serialBelow}
 use borrow.Author.Needs.{needs}
@@ -12,7 +13,7 @@ use Rattle.number_check.proofs.serials_below.Statement.{statement}
 use Rattle.number_check.proofs.serials_below.Tie as tie
 
 abbrev Inv-loop : tie.InvT-loop
-Inv-loop table last ok₀ i₀ ok i = (i ≤ 32) × (ok ≡ all (serialBelow table last) (numbers 0 i))
+Inv-loop table last ok₀ i₀ ok i = (i ≤ jobCount) × (ok ≡ all (serialBelow table last) (numbers 0 i))
 
 abbrev μ-loop : tie.MeasureT-loop
 μ-loop table last ok₀ i₀ ok i = 32 - i

@@ -1,6 +1,7 @@
 -- `number_check::serials_hold` meets its contract. Both rules; where the first fails, so do both. Assumes nothing.
 use mathlib.Core.Path.{sym, _∙_}
 use denote.Ref.{now}
+use Rattle.server.specs.Sizes.{connectionCount}
 use Rattle.server.specs.Layout.{tableOf}
 use Rattle.server.specs.Rules.{serialsDistinct}
 use Rattle.passes.proofs.Tests.{and-same, and-fails}
@@ -26,7 +27,7 @@ returns c = let s = c .before .before .before .before .before in
 returns-2 : tie.Need-returns-2
 returns-2 c = let s = c .before .before .before .before in
     let b = now (s .args .table) in
-    and-fails (serialsDistinct (tableOf 16 b)) (sym (c .if1 .left) ∙ c .before .serials-below .ensures ∙ below-is b _ (c .before .before .number4 .ensures))
+    and-fails (serialsDistinct (tableOf connectionCount b)) (sym (c .if1 .left) ∙ c .before .serials-below .ensures ∙ below-is b _ (c .before .before .number4 .ensures))
 
 pub serials-hold-spec : {M : Type 1} → statement M
 serials-hold-spec =

@@ -2,12 +2,13 @@
 use Prim.Native.Nat.{_≤_, _-_}
 use borrow.Author.Needs.{needs}
 use Rattle.passes.proofs.Arrays.{Written, written-more, written}
+use Rattle.server.specs.Sizes.{jobCount}
 use Rattle.number_check.specs.Numbers.{serialIn}
 use Rattle.number_check.proofs.serials_twice.Statement.{statement}
 use Rattle.number_check.proofs.serials_twice.Tie as tie
 
 abbrev Inv-loop : tie.InvT-loop
-Inv-loop table w₀ i₀ w i = (i ≤ 32) × Written 32 (serialIn table) i w
+Inv-loop table w₀ i₀ w i = (i ≤ jobCount) × Written 32 (serialIn table) i w
 
 abbrev μ-loop : tie.MeasureT-loop
 μ-loop table w₀ i₀ w i = 32 - i

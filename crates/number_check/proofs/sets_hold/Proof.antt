@@ -4,6 +4,7 @@ use mathlib.Core.Path.{sym, ap, _∙_}
 use native.Mathlib.Omega.{arith}
 use denote.Ref.{now}
 use Rattle.sets.specs.Sets.{union}
+use Rattle.server.specs.Sizes.{connectionCount}
 use Rattle.server.specs.Layout.{tableOf}
 use Rattle.server.specs.Rules.{functionsAsDefined}
 use Rattle.passes.proofs.Tests.{and-same, and-fails}
@@ -55,7 +56,7 @@ returns-2 c = let s = c .before .before .before .before .before .before .before 
     let b = now (s .args .table) in
     let known = c .before .before .before .before .before .before .before .shared-slice-known .given in
     let fits : c .before .before .before .union2 .result < 4294967296 = omega arith in
-    and-fails (functionsAsDefined (tableOf 16 b))
+    and-fails (functionsAsDefined (tableOf connectionCount b))
     (sym (c .if1 .left) ∙ c .before .connections-hold .ensures
     ∙ connections-are b (s .pre .0) (λ k. omega (arith, known k)) (s .pre .1) (s .pre .2) (s .args .v) (s .pre .3) _ _ _ _
     (c .before .before .before .before .before .before .joined .ensures) (c .before .before .before .before .before .joined2 .ensures)

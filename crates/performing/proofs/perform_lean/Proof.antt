@@ -1,6 +1,7 @@
 -- `performing::perform_lean` meets its contract: the order's packets and the NOOPs of the ending, from the table and the workloads before
 -- the event; then the workloads and the table that the step leaves. Assumes nothing.
 use borrow.Author.Needs.{needs}
+use Rattle.server.specs.Sizes.{connectionCount}
 use Rattle.server.specs.Layout.{tableOf}
 use Rattle.plans.specs.Values.{valuesOf}
 use Rattle.plans.specs.declared.Values.{Values}
@@ -34,7 +35,7 @@ of-step-requires c κs = search needs
 send-order-requires : tie.Need-send-order-requires
 send-order-requires c κs =
     let s = c .before .before .before .before .before .before .before .before .before .before .before .before .before .before .before in
-    let v : Values = stepped (s .args .brief .step) (valuesOf (tableOf 16 (s .args .table .now))) in
+    let v : Values = stepped (s .args .brief .step) (valuesOf (tableOf connectionCount (s .args .table .now))) in
     let a = c .before .before .before .before .before .before .before .before .before .before .argument .ensures in
     (s .pre .0, s .pre .1, s .pre .2, rw a (s .pre .4 .orderly), rw a (order-room _ _ _ _ _ _ _ v _ (s .pre .4 .room)))
 
@@ -42,7 +43,7 @@ wake-requires : tie.Need-wake-requires
 wake-requires c κs =
     let s = c .before .before .before .before .before .before .before .before .before .before .before .before .before .before .before .before .before .before .before in
     let g = s .args in
-    let v : Values = stepped (g .brief .step) (valuesOf (tableOf 16 (g .table .now))) in
+    let v : Values = stepped (g .brief .step) (valuesOf (tableOf connectionCount (g .table .now))) in
     let sent = rw (c .before .before .before .before .before .before .before .before .before .before .before .before .before .before .argument .ensures) at (c .before .before .before .send-order .ensures) in
     noop-room _ _ _ _ _ _ _ v _ (lean-wakes (g .brief) (g .table .now) (g .workloads .now) (g .packet .now) (g .c) (g .kind) (g .ends) (s .pre .7) _ (c .before .before .before .before .before .before .before .of-step .ensures)) _ _ _ (sent .0) (sent .1) (s .pre .4 .room)
 
@@ -72,7 +73,7 @@ returns : tie.Need-returns
 returns c =
     let s = c .before .before .before .before .before .before .before .before .before .before .before .before .before .before .before .before .before .before .before .before .before .before .before .before .before .before .before .before .before .before .before in
     let g = s .args in
-    let v : Values = stepped (g .brief .step) (valuesOf (tableOf 16 (g .table .now))) in
+    let v : Values = stepped (g .brief .step) (valuesOf (tableOf connectionCount (g .table .now))) in
     let a = c .before .before .before .before .before .before .before .before .before .before .before .before .before .before .before .before .before .before .before .before .before .before .before .before .before .before .argument .ensures in
     let b = c .before .before .before .before .before .before .before .before .before .before .before .before .before .before .before .before .before .before .before .before .before .before .before .before .before .argument2 .ensures in
     let d = c .before .before .before .before .before .before .before .before .before .before .before .before .before .before .before .before .before .before .before .before .before .before .before .before .argument3 .ensures in

@@ -50,7 +50,7 @@ carry-requires c κs =
     let d = c .before .before .before .before .before .before .before .before .before .before .before .before .before .before .before .before .before .before .before .before .argument3 .ensures in
     let v = c .before .before .before .before .before .before .before .before .before .before .before .before .before .stepped .ensures in
     let r = c .before .before .before .before .before .before .before .before .before .before .before .before .before .before .before .read-values .ensures in
-    (p .0, p .1, rw (a, b, d) (p .4 .fitting), rw (v, r) (p .4 .sized), rw (a, b, d, v, r) (p .4 .settles))
+    (p .0, p .1, rw (a, b, d) (p .4 .fitting), rw (v, r) (p .4 .sized))
 
 same-length : tie.Need-same-length
 same-length c = search needs

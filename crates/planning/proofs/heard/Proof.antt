@@ -5,6 +5,7 @@ use mathlib.Core.Path.{_≡_, refl, _∙_}
 use native.Mathlib.Omega.{arith}
 use denote.Ref.{now}
 use lib.ListN.{drop}
+use Rattle.server.specs.Sizes.{connectionCount}
 use Rattle.server.specs.Layout.{tableOf}
 use Rattle.plans.specs.Values.{valuesOf}
 use Rattle.plans.specs.Plans.{heard, heardFrom}
@@ -14,7 +15,7 @@ use Rattle.planning.proofs.heard.Statement.{statement}
 use Rattle.planning.proofs.heard.Tie as tie
 
 abbrev Inv-loop : tie.InvT-loop
-Inv-loop table listeners s₀ i₀ s i = (i ≤ 16) × (heard (valuesOf (tableOf 16 table) .connections) listeners ≡ heardFrom i (drop i (valuesOf (tableOf 16 table) .connections)) s)
+Inv-loop table listeners s₀ i₀ s i = (i ≤ 16) × (heard (valuesOf (tableOf connectionCount table) .connections) listeners ≡ heardFrom i (drop i (valuesOf (tableOf connectionCount table) .connections)) s)
 
 abbrev μ-loop : tie.MeasureT-loop
 μ-loop table listeners s₀ i₀ s i = 16 - i
@@ -40,14 +41,14 @@ loop-again c =
     let l = c .before .before .before .loop in
     let a = c .before .before .before .before .before .args in
     let b = now (a .table) in
-    (omega arith, heard-turn (valuesOf (tableOf 16 b) .connections) (a .listeners) (l .s) (l .i) (l .inv .1) _ (omega (arith, connections-long b)) (c .kept .ensures ∙ rw (c .before .connection-at .ensures)))
+    (omega arith, heard-turn (valuesOf (tableOf connectionCount b) .connections) (a .listeners) (l .s) (l .i) (l .inv .1) _ (omega (arith, connections-long b)) (c .kept .ensures ∙ rw (c .before .connection-at .ensures)))
 
 returns : tie.Need-returns Inv-loop μ-loop
 returns c =
     let l = c .before .loop in
     let a = c .before .before .before .args in
     let b = now (a .table) in
-    heard-end (valuesOf (tableOf 16 b) .connections) (a .listeners) (l .s) (l .i) (l .inv .1) (omega (arith, connections-long b))
+    heard-end (valuesOf (tableOf connectionCount b) .connections) (a .listeners) (l .s) (l .i) (l .inv .1) (omega (arith, connections-long b))
 
 pub heard-spec : {M : Type 1} → statement M
 heard-spec =

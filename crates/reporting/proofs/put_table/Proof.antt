@@ -7,6 +7,7 @@ use Rattle.standing.specs.Standing.{sleepersText}
 use Rattle.octets.proofs.Runs.{laid-as, laid-none, laid-then, room-as, room-first, room-then}
 use Rattle.reporting.proofs.Laid.{no-table, table-stands, unseen}
 use borrow.Author.Needs.{needs}
+use Rattle.server.specs.Sizes.{connectionCount}
 use Rattle.reporting.proofs.put_table.Statement.{statement}
 use Rattle.reporting.proofs.put_table.Tie as tie
 
@@ -20,7 +21,7 @@ read-values-requires : tie.Need-read-values-requires
 read-values-requires c κs = c .before .before .before .before .before .pre .2 (c .before .if1 .left) (c .if2 .left)
 
 put-sleepers-requires : tie.Need-put-sleepers-requires
-put-sleepers-requires c κs = room-first _ (sleepersText 16 (c .before .before .before .read-values .result .connections)) (jobsAfter (eventOf (c .before .before .before .before .before .before .before .before .before .args .frame) (now (c .before .before .before .before .before .before .before .before .before .args .bytes))) (packetsIn (now (c .before .before .before .before .before .before .before .before .before .args .sent))) (c .before .before .before .before .before .before .before .before .before .args .number) (c .before .before .before .read-values .result .rows)) _ (room-as _ _ (table-stands _ _ _ _ (c .before .before .before .before .before .if1 .left) (c .before .before .before .before .if2 .left) _ (c .before .before .before .read-values .ensures)) _ _ (c .before .before .before .before .before .before .before .before .before .pre .3))
+put-sleepers-requires c κs = room-first _ (sleepersText connectionCount (c .before .before .before .read-values .result .connections)) (jobsAfter (eventOf (c .before .before .before .before .before .before .before .before .before .args .frame) (now (c .before .before .before .before .before .before .before .before .before .args .bytes))) (packetsIn (now (c .before .before .before .before .before .before .before .before .before .args .sent))) (c .before .before .before .before .before .before .before .before .before .args .number) (c .before .before .before .read-values .result .rows)) _ (room-as _ _ (table-stands _ _ _ _ (c .before .before .before .before .before .if1 .left) (c .before .before .before .before .if2 .left) _ (c .before .before .before .read-values .ensures)) _ _ (c .before .before .before .before .before .before .before .before .before .pre .3))
 
 put-jobs-requires : tie.Need-put-jobs-requires
 put-jobs-requires c κs =

@@ -4,13 +4,14 @@ use mathlib.Core.Path.{_≡_, refl}
 use native.Mathlib.Omega.{arith}
 use borrow.Author.Needs.{needs}
 use Rattle.server.specs.Lists.{all, numbers}
+use Rattle.server.specs.Sizes.{jobCount}
 use Rattle.passes.proofs.Tests.{each-on, each-end}
 use Rattle.row_check.specs.Rows.{bytesInRange}
 use Rattle.row_check.proofs.bytes_in_range.Statement.{statement}
 use Rattle.row_check.proofs.bytes_in_range.Tie as tie
 
 abbrev Inv-loop : tie.InvT-loop
-Inv-loop table ok₀ i₀ ok i = (i ≤ 32) × (ok ≡ all (bytesInRange table) (numbers 0 i))
+Inv-loop table ok₀ i₀ ok i = (i ≤ jobCount) × (ok ≡ all (bytesInRange table) (numbers 0 i))
 
 abbrev μ-loop : tie.MeasureT-loop
 μ-loop table ok₀ i₀ ok i = 32 - i

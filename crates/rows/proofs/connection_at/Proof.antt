@@ -4,8 +4,8 @@ use borrow.Author.Needs.{needs}
 use Rattle.rows.proofs.connection_at.Statement.{statement}
 use Rattle.rows.proofs.connection_at.Tie as tie
 
-no-connection-requires : tie.Need-no-connection-requires
-no-connection-requires c κs = search needs
+closed-requires : tie.Need-closed-requires
+closed-requires c κs = search needs
 
 returns : tie.Need-returns
 returns c = search (needs, connection-beyond)
@@ -18,4 +18,4 @@ returns-2 c = search (needs, connection-inside)
 
 pub connection-at-spec : {M : Type 1} → statement M
 connection-at-spec =
-    tie.close (tie.spec no-connection-requires returns read-connection-requires returns-2)
+    tie.close (tie.spec closed-requires returns read-connection-requires returns-2)

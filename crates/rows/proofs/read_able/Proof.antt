@@ -5,13 +5,13 @@ use mathlib.Core.List.{map}
 use borrow.Author.Needs.{needs}
 use lib.ListN.{length, take}
 use Rattle.server.specs.Lists.{numbers}
-use Rattle.server.specs.Layout.{littleAt}
+use Rattle.server.specs.Layout.{littleAt, ableAt}
 use Rattle.rows.proofs.Reading.{fill-more, able-read}
 use Rattle.rows.proofs.read_able.Statement.{statement}
 use Rattle.rows.proofs.read_able.Tie as tie
 
 abbrev Inv-loop : tie.InvT-loop
-Inv-loop table able₀ i₀ able i = (i ≤ 16) × (length able ≡ 16) × (take i able ≡ map (λ q. littleAt 4 table (4 + 4 * q)) (numbers 0 i))
+Inv-loop table able₀ i₀ able i = (i ≤ 16) × (length able ≡ 16) × (take i able ≡ map (λ q. littleAt 4 table (ableAt + 4 * q)) (numbers 0 i))
 
 abbrev μ-loop : tie.MeasureT-loop
 μ-loop table able₀ i₀ able i = 16 - i

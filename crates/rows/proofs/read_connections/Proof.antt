@@ -5,6 +5,7 @@ use mathlib.Core.Path.{_≡_}
 use mathlib.Core.List.{map}
 use lib.ListN.{length, take}
 use Rattle.server.specs.Lists.{numbers}
+use Rattle.server.specs.Sizes.{connectionCount}
 use Rattle.server.specs.Layout.{connectionIn}
 use Rattle.rows.proofs.Reading.{fill-more, connections-read}
 use borrow.Author.Needs.{needs}
@@ -12,13 +13,13 @@ use Rattle.rows.proofs.read_connections.Statement.{statement}
 use Rattle.rows.proofs.read_connections.Tie as tie
 
 abbrev Inv-loop : tie.InvT-loop
-Inv-loop table connections₀ i₀ connections i = (i ≤ 16) × (length connections ≡ 16) × (take i connections ≡ map (connectionIn 16 table) (numbers 0 i))
+Inv-loop table connections₀ i₀ connections i = (i ≤ 16) × (length connections ≡ 16) × (take i connections ≡ map (connectionIn connectionCount table) (numbers 0 i))
 
 abbrev μ-loop : tie.MeasureT-loop
 μ-loop table connections₀ i₀ connections i = 16 - i
 
-no-connection-requires : tie.Need-no-connection-requires Inv-loop μ-loop
-no-connection-requires c κs = search needs
+closed-requires : tie.Need-closed-requires Inv-loop μ-loop
+closed-requires c κs = search needs
 
 loop-holds : tie.Need-loop-holds Inv-loop μ-loop
 loop-holds c = search needs
@@ -50,7 +51,7 @@ read-connections-spec =
     (tie.spec
     Inv-loop
     μ-loop
-    no-connection-requires
+    closed-requires
     loop-holds
     read-connection-requires
     mul-connections

@@ -5,13 +5,14 @@ use mathlib.Core.List.{map}
 use borrow.Author.Needs.{needs}
 use lib.ListN.{length, take}
 use Rattle.server.specs.Lists.{numbers}
+use Rattle.server.specs.Sizes.{jobCount, connectionCount}
 use Rattle.server.specs.Layout.{rowIn}
 use Rattle.rows.proofs.Reading.{fill-more, rows-read}
 use Rattle.rows.proofs.read_rows.Statement.{statement}
 use Rattle.rows.proofs.read_rows.Tie as tie
 
 abbrev Inv-loop : tie.InvT-loop
-Inv-loop table rows₀ i₀ rows i = (i ≤ 32) × (length rows ≡ 32) × (take i rows ≡ map (rowIn table) (numbers 0 i))
+Inv-loop table rows₀ i₀ rows i = (i ≤ jobCount) × (length rows ≡ 32) × (take i rows ≡ map (rowIn connectionCount table) (numbers 0 i))
 
 abbrev μ-loop : tie.MeasureT-loop
 μ-loop table rows₀ i₀ rows i = 32 - i

@@ -9,6 +9,7 @@ use lib.ListN.{drop}
 use lib.Dec.{eqb}
 use Rattle.server.specs.declared.JobRow.{JobRow}
 use Rattle.server.specs.Lists.{find}
+use Rattle.server.specs.Sizes.{jobCount}
 use Rattle.server.specs.Table.{noRow, live}
 use Rattle.plans.specs.Values.{serialRow}
 use Rattle.searching.proofs.Lowest.{upBy, lowest-start, lowest-here, lowest-on, lowest-none}
@@ -19,7 +20,7 @@ abbrev numbered : ℕ → JobRow → Bool
 numbered serial r = live r && eqb (r .serial) serial
 
 abbrev Inv-loop : tie.InvT-loop
-Inv-loop serial rows i₀ i = (i ≤ 32) × (find (numbered serial) rows ≡ upBy i (find (numbered serial) (drop i rows)))
+Inv-loop serial rows i₀ i = (i ≤ jobCount) × (find (numbered serial) rows ≡ upBy i (find (numbered serial) (drop i rows)))
 
 abbrev μ-loop : tie.MeasureT-loop
 μ-loop serial rows i₀ i = 32 - i

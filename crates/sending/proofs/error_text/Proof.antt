@@ -1,17 +1,10 @@
 -- `sending::error_text` meets its contract: the table has each text in nine bytes. Assumes nothing.
-use Prim.Native.Nat.{_-_}
 use mathlib.Core.Path.{refl}
 use native.Mathlib.Omega.{arith}
 use Rattle.sending.proofs.Answers.{text-at}
 use borrow.Author.Needs.{needs}
 use Rattle.sending.proofs.error_text.Statement.{statement}
 use Rattle.sending.proofs.error_text.Tie as tie
-
-sub-row : tie.Need-sub-row
-sub-row c = search needs
-
-cast-row : tie.Need-cast-row
-cast-row c = search needs
 
 mul-result : tie.Need-mul-result
 mul-result c = search needs
@@ -20,7 +13,7 @@ array-copy-out-result : tie.Need-array-copy-out-result
 array-copy-out-result c = search needs
 
 returns : tie.Need-returns
-returns c = text-at _ refl (c .before .args .number - 9) (omega arith)
+returns c = text-at _ refl (c .before .args .number) (omega arith)
 
 pub error-text-spec : {M : Type 1} → statement M
-error-text-spec = tie.close (tie.spec sub-row cast-row mul-result array-copy-out-result returns)
+error-text-spec = tie.close (tie.spec mul-result array-copy-out-result returns)

@@ -9,11 +9,12 @@ use Rattle.sets.specs.Sets.{members}
 use Rattle.sending.specs.Messages.{messages}
 use Rattle.sending.proofs.Several.{start-place, start-laid, turn-below, turn-room, turn-place, turn-laid, end-place, end-laid}
 use borrow.Author.Needs.{needs}
+use Rattle.server.specs.Sizes.{connectionCount}
 use Rattle.sending.proofs.send_all.Statement.{statement}
 use Rattle.sending.proofs.send_all.Tie as tie
 
 abbrev Inv-loop : tie.InvT-loop
-Inv-loop out₀ at to kind d place₀ listener₀ out place listener = (listener ≤ 16) × (length out ≡ length out₀) × (place ≡ at + length (messages (members listener to) kind d)) × (out ≡ put at (messages (members listener to) kind d) out₀)
+Inv-loop out₀ at to kind d place₀ listener₀ out place listener = (listener ≤ connectionCount) × (length out ≡ length out₀) × (place ≡ at + length (messages (members listener to) kind d)) × (out ≡ put at (messages (members listener to) kind d) out₀)
 
 abbrev μ-loop : tie.MeasureT-loop
 μ-loop out₀ at to kind d place₀ listener₀ out place listener = 16 - listener

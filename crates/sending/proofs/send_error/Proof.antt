@@ -33,13 +33,13 @@ add-put-heading : tie.Need-add-put-heading
 add-put-heading c = search needs
 
 put-heading-requires : tie.Need-put-heading-requires
-put-heading-requires c κs = let s = c .before .before .before .before .before in (omega arith, omega (arith, error-room (s .args .to) (s .args .number) _ _ (c .before .before .before .error-text .ensures) (c .before .first-zero .ensures .0) (s .args .at) _ (c .before .first-zero .ensures .1) (s .pre .2)))
+put-heading-requires c κs = let s = c .before .before .before .before .before in (omega arith, omega (arith, error-room (s .args .to) (s .args .number) _ _ (c .before .before .before .error-text .ensures) (c .before .first-zero .ensures .0) (s .args .at) _ (c .before .first-zero .ensures .1) (s .pre .1)))
 
 slice-aggregate-put-argument : tie.Need-slice-aggregate-put-argument
 slice-aggregate-put-argument c = search needs
 
 put-argument-requires : tie.Need-put-argument-requires
-put-argument-requires c κs = let s = c .before .before .before .before .before .before .before .before .before .before in omega (arith, error-room (s .args .to) (s .args .number) _ _ (c .before .before .before .before .before .before .before .before .error-text .ensures) (c .before .before .before .before .before .before .first-zero .ensures .0) (s .args .at) _ (c .before .before .before .before .before .before .first-zero .ensures .1) (s .pre .2))
+put-argument-requires c κs = let s = c .before .before .before .before .before .before .before .before .before .before in omega (arith, error-room (s .args .to) (s .args .number) _ _ (c .before .before .before .before .before .before .before .before .error-text .ensures) (c .before .before .before .before .before .before .first-zero .ensures .0) (s .args .at) _ (c .before .before .before .before .before .before .first-zero .ensures .1) (s .pre .1))
 
 array-share-prefix-text : tie.Need-array-share-prefix-text
 array-share-prefix-text c = search needs
@@ -48,7 +48,7 @@ slice-aggregate-put : tie.Need-slice-aggregate-put
 slice-aggregate-put c = sym (length-take-le _ _ (c .before .before .before .before .before .before .before .before .before .before .before .first-zero .ensures .1))
 
 put-requires : tie.Need-put-requires
-put-requires c κs = let s = c .before .before .before .before .before .before .before .before .before .before .before .before .before .before .before in rw (length-take-le _ _ (c .before .before .before .before .before .before .before .before .before .before .before .first-zero .ensures .1)) (omega (arith, error-room (s .args .to) (s .args .number) _ _ (c .before .before .before .before .before .before .before .before .before .before .before .before .before .error-text .ensures) (c .before .before .before .before .before .before .before .before .before .before .before .first-zero .ensures .0) (s .args .at) _ (c .before .before .before .before .before .before .before .before .before .before .before .first-zero .ensures .1) (s .pre .2)))
+put-requires c κs = let s = c .before .before .before .before .before .before .before .before .before .before .before .before .before .before .before in rw (length-take-le _ _ (c .before .before .before .before .before .before .before .before .before .before .before .first-zero .ensures .1)) (omega (arith, error-room (s .args .to) (s .args .number) _ _ (c .before .before .before .before .before .before .before .before .before .before .before .before .before .error-text .ensures) (c .before .before .before .before .before .before .before .before .before .before .before .first-zero .ensures .0) (s .args .at) _ (c .before .before .before .before .before .before .before .before .before .before .before .first-zero .ensures .1) (s .pre .1)))
 
 same-length : tie.Need-same-length
 same-length c = search needs

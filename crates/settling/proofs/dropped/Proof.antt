@@ -5,6 +5,7 @@ use mathlib.Core.Path.{_≡_, refl, sym, _∙_}
 use native.Mathlib.Omega.{arith}
 use borrow.Author.Needs.{needs}
 use lib.ListN.{length, take, length-set}
+use Rattle.server.specs.Sizes.{jobCount}
 use Rattle.server.specs.Table.{noRow}
 use Rattle.plans.specs.Settling.{droppedRows}
 use Rattle.settling.proofs.Turns.{fill-turn, fill-end, length-dropped, dropped-at}
@@ -12,7 +13,7 @@ use Rattle.settling.proofs.dropped.Statement.{statement}
 use Rattle.settling.proofs.dropped.Tie as tie
 
 abbrev Inv-loop : tie.InvT-loop
-Inv-loop rows kept₀ i₀ kept i = (i ≤ 32) × (length kept ≡ 32) × (take i kept ≡ take i (droppedRows rows))
+Inv-loop rows kept₀ i₀ kept i = (i ≤ jobCount) × (length kept ≡ 32) × (take i kept ≡ take i (droppedRows rows))
 
 abbrev μ-loop : tie.MeasureT-loop
 μ-loop rows kept₀ i₀ kept i = 32 - i

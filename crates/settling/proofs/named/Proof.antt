@@ -5,6 +5,7 @@ use mathlib.Core.Path.{_≡_, refl}
 use native.Mathlib.Omega.{arith}
 use borrow.Author.Needs.{needs}
 use lib.ListN.{drop}
+use Rattle.server.specs.Sizes.{jobCount}
 use Rattle.server.specs.Table.{noRow}
 use Rattle.settling.specs.Busy.{unions, nameOf, namedSet}
 use Rattle.settling.proofs.Turns.{union-turn, union-end}
@@ -12,7 +13,7 @@ use Rattle.settling.proofs.named.Statement.{statement}
 use Rattle.settling.proofs.named.Tie as tie
 
 abbrev Inv-loop : tie.InvT-loop
-Inv-loop rows s₀ i₀ s i = (i ≤ 32) × (namedSet rows ≡ unions (λ k r. nameOf r) s i (drop i rows))
+Inv-loop rows s₀ i₀ s i = (i ≤ jobCount) × (namedSet rows ≡ unions (λ k r. nameOf r) s i (drop i rows))
 
 abbrev μ-loop : tie.MeasureT-loop
 μ-loop rows s₀ i₀ s i = 32 - i

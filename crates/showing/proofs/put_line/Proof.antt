@@ -1,5 +1,6 @@
 -- `showing::put_line` meets its contract: the heading, the answer, how the table stands, and the line end. Assumes nothing.
 use denote.Ref.{now}
+use Rattle.server.specs.Sizes.{connectionCount}
 use Rattle.server.specs.Layout.{tableOf}
 use Rattle.showing.proofs.Parts.{answer-room, end-room, heading-room, line-laid, packets-room, table-room}
 use borrow.Author.Needs.{needs}
@@ -9,13 +10,13 @@ use Rattle.showing.proofs.put_line.Tie as tie
 put-heading-requires : tie.Need-put-heading-requires
 put-heading-requires c κs =
     let s = c .before .before .before .before in
-    (s .pre .0, heading-room _ _ _ (s .args .outcome) (tableOf 16 (now (s .args .table))) (now (s .args .text)) (s .pre .1) (s .pre .3) (s .pre .4))
+    (s .pre .0, heading-room _ _ _ (s .args .outcome) (tableOf connectionCount (now (s .args .table))) (now (s .args .text)) (s .pre .1) (s .pre .3) (s .pre .4))
 
 put-answer-requires : tie.Need-put-answer-requires
 put-answer-requires c κs =
     let s = c .before .before .before .before .before .before .before .before in
     let h = c .before .before .before .put-heading .ensures in
-    (s .pre .1, packets-room _ _ _ (s .args .outcome) (tableOf 16 (now (s .args .table))) _ (s .pre .1) (s .pre .3) (s .pre .4) _ _ h, answer-room _ _ _ (s .args .outcome) (tableOf 16 (now (s .args .table))) _ (s .pre .1) (s .pre .3) (s .pre .4) _ _ h)
+    (s .pre .1, packets-room _ _ _ (s .args .outcome) (tableOf connectionCount (now (s .args .table))) _ (s .pre .1) (s .pre .3) (s .pre .4) _ _ h, answer-room _ _ _ (s .args .outcome) (tableOf connectionCount (now (s .args .table))) _ (s .pre .1) (s .pre .3) (s .pre .4) _ _ h)
 
 put-table-requires : tie.Need-put-table-requires
 put-table-requires c κs =

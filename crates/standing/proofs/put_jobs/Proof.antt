@@ -9,11 +9,12 @@ use Rattle.naming.proofs.Pieces.{Laid, end, start, turn, turn-room}
 use Rattle.standing.specs.Standing.{jobsText}
 use Rattle.standing.proofs.Jobs.{unfinished}
 use borrow.Author.Needs.{needs}
+use Rattle.server.specs.Sizes.{jobCount}
 use Rattle.standing.proofs.put_jobs.Statement.{statement}
 use Rattle.standing.proofs.put_jobs.Tie as tie
 
 abbrev Inv-loop : tie.InvT-loop
-Inv-loop out₀ at rows place₀ p₀ out place p = (p ≤ 32) × (length out ≡ length out₀) × Laid (unfinished rows) at out₀ p place out
+Inv-loop out₀ at rows place₀ p₀ out place p = (p ≤ jobCount) × (length out ≡ length out₀) × Laid (unfinished rows) at out₀ p place out
 
 abbrev μ-loop : tie.MeasureT-loop
 μ-loop out₀ at rows place₀ p₀ out place p = 32 - p

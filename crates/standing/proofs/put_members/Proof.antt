@@ -14,11 +14,12 @@ use Rattle.naming.proofs.Pieces.{Laid, end, start, turn, turn-room}
 use Rattle.standing.specs.Standing.{each}
 use Rattle.standing.proofs.Connections.{shown}
 use borrow.Author.Needs.{needs}
+use Rattle.server.specs.Sizes.{connectionCount}
 use Rattle.standing.proofs.put_members.Statement.{statement}
 use Rattle.standing.proofs.put_members.Tie as tie
 
 abbrev Inv-loop : tie.InvT-loop
-Inv-loop out₀ at set place₀ c₀ out place c = (c ≤ 16) × (length out ≡ length out₀) × Laid (shown (has set)) at out₀ c place out
+Inv-loop out₀ at set place₀ c₀ out place c = (c ≤ connectionCount) × (length out ≡ length out₀) × Laid (shown (has set)) at out₀ c place out
 
 abbrev μ-loop : tie.MeasureT-loop
 μ-loop out₀ at set place₀ c₀ out place c = 16 - c

@@ -4,19 +4,22 @@ use mathlib.Core.Path.{_≡_, refl, sym}
 use native.Mathlib.Omega.{arith}
 use borrow.Author.Needs.{needs}
 use lib.ListN.{length}
-use Rattle.stepping.specs.Laying.{laidAwake}
-use Rattle.stepping.proofs.Laid.{awake-turn, awake-end, none-awake}
+use Rattle.server.specs.Sizes.{connectionCount}
+use Rattle.carrying.specs.Laying.{laidEach}
+use Rattle.carrying.proofs.Each.{each-turn, each-end}
+use Rattle.stepping.specs.Laying.{laidIfWoken}
+use Rattle.stepping.proofs.Laid.{none-awake}
 use Rattle.stepping.proofs.put_awake.Statement.{statement}
 use Rattle.stepping.proofs.put_awake.Tie as tie
 
 abbrev Inv-loop : tie.InvT-loop
-Inv-loop table₀ woken k₀ table k = (k ≤ 16) × (length table ≡ length table₀) × (laidAwake woken 0 16 table₀ ≡ laidAwake woken k (16 - k) table)
+Inv-loop table₀ woken k₀ table k = (k ≤ connectionCount) × (length table ≡ length table₀) × (laidEach (laidIfWoken woken) 0 connectionCount table₀ ≡ laidEach (laidIfWoken woken) k (connectionCount - k) table)
 
 abbrev μ-loop : tie.MeasureT-loop
-μ-loop table₀ woken k₀ table k = 16 - k
+μ-loop table₀ woken k₀ table k = connectionCount - k
 
 returns : tie.Need-returns Inv-loop μ-loop
-returns c = rw (c .if1 .taken) (sym (none-awake 0 16 _))
+returns c = rw (c .if1 .taken) (sym (none-awake _))
 
 loop-holds : tie.Need-loop-holds Inv-loop μ-loop
 loop-holds c = (omega arith, refl, refl)
@@ -33,13 +36,13 @@ loop-less c = search needs
 loop-again : tie.Need-loop-again Inv-loop μ-loop
 loop-again c =
     let l = c .before .before .before .before .before .loop in
-    (omega arith, search needs, awake-turn (c .before .before .before .before .before .before .before .before .args .woken) (l .c) _ _ _ (c .before .before .before .before .loop-test .taken) (l .inv .2) (c .before .before .put-if-woken .ensures))
+    (omega arith, search needs, each-turn (laidIfWoken (c .before .before .before .before .before .before .before .before .args .woken)) connectionCount (l .c) _ _ _ (c .before .before .before .before .loop-test .taken) (l .inv .2) (c .before .before .put-if-woken .ensures))
 
 same-length : tie.Need-same-length Inv-loop μ-loop
 same-length c = search needs
 
 returns-2 : tie.Need-returns-2 Inv-loop μ-loop
-returns-2 c = awake-end (c .before .before .before .before .args .woken) (c .before .loop .c) _ _ (omega arith) (c .before .loop .inv .2)
+returns-2 c = each-end (laidIfWoken (c .before .before .before .before .args .woken)) connectionCount (c .before .loop .c) _ _ (omega arith) (c .before .loop .inv .2)
 
 pub put-awake-spec : {M : Type 1} → statement M
 put-awake-spec =

@@ -4,6 +4,7 @@ use mathlib.Core.Bool.{Bool, _&&_}
 use denote.Ref.{now}
 use borrow.Author.Needs.{needs}
 use Rattle.server.specs.Lists.{all, numbers}
+use Rattle.server.specs.Layout.{denominatorsAt}
 use Rattle.text_check.specs.Stored.{digitPadded, lastsOf10}
 use Rattle.text_check.proofs.Numbers.{one-digit-each}
 use Rattle.text_check.proofs.all_digits.Statement.{statement}
@@ -25,11 +26,11 @@ digits-padded-requires-2 c κs = search needs
 returns-2 : tie.Need-returns-2
 returns-2 c = let b = now (c .before .before .before .before .before .before .before .before .before .args .table) in
     c .digits-padded2 .ensures
-    ∙ ap (λ (x : Bool). x && all (digitPadded lastsOf10 b 3428) (numbers 0 320)) (sym (c .before .before .if2 .taken) ∙ c .before .before .before .digits-padded .ensures)
+    ∙ ap (λ (x : Bool). x && all (digitPadded lastsOf10 b denominatorsAt) (numbers 0 320)) (sym (c .before .before .if2 .taken) ∙ c .before .before .before .digits-padded .ensures)
 
 returns-3 : tie.Need-returns-3
 returns-3 c = let b = now (c .before .before .before .before .before .before .before .args .table) in
-    ap (λ (x : Bool). x && all (digitPadded lastsOf10 b 3428) (numbers 0 320)) (sym (c .if2 .left) ∙ c .before .digits-padded .ensures)
+    ap (λ (x : Bool). x && all (digitPadded lastsOf10 b denominatorsAt) (numbers 0 320)) (sym (c .if2 .left) ∙ c .before .digits-padded .ensures)
 
 pub all-digits-spec : {M : Type 1} → statement M
 all-digits-spec =

@@ -6,6 +6,7 @@ use native.Mathlib.Omega.{arith}
 use denote.Ref.{now}
 use borrow.Author.Needs.{needs}
 use Rattle.server.specs.Lists.{all, numbers}
+use Rattle.server.specs.Sizes.{jobCount}
 use Rattle.passes.proofs.Tests.{each-on, each-end}
 use lib.ListN.{getD}
 use lib.Dec.{eqb}
@@ -14,7 +15,7 @@ use Rattle.text_check.proofs.begun.Statement.{statement}
 use Rattle.text_check.proofs.begun.Tie as tie
 
 abbrev Inv-loop : tie.InvT-loop
-Inv-loop live first ok₀ i₀ ok i = (i ≤ 32) × (ok ≡ all (λ k. beginsWith (getD live k 0) (getD first k 0)) (numbers 0 i))
+Inv-loop live first ok₀ i₀ ok i = (i ≤ jobCount) × (ok ≡ all (λ k. beginsWith (getD live k 0) (getD first k 0)) (numbers 0 i))
 
 abbrev μ-loop : tie.MeasureT-loop
 μ-loop live first ok₀ i₀ ok i = 32 - i

@@ -6,11 +6,12 @@ use denote.Ref.{now}
 use borrow.Author.Needs.{needs}
 use lib.ListN.{length, getD, length-set}
 use Rattle.passes.proofs.Arrays.{put-next}
+use Rattle.server.specs.Sizes.{jobCount}
 use Rattle.text_check.proofs.first_bytes.Statement.{statement}
 use Rattle.text_check.proofs.first_bytes.Tie as tie
 
 abbrev Inv-loop : tie.InvT-loop
-Inv-loop table at m₀ i₀ m i = (i ≤ 32) × ((length m ≡ 32) × ((k : ℕ) → k < i → getD m k 0 ≡ getD table (at + 10 * k) 0))
+Inv-loop table at m₀ i₀ m i = (i ≤ jobCount) × ((length m ≡ 32) × ((k : ℕ) → k < i → getD m k 0 ≡ getD table (at + 10 * k) 0))
 
 abbrev μ-loop : tie.MeasureT-loop
 μ-loop table at m₀ i₀ m i = 32 - i

@@ -6,6 +6,7 @@ use denote.Ref.{now}
 use lib.ListN.{getD}
 use lib.Dec.{eqb}
 use Rattle.server.specs.Lists.{all, numbers}
+use Rattle.server.specs.Layout.{numeratorsAt, denominatorsAt}
 use Rattle.passes.proofs.Tests.{none-on, each-end}
 use Rattle.text_check.specs.Stored.{firstAlone}
 use Rattle.text_check.proofs.Numbers.{not-first}
@@ -53,7 +54,7 @@ loop-again c = let l = c .before .before .before .before .before .loop in
     let s = c .after-end .result in (
       omega arith,
       none-on (firstAlone (now (a .first)) b) (l .i) (l .found) s (l .inv .1)
-          (not-first (getD (now (a .first)) (l .i) 0) (getD b (3108 + l .i) 0) (getD b (3428 + l .i) 0) s (c .after-end .ensures)),
+          (not-first (getD (now (a .first)) (l .i) 0) (getD b (numeratorsAt + l .i) 0) (getD b (denominatorsAt + l .i) 0) s (c .after-end .ensures)),
     )
 
 returns : tie.Need-returns Inv-loop μ-loop

@@ -6,13 +6,14 @@ use denote.Ref.{now}
 use borrow.Author.Needs.{needs}
 use lib.Dec.{leb}
 use Rattle.server.specs.Lists.{all, numbers}
+use Rattle.server.specs.Sizes.{jobCount}
 use Rattle.passes.proofs.Tests.{each-on, each-end}
 use Rattle.text_check.specs.Stored.{sizeSmall}
 use Rattle.text_check.proofs.sizes_small.Statement.{statement}
 use Rattle.text_check.proofs.sizes_small.Tie as tie
 
 abbrev Inv-loop : tie.InvT-loop
-Inv-loop table ok₀ i₀ ok i = (i ≤ 32) × (ok ≡ all (sizeSmall table) (numbers 0 i))
+Inv-loop table ok₀ i₀ ok i = (i ≤ jobCount) × (ok ≡ all (sizeSmall table) (numbers 0 i))
 
 abbrev μ-loop : tie.MeasureT-loop
 μ-loop table ok₀ i₀ ok i = 32 - i

@@ -4,6 +4,7 @@ use mathlib.Core.Path.{refl, sym, _∙_}
 use mathlib.Core.Bool.{true, false}
 use denote.Ref.{now}
 use borrow.Author.Needs.{needs}
+use Rattle.server.specs.Layout.{numeratorsAt, denominatorsAt}
 use Rattle.text_check.proofs.Numbers.{begun, stored-hold}
 use Rattle.text_check.proofs.stored_hold.Statement.{statement}
 use Rattle.text_check.proofs.stored_hold.Tie as tie
@@ -20,7 +21,7 @@ all-digits-requires c κs = let s = c .before .before .before .before .before in
     let marks = now (s .args .live) in
     let e = sym (c .before .before .before .numbers-begin .ensures) ∙ c .before .before .if1 .taken in
     let f = sym (c .before .numbers-begin2 .ensures) ∙ c .if2 .taken in
-    (s .pre .0, (begun b marks 3108 e, begun b marks 3428 f))
+    (s .pre .0, (begun b marks numeratorsAt e, begun b marks denominatorsAt f))
 
 returns : tie.Need-returns
 returns c = let s = c .before .before .before .before .before .before in

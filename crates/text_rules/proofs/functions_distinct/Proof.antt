@@ -5,6 +5,7 @@ use native.Mathlib.Omega.{arith}
 use borrow.Author.Needs.{needs}
 use denote.Ref.{now}
 use Rattle.server.specs.Lists.{all, numbers}
+use Rattle.server.specs.Sizes.{connectionCount, functionCount}
 use Rattle.server.specs.Layout.{functionIn}
 use Rattle.server.specs.Rules.{namesApart}
 use Rattle.passes.proofs.Tests.{each-on, each-end}
@@ -15,7 +16,7 @@ use Rattle.text_rules.proofs.functions_distinct.Tie as tie
 
 abbrev Inv-loop : tie.InvT-loop
 Inv-loop table ok₀ q₀ ok q =
-    (q ≤ 16) × (ok ≡ all (λ i. all (λ k. namesApart (functionIn table i) (functionIn table k)) (numbers (i + 1) (16 - (i + 1)))) (numbers 0 q))
+    (q ≤ functionCount) × (ok ≡ all (λ i. all (λ k. namesApart (functionIn connectionCount table i) (functionIn connectionCount table k)) (numbers (i + 1) (16 - (i + 1)))) (numbers 0 q))
 
 abbrev μ-loop : tie.MeasureT-loop
 μ-loop table ok₀ q₀ ok q = 16 - q
@@ -36,14 +37,14 @@ loop-again : tie.Need-loop-again Inv-loop μ-loop
 loop-again c =
     let l = c .before .before .loop in
     let b = now (c .before .before .before .before .args .table) in
-    (omega arith, each-on (λ i. all (λ k. namesApart (functionIn b i) (functionIn b k)) (numbers (i + 1) (16 - (i + 1)))) 16 (l .q) (l .ok) _ (l .inv .1) (c .name-apart-from .ensures))
+    (omega arith, each-on (λ i. all (λ k. namesApart (functionIn connectionCount b i) (functionIn connectionCount b k)) (numbers (i + 1) (16 - (i + 1)))) 16 (l .q) (l .ok) _ (l .inv .1) (c .name-apart-from .ensures))
 
 returns : tie.Need-returns Inv-loop μ-loop
 returns c =
     let l = c .before .loop in
     let b = now (c .before .before .before .args .table) in
-    each-end (λ i. all (λ k. namesApart (functionIn b i) (functionIn b k)) (numbers (i + 1) (16 - (i + 1)))) 16 (l .q) (l .ok) (l .inv .1) (l .inv .0) (omega arith)
-    ∙ pairs-each (λ i k. namesApart (functionIn b i) (functionIn b k)) 16 ∙ sym (functions-pairs 16 b namesApart)
+    each-end (λ i. all (λ k. namesApart (functionIn connectionCount b i) (functionIn connectionCount b k)) (numbers (i + 1) (16 - (i + 1)))) 16 (l .q) (l .ok) (l .inv .1) (l .inv .0) (omega arith)
+    ∙ pairs-each (λ i k. namesApart (functionIn connectionCount b i) (functionIn connectionCount b k)) 16 ∙ sym (functions-pairs connectionCount b namesApart)
 
 pub functions-distinct-spec : {M : Type 1} → statement M
 functions-distinct-spec =

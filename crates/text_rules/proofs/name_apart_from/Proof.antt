@@ -5,6 +5,7 @@ use native.Mathlib.Omega.{arith}
 use borrow.Author.Needs.{needs}
 use denote.Ref.{now}
 use Rattle.server.specs.Lists.{all, numbers}
+use Rattle.server.specs.Sizes.{connectionCount}
 use Rattle.server.specs.Layout.{functionIn}
 use Rattle.server.specs.Rules.{namesApart}
 use Rattle.passes.proofs.Pairs.{later-on, later-end}
@@ -12,7 +13,7 @@ use Rattle.text_rules.proofs.name_apart_from.Statement.{statement}
 use Rattle.text_rules.proofs.name_apart_from.Tie as tie
 
 abbrev Inv-loop : tie.InvT-loop
-Inv-loop table q ok₀ k₀ ok k = (q + 1 ≤ k) × (k ≤ 16) × (ok ≡ all (λ i. namesApart (functionIn table q) (functionIn table i)) (numbers (q + 1) (k - (q + 1))))
+Inv-loop table q ok₀ k₀ ok k = (q + 1 ≤ k) × (k ≤ 16) × (ok ≡ all (λ i. namesApart (functionIn connectionCount table q) (functionIn connectionCount table i)) (numbers (q + 1) (k - (q + 1))))
 
 abbrev μ-loop : tie.MeasureT-loop
 μ-loop table q ok₀ k₀ ok k = 16 - k
@@ -40,14 +41,14 @@ loop-again c =
     let l = c .before .before .loop in
     let a = c .before .before .before .before .args in
     let b = now (a .table) in
-    (omega arith, omega arith, later-on (λ i. namesApart (functionIn b (a .q)) (functionIn b i)) (a .q + 1) 16 (l .k) (l .ok) _ (l .inv .2) (l .inv .0) (c .names-apart .ensures))
+    (omega arith, omega arith, later-on (λ i. namesApart (functionIn connectionCount b (a .q)) (functionIn connectionCount b i)) (a .q + 1) 16 (l .k) (l .ok) _ (l .inv .2) (l .inv .0) (c .names-apart .ensures))
 
 returns : tie.Need-returns Inv-loop μ-loop
 returns c =
     let l = c .before .loop in
     let a = c .before .before .before .args in
     let b = now (a .table) in
-    later-end (λ i. namesApart (functionIn b (a .q)) (functionIn b i)) (a .q + 1) 16 (l .k) (l .ok) (l .inv .2) (l .inv .1) (omega arith)
+    later-end (λ i. namesApart (functionIn connectionCount b (a .q)) (functionIn connectionCount b i)) (a .q + 1) 16 (l .k) (l .ok) (l .inv .2) (l .inv .1) (omega arith)
 
 pub name-apart-from-spec : {M : Type 1} → statement M
 name-apart-from-spec =

@@ -6,6 +6,7 @@ use borrow.Author.Needs.{needs}
 use denote.Ref.{now}
 use lib.Dec.{leb}
 use Rattle.server.specs.Lists.{all, numbers}
+use Rattle.server.specs.Sizes.{connectionCount, jobCount}
 use Rattle.server.specs.Layout.{jobIn, tableOf}
 use Rattle.server.specs.Rules.{together}
 use Rattle.passes.proofs.Tests.{each-on, each-end}
@@ -14,7 +15,7 @@ use Rattle.text_rules.proofs.sizes_within.Statement.{statement}
 use Rattle.text_rules.proofs.sizes_within.Tie as tie
 
 abbrev Inv-loop : tie.InvT-loop
-Inv-loop table ok₀ p₀ ok p = (p ≤ 32) × (ok ≡ all (λ k. leb (together (tableOf 16 table) (jobIn table k)) 1022) (numbers 0 p))
+Inv-loop table ok₀ p₀ ok p = (p ≤ jobCount) × (ok ≡ all (λ k. leb (together (tableOf connectionCount table) (jobIn connectionCount table k)) 1022) (numbers 0 p))
 
 abbrev μ-loop : tie.MeasureT-loop
 μ-loop table ok₀ p₀ ok p = 32 - p
@@ -35,14 +36,14 @@ loop-again : tie.Need-loop-again Inv-loop μ-loop
 loop-again c =
     let l = c .before .before .loop in
     let b = now (c .before .before .before .before .args .table) in
-    (omega arith, each-on (λ k. leb (together (tableOf 16 b) (jobIn b k)) 1022) 32 (l .p) (l .ok) _ (l .inv .1) (c .size-within .ensures))
+    (omega arith, each-on (λ k. leb (together (tableOf connectionCount b) (jobIn connectionCount b k)) 1022) 32 (l .p) (l .ok) _ (l .inv .1) (c .size-within .ensures))
 
 returns : tie.Need-returns Inv-loop μ-loop
 returns c =
     let l = c .before .loop in
     let b = now (c .before .before .before .args .table) in
-    each-end (λ k. leb (together (tableOf 16 b) (jobIn b k)) 1022) 32 (l .p) (l .ok) (l .inv .1) (l .inv .0) (omega arith)
-    ∙ sym (jobs-all 16 b (λ j. leb (together (tableOf 16 b) j) 1022))
+    each-end (λ k. leb (together (tableOf connectionCount b) (jobIn connectionCount b k)) 1022) 32 (l .p) (l .ok) (l .inv .1) (l .inv .0) (omega arith)
+    ∙ sym (jobs-all connectionCount b (λ j. leb (together (tableOf connectionCount b) j) 1022))
 
 pub sizes-within-spec : {M : Type 1} → statement M
 sizes-within-spec =

@@ -5,6 +5,7 @@ use native.Mathlib.Omega.{arith}
 use borrow.Author.Needs.{needs}
 use denote.Ref.{now}
 use Rattle.server.specs.Lists.{all, numbers}
+use Rattle.server.specs.Sizes.{jobCount, connectionCount}
 use Rattle.server.specs.Layout.{jobIn}
 use Rattle.server.specs.Rules.{uniquesApart}
 use Rattle.passes.proofs.Pairs.{later-on, later-end}
@@ -12,7 +13,7 @@ use Rattle.text_rules.proofs.unique_apart_from.Statement.{statement}
 use Rattle.text_rules.proofs.unique_apart_from.Tie as tie
 
 abbrev Inv-loop : tie.InvT-loop
-Inv-loop table p ok₀ k₀ ok k = (p + 1 ≤ k) × (k ≤ 32) × (ok ≡ all (λ i. uniquesApart (jobIn table p) (jobIn table i)) (numbers (p + 1) (k - (p + 1))))
+Inv-loop table p ok₀ k₀ ok k = (p + 1 ≤ k) × (k ≤ jobCount) × (ok ≡ all (λ i. uniquesApart (jobIn connectionCount table p) (jobIn connectionCount table i)) (numbers (p + 1) (k - (p + 1))))
 
 abbrev μ-loop : tie.MeasureT-loop
 μ-loop table p ok₀ k₀ ok k = 32 - k
@@ -40,14 +41,14 @@ loop-again c =
     let l = c .before .before .loop in
     let a = c .before .before .before .before .args in
     let b = now (a .table) in
-    (omega arith, omega arith, later-on (λ i. uniquesApart (jobIn b (a .p)) (jobIn b i)) (a .p + 1) 32 (l .k) (l .ok) _ (l .inv .2) (l .inv .0) (c .uniques-apart .ensures))
+    (omega arith, omega arith, later-on (λ i. uniquesApart (jobIn connectionCount b (a .p)) (jobIn connectionCount b i)) (a .p + 1) 32 (l .k) (l .ok) _ (l .inv .2) (l .inv .0) (c .uniques-apart .ensures))
 
 returns : tie.Need-returns Inv-loop μ-loop
 returns c =
     let l = c .before .loop in
     let a = c .before .before .before .args in
     let b = now (a .table) in
-    later-end (λ i. uniquesApart (jobIn b (a .p)) (jobIn b i)) (a .p + 1) 32 (l .k) (l .ok) (l .inv .2) (l .inv .1) (omega arith)
+    later-end (λ i. uniquesApart (jobIn connectionCount b (a .p)) (jobIn connectionCount b i)) (a .p + 1) 32 (l .k) (l .ok) (l .inv .2) (l .inv .1) (omega arith)
 
 pub unique-apart-from-spec : {M : Type 1} → statement M
 unique-apart-from-spec =

@@ -1,6 +1,7 @@
 -- `text_rules::uniques_apart` meets its contract, where a test decides before the texts are read, and by the texts. Assumes nothing.
 use borrow.Author.Needs.{needs}
 use denote.Ref.{now}
+use Rattle.server.specs.Sizes.{connectionCount}
 use Rattle.server.specs.Layout.{jobIn}
 use Rattle.text_rules.proofs.Texts.{uniques-skip, uniques-compared}
 use Rattle.text_rules.proofs.uniques_apart.Statement.{statement}
@@ -28,7 +29,7 @@ returns : tie.Need-returns
 returns c =
     let a = c .before .before .before .before .before .before .args in
     let b = now (a .table) in
-    uniques-skip (jobIn b (a .p)) (jobIn b (a .k)) _ _ (c .before .before .before .before .serial .ensures) (c .before .before .before .serial2 .ensures) (c .if1 .taken)
+    uniques-skip (jobIn connectionCount b (a .p)) (jobIn connectionCount b (a .k)) _ _ (c .before .before .before .before .serial .ensures) (c .before .before .before .serial2 .ensures) (c .if1 .taken)
 
 unique-requires : tie.Need-unique-requires
 unique-requires c κs = search needs
@@ -47,7 +48,7 @@ returns-2 c =
     let r = c .before .before .before .before in
     let a = r .before .before .before .before .before .before .args in
     let b = now (a .table) in
-    uniques-compared (jobIn b (a .p)) (jobIn b (a .k)) _ _ (r .before .before .before .before .serial .ensures) (r .before .before .before .serial2 .ensures) (r .if1 .left)
+    uniques-compared (jobIn connectionCount b (a .p)) (jobIn connectionCount b (a .k)) _ _ (r .before .before .before .before .serial .ensures) (r .before .before .before .serial2 .ensures) (r .if1 .left)
     _ _ _ _ (c .before .before .before .unique .ensures) (c .before .before .unique2 .ensures) (c .before .unique3 .ensures) (c .equal .ensures)
 
 pub uniques-apart-spec : {M : Type 1} → statement M

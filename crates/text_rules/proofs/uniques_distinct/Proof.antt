@@ -5,6 +5,7 @@ use native.Mathlib.Omega.{arith}
 use borrow.Author.Needs.{needs}
 use denote.Ref.{now}
 use Rattle.server.specs.Lists.{all, numbers}
+use Rattle.server.specs.Sizes.{connectionCount, jobCount}
 use Rattle.server.specs.Layout.{jobIn}
 use Rattle.server.specs.Rules.{uniquesApart}
 use Rattle.passes.proofs.Tests.{each-on, each-end}
@@ -15,7 +16,7 @@ use Rattle.text_rules.proofs.uniques_distinct.Tie as tie
 
 abbrev Inv-loop : tie.InvT-loop
 Inv-loop table ok₀ p₀ ok p =
-    (p ≤ 32) × (ok ≡ all (λ i. all (λ k. uniquesApart (jobIn table i) (jobIn table k)) (numbers (i + 1) (32 - (i + 1)))) (numbers 0 p))
+    (p ≤ jobCount) × (ok ≡ all (λ i. all (λ k. uniquesApart (jobIn connectionCount table i) (jobIn connectionCount table k)) (numbers (i + 1) (32 - (i + 1)))) (numbers 0 p))
 
 abbrev μ-loop : tie.MeasureT-loop
 μ-loop table ok₀ p₀ ok p = 32 - p
@@ -36,14 +37,14 @@ loop-again : tie.Need-loop-again Inv-loop μ-loop
 loop-again c =
     let l = c .before .before .loop in
     let b = now (c .before .before .before .before .args .table) in
-    (omega arith, each-on (λ i. all (λ k. uniquesApart (jobIn b i) (jobIn b k)) (numbers (i + 1) (32 - (i + 1)))) 32 (l .p) (l .ok) _ (l .inv .1) (c .unique-apart-from .ensures))
+    (omega arith, each-on (λ i. all (λ k. uniquesApart (jobIn connectionCount b i) (jobIn connectionCount b k)) (numbers (i + 1) (32 - (i + 1)))) 32 (l .p) (l .ok) _ (l .inv .1) (c .unique-apart-from .ensures))
 
 returns : tie.Need-returns Inv-loop μ-loop
 returns c =
     let l = c .before .loop in
     let b = now (c .before .before .before .args .table) in
-    each-end (λ i. all (λ k. uniquesApart (jobIn b i) (jobIn b k)) (numbers (i + 1) (32 - (i + 1)))) 32 (l .p) (l .ok) (l .inv .1) (l .inv .0) (omega arith)
-    ∙ pairs-each (λ i k. uniquesApart (jobIn b i) (jobIn b k)) 32 ∙ sym (jobs-pairs 16 b uniquesApart)
+    each-end (λ i. all (λ k. uniquesApart (jobIn connectionCount b i) (jobIn connectionCount b k)) (numbers (i + 1) (32 - (i + 1)))) 32 (l .p) (l .ok) (l .inv .1) (l .inv .0) (omega arith)
+    ∙ pairs-each (λ i k. uniquesApart (jobIn connectionCount b i) (jobIn connectionCount b k)) 32 ∙ sym (jobs-pairs connectionCount b uniquesApart)
 
 pub uniques-distinct-spec : {M : Type 1} → statement M
 uniques-distinct-spec =

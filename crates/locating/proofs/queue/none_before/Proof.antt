@@ -4,6 +4,7 @@ use mathlib.Core.Path.{_≡_, refl}
 use native.Mathlib.Omega.{arith}
 use denote.Ref.{now}
 use Rattle.server.specs.Lists.{all, numbers}
+use Rattle.server.specs.Sizes.{connectionCount}
 use Rattle.server.specs.Layout.{rowIn}
 use Rattle.passes.proofs.Tests.{each-on, each-end}
 use Rattle.locating.specs.Queue.{staysBehind}
@@ -12,7 +13,7 @@ use Rattle.locating.proofs.queue.none_before.Statement.{statement}
 use Rattle.locating.proofs.queue.none_before.Tie as tie
 
 abbrev Inv-loop : tie.InvT-loop
-Inv-loop table p priority serial ok₀ k₀ ok k = (k ≤ 8) × (ok ≡ all (λ k. staysBehind priority serial (rowIn table (p + k))) (numbers 0 k))
+Inv-loop table p priority serial ok₀ k₀ ok k = (k ≤ 8) × (ok ≡ all (λ k. staysBehind priority serial (rowIn connectionCount table (p + k))) (numbers 0 k))
 
 abbrev μ-loop : tie.MeasureT-loop
 μ-loop table p priority serial ok₀ k₀ ok k = 8 - k
@@ -45,13 +46,13 @@ loop-again : tie.Need-loop-again Inv-loop μ-loop
 loop-again c =
     let l = c .before .before .before .loop in
     let a = c .before .before .before .before .before .args in
-    (omega arith, each-on (λ k. staysBehind (a .priority) (a .serial) (rowIn (now (a .table)) (a .p + k))) 8 (l .k) (l .ok) _ (l .inv .1) (rw (c .serial .ensures)))
+    (omega arith, each-on (λ k. staysBehind (a .priority) (a .serial) (rowIn connectionCount (now (a .table)) (a .p + k))) 8 (l .k) (l .ok) _ (l .inv .1) (rw (c .serial .ensures)))
 
 returns : tie.Need-returns Inv-loop μ-loop
 returns c =
     let l = c .before .loop in
     let a = c .before .before .before .args in
-    each-end (λ k. staysBehind (a .priority) (a .serial) (rowIn (now (a .table)) (a .p + k))) 8 (l .k) (l .ok) (l .inv .1) (l .inv .0) (omega arith)
+    each-end (λ k. staysBehind (a .priority) (a .serial) (rowIn connectionCount (now (a .table)) (a .p + k))) 8 (l .k) (l .ok) (l .inv .1) (l .inv .0) (omega arith)
 
 pub none-before-spec : {M : Type 1} → statement M
 none-before-spec =
