@@ -2,11 +2,11 @@
 """The packet layer's cases, and what is expected of them, written from document 01 alone ("Packet layout", "Refusal numbers")
 and document 000's example. It shares no code with the packet layer and reads nothing of it.
 
-usage: packet_cases.py stdin|stdout [packets|packet_cases]      (packets, where no program is named)
+usage: packet_cases.py stdin|stdout [packet_print|packet_cases]      (packet_print, where no program is named)
 
 It prints what the program is run on, or what it must write then: crates/PROGRAM/stdin and crates/PROGRAM/stdout.
 
-packets reads packets in hexadecimal, one a line, and says what each is.
+packet_print reads packets in hexadecimal, one a line, and says what each is.
 packet_cases writes packets, one call a line, and says what the writer answers; see crates/packet_cases/src/main.rt for its lines.
 """
 import re
@@ -158,7 +158,7 @@ def length_cases(way, kind):
     return kept
 
 
-# ---- packets: lines of hexadecimal
+# ---- packet_print: lines of hexadecimal
 
 LONGEST = 2200  # digits of a line
 
@@ -243,7 +243,7 @@ EXAMPLE = [
 
 
 def packet_lines():
-    """The lines that packets is run on; the last one has no line end."""
+    """The lines that packet_print is run on; the last one has no line end."""
     cases = [packet(*p) for p in EXAMPLE]
     for way in DIRECTIONS:
         cases += list(sized(way)) + list(refused(way))
@@ -265,7 +265,7 @@ def escaped(a):
 
 
 def said(line):
-    """What packets says of a line."""
+    """What packet_print says of a line."""
     if len(line) > LONGEST or len(line) % 2 or not re.fullmatch("[0-9a-f]*", line):
         return "not hexadecimal"
     s = bytes.fromhex(line)
@@ -337,7 +337,7 @@ def unique_calls():
 # ---- what is printed
 
 def text(program, which):
-    if program == "packets":
+    if program == "packet_print":
         lines = packet_lines()
         if which == "stdin":
             return "\n".join(lines)
@@ -348,8 +348,8 @@ def text(program, which):
 
 
 def main():
-    which, program = sys.argv[1], (sys.argv[2:] + ["packets"])[0]
-    if which not in ("stdin", "stdout") or program not in ("packets", "packet_cases"):
+    which, program = sys.argv[1], (sys.argv[2:] + ["packet_print"])[0]
+    if which not in ("stdin", "stdout") or program not in ("packet_print", "packet_cases"):
         sys.exit(__doc__)
     sys.stdout.buffer.write(text(program, which).encode("latin-1"))
 

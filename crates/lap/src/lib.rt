@@ -1,7 +1,7 @@
 // The job server for a host in C: include/lap.h has these functions with their promises in words. Format: the table of docs/TABLE.md,
 // 32 workloads of 1,024 bytes, and addressed packets in the output. Each function answers document 01's number: 0 is done, 1 to 15
 // refuse, and then table and workloads are as they were. No caller has to check anything first but that the buffers do not overlap.
-use performing::Answer;
+use carry_event::Answer;
 ghost use mathlib.Core.Path.{_≡_};
 ghost use Rattle.server.specs.Sizes.{connectionCount};
 ghost use Rattle.server.specs.Asked.{closes, opens, sends};
@@ -12,7 +12,7 @@ ghost use Rattle.server.specs.Call.{call, left, made, make};
 pub extern "C" fn lap_fresh(table: &mut [u8], workloads: &mut [u8]) -> u32
     ensures { λ r. ⌜ made r (now (table .exit)) (now (workloads .exit)) ≡ make connectionCount (now (table .entry)) (now (workloads .entry)) ⌝ }
 {
-    making::fresh(table, workloads) as u32
+    call_fresh::fresh(table, workloads) as u32
 }
 
 // Opens a connection.
@@ -27,7 +27,7 @@ pub extern "C" fn lap_open(
     ensures { λ r. ⌜ left r (now (length .exit)) (now (output .exit)) (now (table .exit)) (now (workloads .exit))
         ≡ call connectionCount (opens connection) (now (table .entry)) (now (workloads .entry)) (now (output .entry)) ⌝ }
 {
-    let opened: Answer = serving::open(table, workloads, output, connection);
+    let opened: Answer = call_serve::open(table, workloads, output, connection);
     *length = opened.length as u32;
     opened.number as u32
 }
@@ -44,7 +44,7 @@ pub extern "C" fn lap_close(
     ensures { λ r. ⌜ left r (now (length .exit)) (now (output .exit)) (now (table .exit)) (now (workloads .exit))
         ≡ call connectionCount (closes connection) (now (table .entry)) (now (workloads .entry)) (now (output .entry)) ⌝ }
 {
-    let closed: Answer = serving::close(table, workloads, output, connection);
+    let closed: Answer = call_serve::close(table, workloads, output, connection);
     *length = closed.length as u32;
     closed.number as u32
 }
@@ -62,7 +62,7 @@ pub extern "C" fn lap_packet(
     ensures { λ r. ⌜ left r (now (length .exit)) (now (output .exit)) (now (table .exit)) (now (workloads .exit))
         ≡ call connectionCount (sends connection (now (packet .entry))) (now (table .entry)) (now (workloads .entry)) (now (output .entry)) ⌝ }
 {
-    let taken: Answer = serving::packet(table, workloads, output, connection, packet);
+    let taken: Answer = call_serve::packet(table, workloads, output, connection, packet);
     *length = taken.length as u32;
     taken.number as u32
 }

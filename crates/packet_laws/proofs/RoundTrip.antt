@@ -16,8 +16,7 @@ use Rattle.packet.specs.Arguments.{fitAll, join, parts, split}
 use Rattle.packet.specs.Packet.{Direction, requests, responses, got, read, packet, writeRefusal}
 use Rattle.packet.specs.Answers.{Writing, writing}
 use Rattle.packet_laws.proofs.Splitting.{shapes-plain, join-split, split-join}
-use Rattle.packet_laws.proofs.Packets.{Well, requests-well, responses-well, Laid, packet-laid, packet-again}
-use Rattle.packet_laws.proofs.Packets.{Headed, header-good, good-header, Got, read-got, got-read, Accepted, unrefused-accepted, accepted-unrefused, finished-length}
+use Rattle.packet_laws.proofs.Packets.{Well, requests-well, responses-well, Laid, packet-laid, packet-again, Headed, header-good, good-header, Got, read-got, got-read, Accepted, unrefused-accepted, accepted-unrefused, finished-length}
 
 -- what a writer answers, and leaves in the output, for a packet of this direction
 abbrev pub written : Direction → Bytes → ℕ → List Bytes → Writing

@@ -49,10 +49,10 @@ fn read_body(shape: Shape, kind: u32, d: &[u8]) -> Read
     requires { ⌜ length (now d) < 2 ^ 31 ⌝ }
     ensures { λ r. ⌜ r ≡ answerOf (body shape kind (now (d .entry))) ⌝ }
 {
-    if !kinds::is_own(shape) {
+    if !packet_kinds::is_own(shape) {
         return Read::Refused(TYPE);
     }
-    let split = arguments::split(shape, d);
+    let split = packet_split::split(shape, d);
     match split {
         Split::Bad => Read::Refused(ARGUMENTS),
         Split::Good(ends) => Read::Packet { kind, ends },
@@ -66,7 +66,7 @@ pub fn read_request(s: &[u8]) -> Read
     let header = read_header(s, b"\0REQ", 1024);
     match header {
         Header::Refused(number) => Read::Refused(number),
-        Header::Good(kind) => read_body(kinds::request_shape(kind), kind, &s[12..]),
+        Header::Good(kind) => read_body(packet_kinds::request_shape(kind), kind, &s[12..]),
     }
 }
 
@@ -77,7 +77,7 @@ pub fn read_response(s: &[u8]) -> Read
     let header = read_header(s, b"\0RES", 1088);
     match header {
         Header::Refused(number) => Read::Refused(number),
-        Header::Good(kind) => read_body(kinds::response_shape(kind), kind, &s[12..]),
+        Header::Good(kind) => read_body(packet_kinds::response_shape(kind), kind, &s[12..]),
     }
 }
 

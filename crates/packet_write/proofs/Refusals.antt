@@ -12,7 +12,7 @@ use Rattle.packet.specs.declared.Shape.{Shape}
 use Rattle.packet.specs.Layout.{isOwn, rulesOf}
 use Rattle.packet.specs.Arguments.{fitAll, join}
 use Rattle.packet.specs.Packet.{given, writeRefusal}
-use Rattle.joining.proofs.Fitting.{fit-few}
+use Rattle.packet_join.proofs.Fitting.{fit-few}
 
 -- the tests in their order: `own`, `fit` and `size` are what the code finds of the type, the arguments and their data
 module _ (most room : ℕ) (shape : Shape) (as′ : List Bytes) (own : Bool) (eo : own ≡ isOwn shape) where

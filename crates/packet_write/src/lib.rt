@@ -26,13 +26,13 @@ fn refusal(
     requires { ⌜ most < 65536 ⌝ }
     ensures { λ r. ⌜ r ≡ writeRefusal most room shape (given count (now (a .entry)) (now (b .entry)) (now (c .entry)) (now (d .entry)) (now (e .entry))) ⌝ }
 {
-    if !kinds::is_own(shape) {
+    if !packet_kinds::is_own(shape) {
         return 9;
     }
-    if !joining::fit_all(shape, count, a, b, c, d, e) {
+    if !packet_join::fit_all(shape, count, a, b, c, d, e) {
         return 10;
     }
-    let size = joining::joined_length(count, a, b, c, d, e);
+    let size = packet_join::joined_length(count, a, b, c, d, e);
     if most < size {
         return 7;
     }
@@ -59,9 +59,9 @@ fn put_packet(
     ensures { λ r. ⌜ (r ≡ length (packet (now (magic .entry)) kind (join (given count (now (a .entry)) (now (b .entry)) (now (c .entry)) (now (d .entry)) (now (e .entry))))))
         × (now (out .exit) ≡ put 0 (packet (now (magic .entry)) kind (join (given count (now (a .entry)) (now (b .entry)) (now (c .entry)) (now (d .entry)) (now (e .entry))))) (now (out .entry))) ⌝ }
 {
-    let size = joining::joined_length(count, a, b, c, d, e);
-    let data = joining::put_header(out, 0, magic, kind, size as u32);
-    joining::put_joined(out, data, count, a, b, c, d, e)
+    let size = packet_join::joined_length(count, a, b, c, d, e);
+    let data = packet_join::put_header(out, 0, magic, kind, size as u32);
+    packet_join::put_joined(out, data, count, a, b, c, d, e)
 }
 
 // Writes a packet of this shape and magic.
@@ -102,7 +102,7 @@ pub fn write_request(
 ) -> Written
     ensures { λ r. ⌜ record { answer = r; output = now (out .exit) } ≡ writing (requests .magic) (requests .most) (requests .shape kind) (now (out .entry)) kind (given count (now (a .entry)) (now (b .entry)) (now (c .entry)) (now (d .entry)) (now (e .entry))) ⌝ }
 {
-    let shape = kinds::request_shape(kind);
+    let shape = packet_kinds::request_shape(kind);
     write(out, b"\0REQ", 1024, shape, kind, count, a, b, c, d, e)
 }
 
@@ -119,6 +119,6 @@ pub fn write_response(
 ) -> Written
     ensures { λ r. ⌜ record { answer = r; output = now (out .exit) } ≡ writing (responses .magic) (responses .most) (responses .shape kind) (now (out .entry)) kind (given count (now (a .entry)) (now (b .entry)) (now (c .entry)) (now (d .entry)) (now (e .entry))) ⌝ }
 {
-    let shape = kinds::response_shape(kind);
+    let shape = packet_kinds::response_shape(kind);
     write(out, b"\0RES", 1088, shape, kind, count, a, b, c, d, e)
 }

@@ -1,8 +1,8 @@
 // The replay: reads standard input line by line, each line one frame in lowercase hexadecimal, calls the job server, and writes the
-// addressed packets of each answer one a line and then its number. What a line says is made by the crate `replaying`, and written before
+// addressed packets of each answer one a line and then its number. What a line says is made by the crate `replay_line`, and written before
 // the next line is read. Where reading or writing fails the program says so on standard error and ends.
 use input::Input;
-use replaying::TEXT_SIZE;
+use replay_line::TEXT_SIZE;
 use server::OUTPUT_SIZE;
 use server::TABLE_SIZE;
 use server::WORKLOADS_SIZE;
@@ -21,7 +21,7 @@ fn replay_line(
         return true;
     }
     let line = now.line;
-    let end = replaying::step(table, workloads, output, text, lines::text(line, buffer));
+    let end = replay_line::step(table, workloads, output, text, lines::text(line, buffer));
     io::write_all(1, lines::front(text, end))
 }
 

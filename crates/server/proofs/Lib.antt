@@ -1,4 +1,3 @@
-pub mod Lists
 pub mod Histories
 pub mod Edge
 pub mod Mistakes

@@ -7,7 +7,7 @@ use lib.ListN.{length, take, drop, replicate}
 use lib.Dec.{ltb}
 use Rattle.octets.specs.Bytes.{Bytes}
 use Rattle.octets.specs.Put.{put}
-use Rattle.server.specs.Lists.{concat, numbers}
+use Rattle.lists.specs.Lists.{concat, numbers}
 use Rattle.server.specs.Sizes.{jobCount, workloadSize, workloadsSize, outputSize}
 use Rattle.server.specs.Table.{fresh}
 use Rattle.server.specs.Rules.{obeys}

@@ -11,7 +11,7 @@ use Rattle.handle.specs.Handle.{handle, lap}
 use Rattle.sets.specs.Sets.{insert, remove, isEmpty, members}
 use Rattle.server.specs.declared.Connection.{Connection}
 use Rattle.server.specs.declared.JobRow.{JobRow}
-use Rattle.server.specs.Lists.{any, find, filter, mapFrom, numbers}
+use Rattle.lists.specs.Lists.{any, find, filter, mapFrom, numbers}
 use Rattle.server.specs.Table.{Function, Job, Table, closed, noFunction, noJob, connectionAt, functionAt, jobAt, withLastSerial, withConnections, withFunctions, withJobs, setConnection, setFunction, setJob, justOpened, withAsleep, withExceptions, withName, withAble, freshRow, withListeners, inBackground, withHolder, withRow, withTexts, unstarted, queued, heldBy, hasHandle, known, roomFor, wanted, grabbable, best, freePlace, joined}
 use Rattle.server.specs.Refusals.{errorText, isTold}
 use Rattle.server.specs.Asked.{Work, tells, reports, ends, throws, Asked, toOpen, toClose, reset, preSleep, echo, bad, canDo, cantDo, grab, submit, work, getStatus, option}

@@ -1,4 +1,3 @@
-pub mod Lists
 pub mod Sizes
 pub mod Table
 pub mod Rules

@@ -7,7 +7,7 @@ use lib.ListN.{length}
 use lib.Dec.{leb, eqb}
 use Rattle.octets.specs.Bytes.{Bytes}
 use Rattle.hex.specs.Hex.{unhex, hexByte, hex}
-use Rattle.server.specs.Lists.{concat}
+use Rattle.lists.specs.Lists.{concat}
 use Rattle.server.specs.Asked.{Event, opens, closes, sends}
 
 -- ---- a line to a frame

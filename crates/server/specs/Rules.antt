@@ -8,14 +8,9 @@ use Rattle.octets.specs.Bytes.{Bytes, same, zeroFree, within}
 use Rattle.packet.specs.Arguments.{digits}
 use Rattle.sets.specs.Sets.{has, isEmpty}
 use Rattle.server.specs.declared.Connection.{Connection}
-use Rattle.server.specs.Lists.{any, all, pairwise, numbers}
+use Rattle.lists.specs.Lists.{implies, any, all, pairwise, numbers}
 use Rattle.server.specs.Sizes.{nameSize, uniqueSize, numberSize}
 use Rattle.server.specs.Table.{Function, Job, Table, connectionAt, functionAt, live, queued, wanted, grabbable}
-
--- "if the first, then the second"
-abbrev pub implies : Bool → Bool → Bool
-implies true b = b
-implies false b = true
 
 -- ---- serials: "serials distinct, from 1 and below the next, which is at most 4,294,967,296"
 

@@ -10,7 +10,7 @@ use Rattle.packet.specs.Arguments.{join}
 use Rattle.packet.specs.Packet.{packet, requests, responses}
 use Rattle.packet.specs.Opaque.{visible, opaque}
 use Rattle.server.specs.declared.JobRow.{JobRow}
-use Rattle.server.specs.Lists.{fit}
+use Rattle.lists.specs.Lists.{fit}
 use Rattle.server.specs.Sizes.{jobCount, workloadSize}
 use Rattle.server.specs.Table.{Job, Table, fresh, functionAt, jobAt, live}
 use Rattle.server.specs.Asked.{Event, opens, closes, sends, connectionOf, asked}

@@ -11,7 +11,7 @@ use Rattle.handle.specs.Handle.{handle, lap}
 use Rattle.sets.specs.Sets.{has, isEmpty}
 use Rattle.server.specs.declared.Connection.{Connection}
 use Rattle.server.specs.declared.JobRow.{JobRow}
-use Rattle.server.specs.Lists.{any, find}
+use Rattle.lists.specs.Lists.{any, find}
 use Rattle.server.specs.Sizes.{functionCount, jobCount}
 
 -- a place for a known function: its name, and the connections able to do it. A free place has the empty name.

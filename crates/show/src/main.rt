@@ -1,12 +1,12 @@
 // Shows a capture in words: reads standard input line by line, each line one frame in lowercase hexadecimal, calls the job server, and
 // writes under the number of each line what it says, what the server answered, and how the table stands. docs/SHOW.md has the layout.
-// What is shown of a line is made by the crate `showing`, and written before the next line is read. Where reading or writing fails the
+// What is shown of a line is made by the crate `show_line`, and written before the next line is read. Where reading or writing fails the
 // program says so on standard error and ends.
 use input::Input;
 use server::OUTPUT_SIZE;
 use server::TABLE_SIZE;
 use server::WORKLOADS_SIZE;
-use showing::TEXT_SIZE;
+use show_line::TEXT_SIZE;
 
 // Writes what is shown of the line that has come; false where it could not be written. Of a line too long for a frame the buffer holds
 // enough to show that.
@@ -23,7 +23,7 @@ fn show_line(
         return true;
     }
     let line = now.line;
-    let end = showing::step(
+    let end = show_line::step(
         table,
         workloads,
         output,

@@ -1,4 +1,4 @@
--- `lap::lap_open` meets its contract: it is `serving::open`, and the length fits into 32 bits. Assumes nothing.
+-- `lap::lap_open` meets its contract: it is `call_serve::open`, and the length fits into 32 bits. Assumes nothing.
 use Rattle.lap.proofs.Lengths.{small-length}
 use borrow.Author.Needs.{needs}
 use Rattle.lap.proofs.lap_open.Statement.{statement}

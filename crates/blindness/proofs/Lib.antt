@@ -1,5 +1,0 @@
-pub mod Alike
-pub mod Blind
-pub mod Workloads
-pub mod Copies
-pub mod Lone

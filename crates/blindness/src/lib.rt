@@ -1,1 +1,0 @@
-// What opaque bytes can change: laws of the server's definitions. No code.

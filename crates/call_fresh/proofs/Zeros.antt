@@ -1,0 +1,83 @@
+-- A fresh table's bytes are zeros, column by column. Assumes nothing.
+use Prim.Native.Nat.{ℕ, zero, suc, _+_, _*_}
+use mathlib.Core.Path.{_≡_, refl, ap, ap₂, _∙_}
+use mathlib.Core.List.{[], _∷_, _++_}
+use native.Mathlib.Nat.{mul-suc, mul-zero}
+use native.Mathlib.Omega.{arith}
+use lib.ListN.{length, replicate, replicate-append-replicate, length-replicate}
+use Rattle.octets.specs.Bytes.{Bytes}
+use Rattle.octets.specs.Put.{put}
+use Rattle.server.specs.declared.Connection.{Connection}
+use Rattle.lists.specs.Lists.{fit}
+use Rattle.server.specs.Sizes.{functionCount, jobCount, nameSize, uniqueSize, numberSize}
+use Rattle.server.specs.Table.{Table, closed, noFunction, noJob, fresh}
+use Rattle.server.specs.Layout.{little, column, setSize, tableSize, bytesOf}
+use Rattle.lists.proofs.Lists.{fit-none}
+use Rattle.table_texts.specs.Places.{zeros}
+
+-- ---- one field
+
+little-zeros : (k : ℕ) → little k 0 ≡ zeros k
+unfolding little zeros
+little-zeros zero = refl
+little-zeros (suc k) = ap (λ (l : Bytes). 0 ∷ l) (little-zeros k)
+
+-- the empty text in its place
+text-zeros : (k : ℕ) → fit k [] ≡ zeros k
+unfolding zeros
+text-zeros k = fit-none k
+
+pub text-laid : (x b : Bytes) (k : ℕ) → x ≡ put 0 (fit k []) b → x ≡ put 0 (zeros k) b
+text-laid x b k e = e ∙ ap (λ (s : Bytes). put 0 s b) (text-zeros k)
+
+flag-zeros : 0 ∷ [] ≡ zeros 1
+unfolding zeros
+flag-zeros = refl
+
+-- ---- one after the other
+
+then : {s r : Bytes} (a b : ℕ) → s ≡ zeros a → r ≡ zeros b → s ++ r ≡ zeros (a + b)
+unfolding zeros
+then a b e f = ap₂ _++_ e f ∙ replicate-append-replicate a b 0
+
+rows : {A : Type 0} (f : A → Bytes) (x : A) (k : ℕ) → f x ≡ zeros k → (m : ℕ) → column f (replicate m x) ≡ zeros (k * m)
+unfolding zeros
+rows f x k e zero = rw mul-zero
+rows f x k e (suc m) =
+    let g : k + k * m ≡ k * suc m = rw mul-suc (omega arith) in
+    then k (k * m) e (rows f x k e m) ∙ ap (λ (i : ℕ). zeros i) g
+
+-- ---- the table
+
+-- n connections, q functions and p jobs, all empty
+abbrev empty : ℕ → ℕ → ℕ → Table
+empty n q p = record { last = 0; connections = replicate n closed; functions = replicate q noFunction; jobs = replicate p noJob }
+
+-- the bytes of a set
+abbrev sets : ℕ → ℕ
+sets n = setSize (length (replicate n closed))
+
+empty-zeros : (n q p : ℕ) → bytesOf (empty n q p)
+    ≡ zeros (4 + (4 * p + (2 * p + (2 * p + (1 * p + (1 * p + (1 * p + (nameSize * q + (uniqueSize * p + (numberSize * p + (numberSize * p + (sets n * q + (sets n * p + (1 * n + (1 * n + 1 * n)))))))))))))))
+unfolding bytesOf
+empty-zeros n q p =
+    then 4 _ (little-zeros 4)
+    (then (4 * p) _ (rows _ noJob 4 (little-zeros 4) p)
+    (then (2 * p) _ (rows _ noJob 2 (little-zeros 2) p)
+    (then (2 * p) _ (rows _ noJob 2 (little-zeros 2) p)
+    (then (1 * p) _ (rows _ noJob 1 (little-zeros 1) p)
+    (then (1 * p) _ (rows _ noJob 1 flag-zeros p)
+    (then (1 * p) _ (rows _ noJob 1 (little-zeros 1) p)
+    (then (nameSize * q) _ (rows _ noFunction nameSize (text-zeros nameSize) q)
+    (then (uniqueSize * p) _ (rows _ noJob uniqueSize (text-zeros uniqueSize) p)
+    (then (numberSize * p) _ (rows _ noJob numberSize (text-zeros numberSize) p)
+    (then (numberSize * p) _ (rows _ noJob numberSize (text-zeros numberSize) p)
+    (then (sets n * q) _ (rows _ noFunction (sets n) (little-zeros (sets n)) q)
+    (then (sets n * p) _ (rows _ noJob (sets n) (little-zeros (sets n)) p)
+    (then (1 * n) _ (rows _ closed 1 flag-zeros n)
+    (then (1 * n) _ (rows _ closed 1 flag-zeros n) (rows _ closed 1 flag-zeros n)))))))))))))))
+
+-- a fresh table of n connections
+pub fresh-zeros : (n : ℕ) → bytesOf (fresh n) ≡ zeros (tableSize n)
+unfolding fresh
+fresh-zeros n = empty-zeros n functionCount jobCount ∙ ap (λ (k : ℕ). zeros k) (omega (arith, length-replicate {A = Connection} n closed))

@@ -1,0 +1,50 @@
+-- `check_table::bytes_hold` meets its contract. Part by part; where one fails, so do all. Assumes nothing.
+use mathlib.Core.Path.{sym, _∙_}
+use mathlib.Core.Bool.{_&&_}
+use denote.Ref.{now}
+use Rattle.table_laws.specs.Tests.{arePadded}
+use Rattle.table_passes.proofs.Tests.{and-same, and-fails}
+use Rattle.check_table.specs.Parts.{byteRules}
+use borrow.Author.Needs.{needs}
+use Rattle.server.specs.Sizes.{functionCount, jobCount, nameSize, uniqueSize}
+use Rattle.server.specs.Layout.{namesAt, uniquesAt}
+use Rattle.check_table.proofs.bytes_hold.Statement.{statement}
+use Rattle.check_table.proofs.bytes_hold.Tie as tie
+
+flags-requires : tie.Need-flags-requires
+flags-requires c κs = search needs
+
+flags-requires-2 : tie.Need-flags-requires-2
+flags-requires-2 c κs = search needs
+
+names-padded-requires : tie.Need-names-padded-requires
+names-padded-requires c κs = search needs
+
+uniques-padded-requires : tie.Need-uniques-padded-requires
+uniques-padded-requires c κs = search needs
+
+returns : tie.Need-returns
+unfolding byteRules
+returns c = and-same (sym (c .before .before .before .if1 .taken) ∙ and-same (c .before .before .before .before .before .flags .ensures) (c .before .before .before .before .flags2 .ensures)) (and-same (sym (c .before .if2 .taken) ∙ c .before .before .names-padded .ensures) (c .uniques-padded .ensures))
+
+returns-2 : tie.Need-returns-2
+unfolding byteRules
+returns-2 c = let b = now (c .before .before .before .before .before .before .args .table) in
+    and-same (sym (c .before .before .if1 .taken) ∙ and-same (c .before .before .before .before .flags .ensures) (c .before .before .before .flags2 .ensures)) (and-fails (arePadded uniqueSize jobCount b uniquesAt) (sym (c .if2 .left) ∙ c .before .names-padded .ensures))
+
+returns-3 : tie.Need-returns-3
+unfolding byteRules
+returns-3 c = let b = now (c .before .before .before .before .args .table) in
+    and-fails (arePadded nameSize functionCount b namesAt && arePadded uniqueSize jobCount b uniquesAt) (sym (c .if1 .left) ∙ and-same (c .before .before .flags .ensures) (c .before .flags2 .ensures))
+
+pub bytes-hold-spec : {M : Type 1} → statement M
+bytes-hold-spec =
+    tie.close
+    (tie.spec
+    flags-requires
+    flags-requires-2
+    names-padded-requires
+    uniques-padded-requires
+    returns
+    returns-2
+    returns-3)

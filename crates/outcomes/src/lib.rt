@@ -1,1 +1,0 @@
-// What an event can come to: every outcome of the server's definitions, by cases. No code.

@@ -1,0 +1,198 @@
+-- The numbers of a table say what the server's definitions say of the table: the settled numbers, whom settling wakes, which functions
+-- are wanted, and where the searches among jobs end. Assumes nothing.
+use Prim.Native.Nat.{ℕ, zero, suc, _+_, _-_, _*_, _^_, _<_, _≤_}
+use mathlib.Core.Path.{_≡_, refl, ap, ap₂, sym, _∙_}
+use mathlib.Core.Bool.{Bool, true, false, not, cond, _&&_, _||_}
+use mathlib.Core.Option.{Option, none, some}
+use mathlib.Core.List.{List, [], _∷_, map}
+use native.Mathlib.Nat.{zero-add}
+use native.Mathlib.Omega.{arith}
+use borrow.Author.Tests.{ltb-true, leb-true, eqb-true, eqb-false}
+use lib.ListN.{length, getD}
+use lib.Dec.{leb, eqb}
+use Rattle.octets.specs.Bytes.{Bytes, same}
+use Rattle.octets.proofs.Strings.{and-false, and-left, and-right}
+use Rattle.handle.specs.Handle.{handle, lap, serialOf}
+use Rattle.handle.specs.declared.Serial.the-variants.{Of, None}
+use Rattle.handle.proofs.Handles.{same-serial, other-serial, no-handle}
+use Rattle.sets.specs.Sets.{has, isEmpty}
+use Rattle.server.specs.declared.Connection.{Connection}
+use Rattle.server.specs.declared.JobRow.{JobRow}
+use Rattle.lists.specs.Lists.{any, all, up, find, filter, mapFrom, numbers}
+use Rattle.server.specs.Sizes.{functionCount}
+use Rattle.server.specs.Table.{Function, Job, Table, noFunction, noRow, noJob, closed, functionAt, live, queued, heldBy, hasHandle, names, wanted, grabbable, rank, greatest, best, freePlace}
+use Rattle.server.specs.Rules.{nextSmall, serialsBelow}
+use Rattle.server.specs.Events.{Send, lost, unlessLost, dropped, wakes, awake, woken, toWake, forgot, settle, holdsHandle}
+use Rattle.lists.proofs.Lists.{number-made}
+use Rattle.lists.proofs.Maps.{map-map}
+use Rattle.plan.specs.Values.{rowsOf, ablesOf, valuesOf, canGrab, rankIn, freeRow, bestRow, serialRow, heldRow, withConnectionRows, withAbles, withRows}
+use Rattle.plan.specs.Settling.{droppedRows, wakesIn, wokenIn, toWakeIn, wantedIn, wantedMarks, settledValues}
+
+-- ---- rows of jobs
+
+any-row : (p : JobRow → Bool) (js : List Job) → any (λ j. p (j .row)) js ≡ any p (map (λ j. j .row) js)
+any-row p [] = refl
+any-row p (j ∷ js) = ap (λ (b : Bool). p (j .row) || b) (any-row p js)
+
+find-row : (p : JobRow → Bool) (js : List Job) → find (λ j. p (j .row)) js ≡ find p (map (λ j. j .row) js)
+find-row p [] = refl
+find-row p (j ∷ js) = ap (λ (o : Option ℕ). cond (p (j .row)) (some 0) (up o)) (find-row p js)
+
+able-at : (fs : List Function) (q : ℕ) → getD fs q noFunction .able ≡ getD (map (λ x. x .able) fs) q 0
+able-at [] q = refl
+able-at (x ∷ fs) zero = refl
+able-at (x ∷ fs) (suc q) = able-at fs q
+
+-- ---- searches
+
+pub free-values : (t : Table) → freePlace t ≡ freeRow (rowsOf t)
+unfolding freePlace freeRow
+free-values t = find-row (λ r. not (live r)) (t .jobs)
+
+grab-values : (fs : List Function) (c : ℕ) (r : JobRow) → grabbable fs c r ≡ canGrab (map (λ x. x .able) fs) c r
+grab-values fs c r = ap (λ (s : ℕ). queued r && has s c) (able-at fs (r .function))
+
+rank-values : (fs : List Function) (c : ℕ) (r : JobRow) → rank fs c r ≡ rankIn (map (λ x. x .able) fs) c r
+unfolding rank rankIn
+rank-values fs c r = ap (λ (b : Bool). cond b (r .priority * 4294967296 + (4294967296 - r .serial)) 0) (grab-values fs c r)
+
+-- the best by any rank
+best-by : (f : JobRow → ℕ) (js : List Job)
+    → find (λ j. not (eqb (greatest (map (λ k. f (k .row)) js)) 0) && eqb (f (j .row)) (greatest (map (λ k. f (k .row)) js))) js
+    ≡ find (λ r. not (eqb (greatest (map f (map (λ j. j .row) js))) 0) && eqb (f r) (greatest (map f (map (λ j. j .row) js)))) (map (λ j. j .row) js)
+best-by f js =
+    let m : ℕ = greatest (map (λ k. f (k .row)) js) in
+    find-row (λ r. not (eqb m 0) && eqb (f r) m) js
+    ∙ ap (λ (l : List ℕ). find (λ r. not (eqb (greatest l) 0) && eqb (f r) (greatest l)) (map (λ j. j .row) js)) (sym (map-map f (λ j. j .row) (λ j. f (j .row)) (λ j. refl) js))
+
+pub best-values : (t : Table) (c : ℕ) → best t c ≡ bestRow (ablesOf t) (rowsOf t) c
+unfolding best bestRow
+best-values t c =
+    (λ i. find (λ j. not (eqb (greatest (map (λ k. rank-values (t .functions) c (k .row) i) (t .jobs))) 0)
+    && eqb (rank-values (t .functions) c (j .row) i) (greatest (map (λ k. rank-values (t .functions) c (k .row) i) (t .jobs)))) (t .jobs))
+    ∙ best-by (rankIn (ablesOf t) c) (t .jobs)
+
+-- ---- settling
+
+dropped-rows : (js : List Job) → map (λ j. j .row) (map unlessLost js) ≡ droppedRows (map (λ j. j .row) js)
+unfolding droppedRows
+dropped-rows [] = refl
+dropped-rows (j ∷ js) = ap₂ _∷_ (go (lost (j .row))) (dropped-rows js)
+  where
+    go : (b : Bool) → (cond b noJob j) .row ≡ cond b noRow (j .row)
+    go true = refl
+    go false = refl
+
+pub wakes-values : (fs : List Function) (js : List Job) (c : ℕ) (x : Connection)
+    → wakes fs js c x ≡ wakesIn (map (λ x. x .able) fs) (map (λ j. j .row) js) c x
+wakes-values fs js c x =
+    ap (λ (b : Bool). x .asleep && b) ((λ i. any (λ j. grab-values fs c (j .row) i) js) ∙ any-row (canGrab (map (λ x. x .able) fs) c) js)
+
+pub wake-values : (t : Table) → toWake (dropped t) ≡ toWakeIn (ablesOf t) (droppedRows (rowsOf t)) (t .connections)
+unfolding toWake dropped toWakeIn
+wake-values t =
+    (λ i. filter (λ c. wakes-values (t .functions) (map unlessLost (t .jobs)) c (getD (t .connections) c closed) i) (numbers 0 (length (t .connections))))
+    ∙ ap (λ (rs : List JobRow). filter (λ c. wakesIn (ablesOf t) rs c (getD (t .connections) c closed)) (numbers 0 (length (t .connections)))) (dropped-rows (t .jobs))
+
+woken-values : (t : Table) → woken (dropped t) .connections ≡ wokenIn (ablesOf t) (droppedRows (rowsOf t)) (t .connections)
+unfolding woken dropped wokenIn
+woken-values t =
+    (λ i. mapFrom (λ c x. cond (wakes-values (t .functions) (map unlessLost (t .jobs)) c x i) (awake x) x) 0 (t .connections))
+    ∙ ap (λ (rs : List JobRow). mapFrom (λ c x. cond (wakesIn (ablesOf t) rs c x) (awake x) x) 0 (t .connections)) (dropped-rows (t .jobs))
+
+-- nobody is able to do a function that is forgotten
+forgot-able : (js : List Job) (q : ℕ) (x : Function) → (cond (wanted js q x) x noFunction) .able ≡ x .able
+forgot-able js q x = go (isEmpty (x .able)) refl
+  where
+    other : (b : Bool) → isEmpty (x .able) ≡ true → (cond b x noFunction) .able ≡ x .able
+    other true e = refl
+    other false e = sym (eqb-true (x .able) 0 e)
+
+    go : (b : Bool) → isEmpty (x .able) ≡ b → (cond (wanted js q x) x noFunction) .able ≡ x .able
+    go true e = other (wanted js q x) e
+    go false e = rw e
+
+forgot-ables : (js : List Job) (q : ℕ) (fs : List Function) → map (λ x. x .able) (mapFrom (λ k x. cond (wanted js k x) x noFunction) q fs) ≡ map (λ x. x .able) fs
+forgot-ables js q [] = refl
+forgot-ables js q (x ∷ fs) = ap₂ _∷_ (forgot-able js q x) (forgot-ables js (suc q) fs)
+
+pub settled-values : (ss : List Send) (t : Table) → valuesOf (settle ss t .table) ≡ settledValues (valuesOf t)
+unfolding valuesOf settledValues settle forgot woken dropped
+settled-values ss t = λ i.
+    withConnectionRows (woken-values t i) (withAbles (forgot-ables (map unlessLost (t .jobs)) 0 (t .functions) i) (withRows (dropped-rows (t .jobs) i) (valuesOf t)))
+
+-- the functions that stay known are the marked
+pub wanted-values : (t : Table) (q : ℕ) → q < functionCount → wanted (t .jobs) q (functionAt t q) ≡ getD (wantedMarks (ablesOf t) (rowsOf t)) q false
+unfolding wantedMarks
+wanted-values t q h =
+    ap₂ (λ (s : ℕ) (b : Bool). not (isEmpty s) || b) (able-at (t .functions) q) (any-row (names q) (t .jobs))
+    ∙ sym (number-made (wantedIn (ablesOf t) (rowsOf t)) false 0 16 q h ∙ ap (wantedIn (ablesOf t) (rowsOf t)) (zero-add q))
+
+-- ---- jobs by handle: where the definitions compare texts, the numbers compare serials
+
+module _ (h : Bytes) (s : ℕ) (e : serialOf lap h ≡ Of s) where
+  same-as-serial : (n : ℕ) → 1 ≤ n → n < 2 ^ 32 → same (handle lap n) h ≡ eqb n s
+  same-as-serial n l k = go (eqb n s) refl
+    where
+      go : (b : Bool) → eqb n s ≡ b → same (handle lap n) h ≡ b
+      go true q = let p : n ≡ s = eqb-true n s q in rw p (same-serial lap h s e)
+      go false q = let p : n ≡ s → ⊥ = eqb-false n s q in other-serial lap h n s l k e (λ z. p (sym z))
+
+  has-serial : (r : JobRow) → r .serial < 2 ^ 32 → hasHandle h r ≡ live r && eqb (r .serial) s
+  unfolding hasHandle
+  has-serial r k = go (eqb (r .serial) 0) refl
+    where
+      go : (b : Bool) → eqb (r .serial) 0 ≡ b → not b && same (handle lap (r .serial)) h ≡ not b && eqb (r .serial) s
+      go true q = refl
+      go false q = let p : r .serial ≡ 0 → ⊥ = eqb-false (r .serial) 0 q in same-as-serial (r .serial) (omega arith) k
+
+  holds-serial : (c : ℕ) (r : JobRow) → r .serial < 2 ^ 32 → holdsHandle c h r ≡ heldBy c r && eqb (r .serial) s
+  unfolding holdsHandle
+  holds-serial c r k = ap (λ (b : Bool). heldBy c r && b) (has-serial r k) ∙ go (live r) (eqb (r .holder) (suc c)) (eqb (r .serial) s)
+    where
+      go : (a b d : Bool) → (a && b) && (a && d) ≡ (a && b) && d
+      go true b d = refl
+      go false b d = refl
+
+no-serial : (h : Bytes) → serialOf lap h ≡ None → (r : JobRow) → r .serial < 2 ^ 32 → hasHandle h r ≡ false
+unfolding hasHandle
+no-serial h e r k = go (eqb (r .serial) 0) refl
+  where
+    go : (b : Bool) → eqb (r .serial) 0 ≡ b → not b && same (handle lap (r .serial)) h ≡ false
+    go true q = refl
+    go false q = let p : r .serial ≡ 0 → ⊥ = eqb-false (r .serial) 0 q in no-handle lap h (r .serial) (omega arith) k e
+
+-- tests of rows that say the same where serials are small
+module _ (p q : JobRow → Bool) (n : ℕ) (f : (r : JobRow) → r .serial ≤ n → p r ≡ q r) where
+  find-same : (js : List Job) → all (λ j. leb (j .row .serial) n) js ≡ true → find (λ j. p (j .row)) js ≡ find q (map (λ j. j .row) js)
+  find-same [] a = refl
+  find-same (j ∷ js) a =
+      let h = leb-true (j .row .serial) n (and-left (leb (j .row .serial) n) _ a) in
+      ap₂ (λ (b : Bool) (o : Option ℕ). cond b (some 0) (up o)) (f (j .row) h) (find-same js (and-right (leb (j .row .serial) n) _ a))
+
+find-nothing : (rs : List JobRow) → find (λ r. false) rs ≡ none
+find-nothing [] = refl
+find-nothing (r ∷ rs) = ap up (find-nothing rs)
+
+module _ (t : Table) (h : Bytes) (small : nextSmall t ≡ true) (below : serialsBelow t ≡ true) where
+  fits : (r : JobRow) → r .serial ≤ t .last → r .serial < 2 ^ 32
+  fits r l = let k = ltb-true (t .last) 4294967296 small in omega arith
+
+  pub serial-values : (s : ℕ) → serialOf lap h ≡ Of s → find (λ j. hasHandle h (j .row)) (t .jobs) ≡ serialRow s (rowsOf t)
+  unfolding serialRow
+  serial-values s e = find-same (hasHandle h) (λ r. live r && eqb (r .serial) s) (t .last) (λ r l. has-serial h s e r (fits r l)) (t .jobs) below
+
+  pub held-values : (c s : ℕ) → serialOf lap h ≡ Of s → find (λ j. holdsHandle c h (j .row)) (t .jobs) ≡ heldRow c s (rowsOf t)
+  unfolding heldRow
+  held-values c s e =
+      find-same (holdsHandle c h) (λ r. heldBy c r && eqb (r .serial) s) (t .last) (λ r l. holds-serial h s e c r (fits r l)) (t .jobs) below
+
+  module _ (e : serialOf lap h ≡ None) where
+    pub serial-none : find (λ j. hasHandle h (j .row)) (t .jobs) ≡ none
+    serial-none = find-same (hasHandle h) (λ r. false) (t .last) (λ r l. no-serial h e r (fits r l)) (t .jobs) below ∙ find-nothing (rowsOf t)
+
+    pub held-none : (c : ℕ) → find (λ j. holdsHandle c h (j .row)) (t .jobs) ≡ none
+    unfolding holdsHandle
+    held-none c =
+        find-same (holdsHandle c h) (λ r. false) (t .last) (λ r l. ap (λ (b : Bool). heldBy c r && b) (no-serial h e r (fits r l)) ∙ and-false (heldBy c r)) (t .jobs) below
+        ∙ find-nothing (rowsOf t)

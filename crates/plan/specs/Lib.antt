@@ -1,0 +1,6 @@
+pub mod Values
+pub mod Settling
+pub mod Plans
+pub mod Busy
+pub mod Steps
+pub mod Briefs

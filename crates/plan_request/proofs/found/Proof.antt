@@ -1,0 +1,33 @@
+-- `plan_request::found` meets its contract, by the cases of the handle. Assumes nothing.
+use mathlib.Core.Path.{sym, _∙_}
+use Rattle.plan_request.proofs.Planned.{job-found, job-none}
+use borrow.Author.Needs.{needs}
+use Rattle.plan_request.proofs.found.Statement.{statement}
+use Rattle.plan_request.proofs.found.Tie as tie
+
+serial-of-requires : tie.Need-serial-of-requires
+serial-of-requires c κs = search needs
+
+enum-known-serial : tie.Need-enum-known-serial
+enum-known-serial c = search needs
+
+serial-row-requires : tie.Need-serial-row-requires
+serial-row-requires c κs = search needs
+
+enum-told : tie.Need-enum-told
+enum-told c = search needs
+
+returns : tie.Need-returns
+returns c =
+    let s = c .before .before .before .before .before .before .before in
+    job-found _ _ (s .pre .0) _ _ (sym (c .before .before .before .before .serial-of .ensures) ∙ c .before .before .serial .given .1) (c .serial-row .ensures)
+
+returns-2 : tie.Need-returns-2
+returns-2 c =
+    let s = c .before .before .before .before .before in
+    job-none _ _ (s .pre .0) (sym (c .before .before .serial-of .ensures) ∙ c .enum-told .given .1)
+
+pub found-spec : {M : Type 1} → statement M
+found-spec =
+    tie.close
+    (tie.spec serial-of-requires enum-known-serial serial-row-requires enum-told returns returns-2)

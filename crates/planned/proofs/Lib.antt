@@ -1,4 +1,0 @@
-pub mod Settled
-pub mod Places
-pub mod Texts
-pub mod Decides

@@ -1,1 +1,0 @@
-// A plan does what the server's definitions decide. No code.

@@ -1,1 +1,0 @@
-// Every table rule of document 01 is kept by every event: theorems about the server's definitions. No code.

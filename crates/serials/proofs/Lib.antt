@@ -1,3 +1,0 @@
-pub mod Serials
-pub mod Handles
-pub mod Refusals

@@ -1,0 +1,11 @@
+pub mod Alike
+pub mod Blind
+pub mod Workloads
+pub mod Copies
+pub mod Lone
+pub mod Forwarded
+pub mod OpaqueParts
+pub mod Outputs
+pub mod Calls
+pub mod Stored
+pub mod LoneCalls

@@ -1,0 +1,207 @@
+-- The output always fits: with a table of n connections that obeys the rules, what an event sends has at most `outputSize n` bytes: a
+-- copy of the longest request for each connection, or one answer and a NOOP for each. Assumes nothing.
+use Prim.Native.Nat.{ℕ, zero, suc, _+_, _-_, _*_, _<_, _≤_}
+use mathlib.Core.Path.{_≡_, refl, ap}
+use mathlib.Core.Bool.{Bool, true, false, not}
+use mathlib.Core.Option.{Option, none, some}
+use mathlib.Core.List.{List, [], _∷_, _++_, map}
+use native.Mathlib.Nat.{mul-suc}
+use native.Mathlib.Omega.{arith}
+use borrow.Author.Tests.{leb-true}
+use lib.ListN.{length, getD, length-append}
+use lib.Dec.{leb, ltb, eqb}
+use Rattle.octets.specs.Bytes.{Bytes, same}
+use Rattle.octets.proofs.Strings.{same-is}
+use Rattle.handle.specs.Handle.{handle, lap}
+use Rattle.handle.proofs.Handles.{handle-most}
+use Rattle.packet.specs.Arguments.{join}
+use Rattle.sets.specs.Sets.{has, members}
+use Rattle.lists.specs.Lists.{find, filter, numbers}
+use Rattle.server.specs.Sizes.{outputSize}
+use Rattle.server.specs.Table.{Table, noJob, connectionAt, functionAt, jobAt, setJob, hasHandle}
+use Rattle.server.specs.Rules.{together}
+use Rattle.server.specs.Refusals.{refusalTexts, isTold}
+use Rattle.server.specs.Asked.{Event, Work, Asked, echo, work, getStatus, connectionOf, asked}
+use Rattle.server.specs.Events.{Send, plain, copy, assign, Decision, refuse, settle, dropped, wakes, toWake, noop, created, exceptionsName, flag, hears, listenersOf, worked, statusAt, served, admitted, decide}
+use Rattle.server.specs.Server.{Server, shownBy, opaqueOf, render, decided, answer}
+use Rattle.server.specs.Call.{sentBytes}
+use Rattle.lists.proofs.Lists.{length-numbers, length-fit}
+use Rattle.lists.proofs.Cases.{cond-both}
+use Rattle.server_laws.proofs.Outcome.{Change, Outcome, outcome}
+use Rattle.lists.proofs.Searches.{found}
+use Rattle.lists.proofs.Rows.{all-at}
+use Rattle.server_laws.proofs.Lengths.{long-settle, long-decided}
+use Rattle.server_laws.proofs.Going.{best-found}
+use Rattle.server_laws.proofs.Obeyed.{obeyed}
+use Rattle.server_calls.proofs.Refusals.{short-at}
+use Rattle.server_calls.proofs.Follows.{Running, fitting}
+use Rattle.server_calls.proofs.Quiet.{worker-wakes-nobody}
+use Rattle.server_calls.proofs.Packets.{weighs, weigh-none, weigh-more, weigh-append, weigh-noops, data-short, handle-short}
+
+-- ---- how many there are
+
+length-filter : {A : Type 0} (p : A → Bool) (l : List A) → length (filter p l) ≤ length l
+length-filter p [] = omega arith
+length-filter {A = A} p (x ∷ l) =
+    let h = length-filter p l in
+    cond-both (λ (m : List A). length m ≤ suc (length l)) (p x) (omega arith) (omega arith)
+
+length-members : (n s : ℕ) → length (members n s) ≤ n
+unfolding members
+length-members zero s = omega arith
+length-members (suc n) s =
+    let h = length-members n s in
+    cond-both (λ (m : List ℕ). length (members n s ++ m) ≤ suc n) (has s n)
+    (omega (arith, length-append (members n s) (n ∷ []))) (omega (arith, length-append (members n s) []))
+
+pub wake-most : (t : Table) → length (toWake t) ≤ length (t .connections)
+unfolding toWake
+wake-most t = omega (arith, length-filter (λ c. wakes (t .functions) (t .jobs) c (connectionAt t c)) (numbers 0 (length (t .connections))), length-numbers 0 (length (t .connections)))
+
+-- ---- how long each is
+
+module _ (e : Event) (s : Server) where
+  plain-weight : (to kind : ℕ) (args : List Bytes) → weighs e s (plain to kind args ∷ []) ≡ 13 + length (join args)
+  unfolding render
+  plain-weight to kind args = rw (weigh-more e s (plain to kind args) [], weigh-none e s) (omega arith)
+
+  copies-weight : (kind : ℕ) (ls : List ℕ) → length (shownBy e) + length (opaqueOf e) ≤ 1024 → weighs e s (map (λ l. copy l kind) ls) ≤ 1037 * length ls
+  unfolding render
+  copies-weight kind [] h = rw (weigh-none e s) (omega arith)
+  copies-weight kind (l ∷ ls) h =
+      let r = copies-weight kind ls h in
+      rw (weigh-more e s (copy l kind) (map (λ l. copy l kind) ls), mul-suc) (omega arith)
+
+  -- a job's handle, function, unique and workload
+  assign-weight : (uniq : Bool) (to p : ℕ) → together (s .table) (jobAt (s .table) p) ≤ 1022 → weighs e s (assign uniq to p ∷ []) ≤ 1054
+  unfolding render join
+  assign-weight true to p h =
+      let t = s .table in
+      let j = jobAt t p in
+      let f = functionAt t (j .row .function) .name in
+      let m = handle-most lap (j .row .serial) in
+      rw (
+        weigh-more e s (assign true to p) [],
+        weigh-none e s,
+        length-fit (j .row .size) (getD (s .workloads) p []),
+        length-append (handle lap (j .row .serial)) (0 ∷ (f ++ (0 ∷ (j .unique ++ (0 ∷ []))))),
+        length-append f (0 ∷ (j .unique ++ (0 ∷ []))),
+        length-append (j .unique) (0 ∷ []),
+      )
+      (omega arith)
+  assign-weight false to p h =
+      let t = s .table in
+      let j = jobAt t p in
+      let f = functionAt t (j .row .function) .name in
+      let m = handle-most lap (j .row .serial) in
+      rw (
+        weigh-more e s (assign false to p) [],
+        weigh-none e s,
+        length-fit (j .row .size) (getD (s .workloads) p []),
+        length-append (handle lap (j .row .serial)) (0 ∷ (f ++ (0 ∷ []))),
+        length-append f (0 ∷ []),
+      )
+      (omega arith)
+
+  -- a status: the handle, two flags and two numbers
+  status-weight : (to : ℕ) (h : Bytes) (f g : Bool) (n d : Bytes) → length h ≤ 1024 → length n ≤ 10 → length d ≤ 10 → weighs e s (plain to 20 (h ∷ flag f ∷ flag g ∷ n ∷ d ∷ []) ∷ []) ≤ 1063
+  unfolding join
+  status-weight to h f g n d lh ln ld =
+      rw (plain-weight to 20 (h ∷ flag f ∷ flag g ∷ n ∷ d ∷ []), length-append h (0 ∷ (flag f ++ (0 ∷ (flag g ++ (0 ∷ (n ++ (0 ∷ d))))))), length-append n (0 ∷ d)) (omega arith)
+
+  created-weight : (to serial : ℕ) → weighs e s (created to serial ∷ []) ≤ 1063
+  unfolding join
+  created-weight to serial = rw (plain-weight to 8 (handle lap serial ∷ [])) (omega (arith, handle-most lap serial))
+
+  option-weight : (to : ℕ) (name : Bytes) → same name exceptionsName ≡ true → weighs e s (plain to 27 (name ∷ []) ∷ []) ≤ 1063
+  unfolding join
+  option-weight to name q = rw (plain-weight to 27 (name ∷ []), same-is name exceptionsName q) (omega arith)
+
+  refusal-weight : (c n : ℕ) (t : Table) → weighs e s (refuse c n t .packets) ≤ 25
+  unfolding refuse join
+  refusal-weight c n t =
+      let l = short-at 9 refusalTexts n refl in
+      cond-both (λ (ss : List Send). weighs e s ss ≤ 25) (isTold n) (rw (plain-weight c 19 _) (omega arith)) (rw (weigh-none e s) (omega arith))
+
+-- ---- every event
+
+module _ (n : ℕ) (few : n ≤ 256) (e : Event) (s : Server) (h : Running n s) where
+  -- the end of an event adds at most one NOOP for each connection
+  settled-weight : (ss : List Send) (u : Table) → decided e (s .table) ≡ settle ss u → weighs e s ss ≤ 1063 → weighs e s (settle ss u .packets) ≤ outputSize n
+  unfolding settle dropped
+  settled-weight ss u q l =
+      let a = long-settle ss u .connections in
+      let b = long-decided e (s .table) .connections in
+      let c = ap (λ (d : Decision). length (d .table .connections)) q in
+      let m = wake-most (dropped u) in
+      let k = h .shaped .connections in
+      rw (weigh-append e s ss (map noop (toWake (dropped u))), weigh-noops e s (toWake (dropped u))) (omega arith)
+
+  silent-weight : (u : Table) → decided e (s .table) ≡ settle [] u → weighs e s (settle [] u .packets) ≤ outputSize n
+  silent-weight u q = settled-weight [] u q (rw (weigh-none e s) (omega arith))
+
+  one-weight : (x : Send) (u : Table) → decided e (s .table) ≡ settle (x ∷ []) u → weighs e s (x ∷ []) ≤ 1063 → weighs e s (settle (x ∷ []) u .packets) ≤ outputSize n
+  one-weight x u q l = settled-weight (x ∷ []) u q (omega arith)
+
+  job-together : (p : ℕ) → p < length (s .table .jobs) → together (s .table) (jobAt (s .table) p) ≤ 1022
+  job-together p i = leb-true _ 1022 (all-at (λ j. leb (together (s .table) j) 1022) (s .table .jobs) p noJob (obeyed (s .table) (h .rules) .sound .sizes) i)
+
+  -- a worker packet: at most one copy for each connection, and no NOOP
+  worker-weight : (how : Work) (kind : ℕ) (j x y : Bytes) (p : ℕ) → asked e ≡ work how kind j x y
+      → weighs e s (settle (map (λ l. copy l kind) (filter (hears how (s .table)) (listenersOf (s .table) (jobAt (s .table) p .row)))) (setJob (s .table) p (worked how x y (jobAt (s .table) p))) .packets) ≤ outputSize n
+  unfolding settle
+  worker-weight how kind j x y p q =
+      let t = s .table in
+      let ls = listenersOf t (jobAt t p .row) in
+      let a = length-filter (hears how t) ls in
+      let b = length-members (length (t .connections)) (jobAt t p .row .listeners) in
+      let c = copies-weight e s kind (filter (hears how t) ls) (data-short e (work how kind j x y) q refl) in
+      let k = h .shaped .connections in
+      rw (worker-wakes-nobody t p how x y (obeyed t (h .rules) .idle), weigh-append e s (map (λ l. copy l kind) (filter (hears how t) ls)) [], weigh-none e s) (omega arith)
+
+  status-at-weight : (c : ℕ) (j : Bytes) (o : Option ℕ) → find (λ k. hasHandle j (k .row)) (s .table .jobs) ≡ o → length j ≤ 1024
+      → decided e (s .table) ≡ statusAt o c j (s .table) → weighs e s (statusAt o c j (s .table) .packets) ≤ outputSize n
+  unfolding statusAt
+  status-at-weight c j none f l q = one-weight _ (s .table) q (status-weight e s c j false false (flag false) (flag false) l (omega arith) (omega arith))
+  status-at-weight c j (some p) f l q =
+      let t = s .table in
+      let i : p < length (t .jobs) = found (λ k. hasHandle j (k .row)) noJob (t .jobs) (some p) f .inside in
+      let g = fitting n (omega arith) s h .jobs p (omega (arith, h .shaped .jobs)) in
+      one-weight _ t q (status-weight e s c j true (not (eqb (jobAt t p .row .holder) 0)) (jobAt t p .numerator) (jobAt t p .denominator) l (g .numerator .within) (g .denominator .within))
+
+  -- asking for a status is refused, or answered with a status
+  admitted-status : (b o : Bool) (c : ℕ) (j : Bytes) → length j ≤ 1024 → decided e (s .table) ≡ admitted b o c (getStatus j) (s .table)
+      → weighs e s (admitted b o c (getStatus j) (s .table) .packets) ≤ outputSize n
+  unfolding admitted served
+  admitted-status false o c j l q = omega (arith, refusal-weight e s c 2 (s .table))
+  admitted-status true false c j l q = omega (arith, refusal-weight e s c 3 (s .table))
+  admitted-status true true c j l q = status-at-weight c j _ refl l q
+
+  status-event : (j : Bytes) → asked e ≡ getStatus j → weighs e s (decided e (s .table) .packets) ≤ outputSize n
+  unfolding decided decide
+  status-event j q =
+      let d : decided e (s .table) ≡ decide (connectionOf e) (getStatus j) (s .table) = ap (λ (a : Asked). decide (connectionOf e) a (s .table)) q in
+      rw d (admitted-status _ _ (connectionOf e) j (handle-short e j q) d)
+
+  event-weight : {a : Asked} {d : Decision} → asked e ≡ a → decided e (s .table) ≡ d → Outcome (connectionOf e) (s .table) a d → weighs e s (decided e (s .table) .packets) ≤ outputSize n
+  unfolding join
+  event-weight p q (Outcome.refused a m) = rw q (omega (arith, refusal-weight e s (connectionOf e) m (s .table)))
+  event-weight p q (Outcome.opened a i l o) = rw q (silent-weight _ q)
+  event-weight p q (Outcome.done a ss u l o Change.closed) = rw q (silent-weight _ q)
+  event-weight p q (Outcome.done a ss u l o (Change.able f k r)) = rw q (silent-weight _ q)
+  event-weight p q (Outcome.done a ss u l o (Change.unknown f r)) = rw q (silent-weight _ q)
+  event-weight p q (Outcome.done a ss u l o (Change.disabled f k r)) = rw q (silent-weight _ q)
+  event-weight p q (Outcome.done a ss u l o Change.cleared) = rw q (silent-weight _ q)
+  event-weight p q (Outcome.done a ss u l o Change.slept) = rw q (silent-weight _ q)
+  event-weight p q (Outcome.done a ss u l o (Change.noJobFor uniq r)) = rw q (one-weight _ _ q (rw (plain-weight e s (connectionOf e) 10 []) (omega arith)))
+  event-weight p q (Outcome.done a ss u l o (Change.grabbed uniq k r)) = rw q (one-weight _ _ q (omega (arith, assign-weight e s uniq (connectionOf e) k (job-together k (best-found (s .table) (connectionOf e) k r .0)))))
+  event-weight p q (Outcome.done a ss u l o (Change.joins priority background f v size k r)) = rw q (one-weight _ _ q (created-weight e s (connectionOf e) _))
+  event-weight p q (Outcome.done a ss u l o (Change.accepts priority background f v size k m r₁ r₂ r₃ i)) = rw q (one-weight _ _ q (created-weight e s (connectionOf e) _))
+  event-weight p q (Outcome.done a ss u l o (Change.worker how kind j x y k r)) = rw q (worker-weight how kind j x y k p)
+  event-weight p q (Outcome.done a ss u l o (Change.status j args)) = status-event j p
+  event-weight p q (Outcome.done a ss u l o (Change.optioned name r)) = rw q (one-weight _ _ q (option-weight e s (connectionOf e) name r))
+  event-weight p q (Outcome.done a ss u l o Change.echoed) = rw q (one-weight _ _ q (omega (arith, copies-weight e s 17 (connectionOf e ∷ []) (data-short e echo p refl))))
+
+  pub output-fits : length (sentBytes (answer e s .sent)) ≤ outputSize n
+  unfolding answer decided weighs
+  output-fits = event-weight refl refl (outcome (connectionOf e) (asked e) (s .table))

@@ -1,0 +1,115 @@
+-- A new job keeps a sound table sound: its function's name is put at the place found for it, and it is no other job's twin, for
+-- otherwise it would have joined that one. Assumes nothing.
+use Prim.Native.Nat.{ℕ, suc, _+_, _<_}
+use mathlib.Core.Path.{_≡_, refl, ap, sym, _∙_}
+use mathlib.Core.Bool.{Bool, true, false, not}
+use mathlib.Core.Option.{none, some}
+use mathlib.Core.List.{[]}
+use borrow.Author.Tests.{le-leb, lt-ltb, not-true}
+use lib.ListN.{length, set, length-set}
+use lib.Dec.{leb, ltb, leb·zero, eqb·suc-zero}
+use Rattle.octets.specs.Bytes.{Bytes, same, every, zeroFree, within}
+use Rattle.octets.proofs.Strings.{and-left, and-right, and-both, same-refl}
+use Rattle.packet.specs.Layout.{function, unique}
+use Rattle.packet.specs.Arguments.{fits}
+use Rattle.server.specs.declared.JobRow.{JobRow}
+use Rattle.server.specs.Sizes.{uniqueSize}
+use Rattle.server.specs.Table.{Function, Job, Table, noFunction, noJob, functionAt, jobAt, setFunction, live, roomFor, joins, joined, freshRow, withName}
+use Rattle.server.specs.Events.{submittedBy, newJob, accepted}
+use Rattle.server.specs.Rules.{textWithin, together, isOpen, onlyOpen}
+use Rattle.lists.proofs.Searches.{found}
+use Rattle.lists.proofs.Rows.{clash, all-at, all-row}
+use Rattle.server_laws.proofs.Requests.{Submitted}
+use Rattle.server_laws.proofs.Openness.{none-open, open-insert}
+use Rattle.server_laws.proofs.Sound.{Sound, rowMeans}
+use Rattle.server_laws.proofs.Jobs.{Twin, New, sound-new}
+use Rattle.server_laws.proofs.Functions.{job-known, Place, there, free, Room, room, name-some, room-name, sound-name}
+
+-- what a submission leaves of a row
+pub record Kept (r s : JobRow) : Type 0 where
+  pub serial : s .serial ≡ r .serial
+  pub function : s .function ≡ r .function
+  pub priority : s .priority ≡ r .priority
+  pub holder : s .holder ≡ r .holder
+  pub size : s .size ≡ r .size
+
+pub submitted-keeps : (c : ℕ) (b : Bool) (r : JobRow) → Kept r (submittedBy c b r)
+submitted-keeps c true r = record { serial = refl; function = refl; priority = refl; holder = refl; size = refl }
+submitted-keeps c false r = record { serial = refl; function = refl; priority = refl; holder = refl; size = refl }
+
+unique-within : (u : Bytes) → fits unique u ≡ true → textWithin uniqueSize u ≡ true
+unfolding fits
+unique-within u e = and-both (leb (length u) 64) (zeroFree u) (and-right (leb 0 (length u)) _ (and-left (within 0 64 (length u)) (zeroFree u) e)) (and-right (within 0 64 (length u)) (zeroFree u) e)
+
+module _ (c : ℕ) (t : Table) (inside : c < length (t .connections)) (opened : isOpen t c ≡ true)
+    (priority : ℕ) (background : Bool) (f u : Bytes) (size q p : ℕ) (g : Submitted priority f u size)
+    (alone : joined t f u ≡ none) (here : roomFor (t .functions) f ≡ some q) (h : Sound t) where
+  -- the function's place, and the table with its name there
+  abbrev place : Function
+  place = withName f (functionAt t q)
+
+  abbrev tableNamed : Table
+  tableNamed = setFunction t q place
+
+  abbrev bare : JobRow
+  bare = freshRow (suc (t .last)) q priority size
+
+  abbrev new : Job
+  new = newJob c priority background q u size (suc (t .last))
+
+  keeps : Kept bare (new .row)
+  keeps = submitted-keeps c background bare
+
+  space : Room t f q
+  space = room t f q here
+
+  abilities-open : onlyOpen t (functionAt t q .able) ≡ true
+  abilities-open = all-row (λ x. onlyOpen t (x .able)) (t .functions) q noFunction (h .abilities) (none-open t)
+
+  sound-named : Sound tableNamed
+  sound-named = sound-name t f q place space refl (g .function) abilities-open h
+
+  new-name : functionAt tableNamed (new .row .function) .name ≡ f
+  new-name = rw (keeps .function) (room-name t f q place space refl (g .function) abilities-open h)
+
+  -- a job of this function has this very name
+  name-there : Place t f q → (i : ℕ) → i < length (t .jobs) → live (jobAt t i .row) ≡ true → q ≡ jobAt t i .row .function → functionAt t (jobAt t i .row .function) .name ≡ f
+  name-there (there e) i l v w = rw (← w) e
+  name-there (free e n) i l v w = clash (job-known t h i l v) (rw (← w, e) (ap not (same-refl [])))
+
+  no-twin : (i : ℕ) → i < length (t .jobs) → Twin new (jobAt t i) → ⊥
+  unfolding joined
+  no-twin i l w =
+      let k = jobAt t i in
+      let e : functionAt t (k .row .function) .name ≡ f = name-there (space .place) i l (w .second) (sym (keeps .function) ∙ w .function) in
+      let n : joins (t .functions) f u k ≡ false = not-true _ (all-at (λ j. not (joins (t .functions) f u j)) (t .jobs) i noJob (found (joins (t .functions) f u) noJob (t .jobs) none alone) l) in
+      let a : same (k .unique) u ≡ true = rw (w .unique) (same-refl (k .unique)) in
+      clash (and-both (live (k .row)) _ (w .second) (and-both (not (same u [])) _ (ap not (w .someUnique)) (and-both (same (k .unique) u) _ a (rw e (same-refl f))))) n
+
+  new-listeners : (b : Bool) → onlyOpen t (submittedBy c b bare .listeners) ≡ true
+  new-listeners true = none-open t
+  new-listeners false = open-insert t 0 c inside opened (none-open t)
+
+  new-means : rowMeans tableNamed new ≡ true
+  new-means =
+      let l : live (new .row) ≡ true = rw (keeps .serial) (ap not (eqb·suc-zero (t .last))) in
+      rw l (and-both (leb (new .row .priority) 2) _ (rw (keeps .priority) (le-leb priority 2 (g .low)))
+      (and-both (ltb (new .row .function) (length (set (t .functions) q place))) _ (rw (keeps .function, length-set (t .functions) q place) (lt-ltb q (length (t .functions)) (space .inside)))
+      (rw (keeps .holder) (leb·zero (length (t .connections))))))
+
+  is-new : New tableNamed new
+  unfolding every
+  is-new =
+      record {
+        serial = keeps .serial;
+        texts = and-both (textWithin uniqueSize u) true (unique-within u (g .unique)) refl;
+        sizes = rw (new-name, keeps .size) (le-leb (length f + length u + size) 1022 (g .together));
+        means = new-means;
+        listeners = new-listeners background;
+        holder = rw (keeps .holder);
+        named = rw (new-name, name-some f (g .function));
+        alone = no-twin;
+      }
+
+  pub sound-accepted : t .last < 4294967295 → Sound (accepted q f p new t)
+  sound-accepted l = sound-new tableNamed p new l is-new sound-named

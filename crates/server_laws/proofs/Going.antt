@@ -1,0 +1,156 @@
+-- What becomes of one connection and of one unfinished job: a sound table stays sound when a connection that stays open changes, and
+-- when a job that a search found is grabbed, joined or worked on. Assumes nothing.
+use Prim.Native.Nat.{ℕ, suc, _<_}
+use mathlib.Core.Path.{_≡_, refl, sym, _∙_}
+use mathlib.Core.Bool.{Bool, true, false, not, _&&_, _||_}
+use mathlib.Core.Option.{some}
+use mathlib.Core.List.{List, map}
+use borrow.Author.Tests.{le-leb, eqb-true, eqb-false, not-true}
+use lib.ListN.{length, set, length-set}
+use lib.Dec.{leb, ltb, eqb}
+use Rattle.octets.specs.Bytes.{Bytes}
+use Rattle.octets.proofs.Strings.{and-left, and-right, and-both}
+use Rattle.packet.specs.Layout.{function, unique}
+use Rattle.packet.specs.Arguments.{fits}
+use Rattle.sets.specs.Sets.{insert}
+use Rattle.server.specs.declared.Connection.{Connection}
+use Rattle.server.specs.declared.JobRow.{JobRow}
+use Rattle.lists.specs.Lists.{find}
+use Rattle.server.specs.Table.{Function, Job, Table, noJob, connectionAt, jobAt, setConnection, setJob, withRow, withTexts, withListeners, inBackground, withHolder, live, queued, heldBy, grabbable, rank, greatest, best, joins, joined}
+use Rattle.server.specs.Asked.{Work, tells, reports, ends, throws}
+use Rattle.server.specs.Events.{sleeping, submittedBy, holdsHandle, worked}
+use Rattle.server.specs.Rules.{storedNumber, rowHasMeaning, isOpen}
+use Rattle.lists.proofs.Cases.{all2-set}
+use Rattle.lists.proofs.Searches.{found}
+use Rattle.lists.proofs.Rows.{implies-by, all-imp, all-set}
+use Rattle.server_laws.proofs.Requests.{Told}
+use Rattle.server_laws.proofs.Openness.{open-insert, open-more, holder-more, still-open}
+use Rattle.server_laws.proofs.Sound.{Sound, rowMeans, sound-connections}
+use Rattle.server_laws.proofs.Jobs.{Still, Goes, over, on, sound-jobs}
+
+-- ---- connections
+
+-- a row of an open connection
+pub sound-connection : (t : Table) (c : ℕ) (x : Connection) → x .opened ≡ true → Sound t → Sound (setConnection t c x)
+sound-connection t c x o h =
+    let u = setConnection t c x in
+    let long = length-set (t .connections) c x in
+    let more = still-open t c x o in
+    sound-connections t (set (t .connections) c x) long
+    (all-imp _ _ (λ y e. open-more t u long more (y .able) e) (t .functions) (h .abilities))
+    (all-imp _ _ (λ j e. open-more t u long more (j .row .listeners) e) (t .jobs) (h .listeners))
+    (all-imp _ _ (λ j e. holder-more t u more (j .row .holder) e) (t .jobs) (h .holders))
+    (all-set _ (t .connections) c x (h .clear) (implies-by (x .asleep || x .exceptions) (x .opened) (λ e. o)))
+    h
+
+pub sound-sleeping : (t : Table) (c : ℕ) (b : Bool) → connectionAt t c .opened ≡ true → Sound t → Sound (sleeping b c t)
+unfolding sleeping
+sound-sleeping t c b o h = sound-connection t c _ o h
+
+-- ---- jobs
+
+pub still-same : (t : Table) (j : Job) → Still t j j
+still-same t j = record { serial = refl; function = refl; size = refl; unique = refl; texts = λ e. e; means = λ e. e; listeners = λ e. e; holder = λ e. e }
+
+-- one job's row anew
+pub sound-job : (t : Table) (p : ℕ) (k : Job) → Goes t (jobAt t p) k → Sound t → Sound (setJob t p k)
+sound-job t p k g h = sound-jobs t (all2-set (Goes t) (λ j. on (still-same t j)) (t .jobs) p noJob k g) h
+
+-- an unfinished job's row keeps its meaning with another holder, if that is one
+pub live-means : (t : Table) (j k : Job) → live (j .row) ≡ true → k .row .serial ≡ j .row .serial → k .row .priority ≡ j .row .priority → k .row .function ≡ j .row .function
+    → (leb (j .row .holder) (length (t .connections)) ≡ true → leb (k .row .holder) (length (t .connections)) ≡ true) → rowMeans t j ≡ true → rowMeans t k ≡ true
+live-means t j k l s p f h e =
+    let m : rowHasMeaning t j ≡ true = rw l at e in
+    let m′ = and-right (leb (j .row .priority) 2) _ m in
+    let l′ : live (k .row) ≡ true = rw s l in
+    rw l′ (and-both (leb (k .row .priority) 2) _ (rw p (and-left (leb (j .row .priority) 2) _ m))
+    (and-both (ltb (k .row .function) (length (t .functions))) _ (rw f (and-left (ltb (j .row .function) (length (t .functions))) _ m′))
+    (h (and-right (ltb (j .row .function) (length (t .functions))) _ m′))))
+
+-- ---- what the searches found
+
+ranked : (fs : List Function) (c : ℕ) (r : JobRow) → (rank fs c r ≡ 0 → ⊥) → grabbable fs c r ≡ true
+unfolding rank
+ranked fs c r n = go (grabbable fs c r) refl
+  where
+    go : (b : Bool) → grabbable fs c r ≡ b → b ≡ true
+    go true e = refl
+    go false e = absurd (n (rw e))
+
+pub best-found : (t : Table) (c p : ℕ) → best t c ≡ some p → (p < length (t .jobs)) × (grabbable (t .functions) c (jobAt t p .row) ≡ true)
+unfolding best
+best-found t c p e =
+    let m = greatest (map (λ j. rank (t .functions) c (j .row)) (t .jobs)) in
+    let w = found (λ j. not (eqb m 0) && eqb (rank (t .functions) c (j .row)) m) noJob (t .jobs) (some p) e in
+    let n : m ≡ 0 → ⊥ = eqb-false m 0 (not-true _ (and-left (not (eqb m 0)) _ (w .passes))) in
+    let r : rank (t .functions) c (jobAt t p .row) ≡ m = eqb-true _ m (and-right (not (eqb m 0)) _ (w .passes)) in
+    (w .inside, ranked (t .functions) c (jobAt t p .row) (λ z. n (sym r ∙ z)))
+
+pub grabbed-live : (t : Table) (c p : ℕ) → best t c ≡ some p → live (jobAt t p .row) ≡ true
+grabbed-live t c p e = and-left (live (jobAt t p .row)) _ (and-left (queued (jobAt t p .row)) _ (best-found t c p e .1))
+
+pub joined-found : (t : Table) (f u : Bytes) (p : ℕ) → joined t f u ≡ some p → live (jobAt t p .row) ≡ true
+unfolding joined
+joined-found t f u p e = and-left (live (jobAt t p .row)) _ (found (joins (t .functions) f u) noJob (t .jobs) (some p) e .passes)
+
+pub held-found : (t : Table) (c : ℕ) (h : Bytes) (p : ℕ) → find (λ j. holdsHandle c h (j .row)) (t .jobs) ≡ some p → live (jobAt t p .row) ≡ true
+unfolding holdsHandle
+held-found t c h p e =
+    and-left (live (jobAt t p .row)) _ (and-left (heldBy c (jobAt t p .row)) _ (found (λ j. holdsHandle c h (j .row)) noJob (t .jobs) (some p) e .passes))
+
+-- ---- jobs that go on
+
+module _ (t : Table) (c : ℕ) (inside : c < length (t .connections)) (opened : isOpen t c ≡ true) (j : Job) (l : live (j .row) ≡ true) where
+  pub still-grabbed : Still t j (withRow (withHolder (suc c) (j .row)) j)
+  still-grabbed =
+      record {
+        serial = refl;
+        function = refl;
+        size = refl;
+        unique = refl;
+        texts = λ e. e;
+        means = live-means t j (withRow (withHolder (suc c) (j .row)) j) l refl refl refl (λ e. le-leb (suc c) (length (t .connections)) inside);
+        listeners = λ e. e;
+        holder = λ e. opened;
+      }
+
+  pub still-submitted : (b : Bool) → Still t j (withRow (submittedBy c b (j .row)) j)
+  still-submitted true =
+      record {
+        serial = refl;
+        function = refl;
+        size = refl;
+        unique = refl;
+        texts = λ e. e;
+        means = live-means t j (withRow (inBackground (j .row)) j) l refl refl refl (λ e. e);
+        listeners = λ e. e;
+        holder = λ e. e;
+      }
+  still-submitted false =
+      record {
+        serial = refl;
+        function = refl;
+        size = refl;
+        unique = refl;
+        texts = λ e. e;
+        means = live-means t j (withRow (withListeners (insert (j .row .listeners) c) (j .row)) j) l refl refl refl (λ e. e);
+        listeners = λ e. open-insert t (j .row .listeners) c inside opened e;
+        holder = λ e. e;
+      }
+
+  pub goes-worked : (how : Work) (n d : Bytes) → Told how n d → Goes t j (worked how n d j)
+  unfolding fits
+  goes-worked tells n d g = on (still-same t j)
+  goes-worked reports n d g =
+      on (record {
+        serial = refl;
+        function = refl;
+        size = refl;
+        unique = refl;
+        texts = λ e. and-both (storedNumber n) (storedNumber d) (g .numerator) (g .denominator);
+        means = live-means t j (withTexts n d j) l refl refl refl (λ e. e);
+        listeners = λ e. e;
+        holder = λ e. e;
+      })
+  goes-worked ends n d g = over
+  goes-worked throws n d g = over

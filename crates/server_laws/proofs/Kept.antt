@@ -1,0 +1,114 @@
+-- Every event keeps every table rule: a table that obeys them obeys them after the event, and so does every table of every history
+-- that begins with a fresh one. Assumes nothing.
+use Prim.Native.Nat.{ℕ, zero, suc}
+use mathlib.Core.Path.{_≡_, refl}
+use mathlib.Core.Bool.{true}
+use mathlib.Core.List.{List, [], _∷_}
+use lib.ListN.{replicate, length-replicate}
+use Rattle.octets.specs.Bytes.{same, firstZero}
+use Rattle.server.specs.Table.{Table, closed, noFunction, noJob, fresh}
+use Rattle.server.specs.Asked.{Event, Asked, connectionOf, asked}
+use Rattle.server.specs.Events.{Send, Decision, refuse, settle, dropped, woken, forgot, opening}
+use Rattle.server.specs.Rules.{onlyOpen, sleepersIdleFrom, queuedAwaited, obeys}
+use Rattle.server.specs.Server.{Server, decided, next, start, after}
+use Rattle.lists.proofs.Cases.{All}
+use Rattle.server_laws.proofs.Outcome.{Outcome, outcome}
+use Rattle.lists.proofs.Rows.{all-replicate}
+use Rattle.server_laws.proofs.Requests.{Good, good-asked}
+use Rattle.server_laws.proofs.Openness.{none-open}
+use Rattle.server_laws.proofs.Sound.{Sound}
+use Rattle.server_laws.proofs.Changes.{sound-opening, sound-change}
+use Rattle.server_laws.proofs.Settled.{sound-dropped, dropped-awaited, sound-woken, sound-forgot, forgot-defined, settled-idle}
+use Rattle.server_laws.proofs.Obeyed.{obeyed, obeys-by}
+use Rattle.server_laws.proofs.Lengths.{Whole, Shaped, shaped-kept}
+
+-- ---- one event
+
+-- waking and forgetting leave the jobs alone
+settled-awaited : (t : Table) → queuedAwaited t ≡ true → queuedAwaited (forgot (woken t)) ≡ true
+unfolding forgot woken
+settled-awaited t e = e
+
+pub settled-obeys : (ss : List Send) (t : Table) → Sound t → obeys (settle ss t .table) ≡ true
+unfolding settle
+settled-obeys ss t h =
+    let s = sound-woken (dropped t) (sound-dropped t h) in
+    obeys-by (settle ss t .table)
+    (record { sound = sound-forgot (woken (dropped t)) s; defined = forgot-defined (woken (dropped t)) s; awaited = settled-awaited (dropped t) (dropped-awaited t); idle = settled-idle (dropped t) })
+
+outcome-obeys : (c : ℕ) (t : Table) {a : Asked} {d : Decision} → Good a → obeys t ≡ true → Outcome c t a d → obeys (d .table) ≡ true
+unfolding refuse
+outcome-obeys c t g h (Outcome.refused a n) = h
+outcome-obeys c t g h (Outcome.opened a e i o) = settled-obeys [] (opening c t) (sound-opening c t (obeyed t h .sound))
+outcome-obeys c t g h (Outcome.done a ss u i o m) = settled-obeys ss u (sound-change c t i o g (obeyed t h .sound) m)
+
+-- every event keeps the rules
+pub obeys-kept : (e : Event) (t : Table) → obeys t ≡ true → obeys (decided e t .table) ≡ true
+unfolding decided
+obeys-kept e t h = outcome-obeys (connectionOf e) t (good-asked e) h (outcome (connectionOf e) (asked e) t)
+
+-- ---- a fresh table
+
+fresh-idle : (t : Table) (i n : ℕ) → sleepersIdleFrom t i (replicate n closed) ≡ true
+fresh-idle t i zero = refl
+fresh-idle t i (suc n) = fresh-idle t (suc i) n
+
+pub obeys-fresh : (n : ℕ) → obeys (fresh n) ≡ true
+unfolding fresh same firstZero
+obeys-fresh n =
+    let t = fresh n in
+    obeys-by t
+    (record {
+      sound =
+          record {
+            small = refl;
+            below = refl;
+            serials = refl;
+            names = refl;
+            texts = refl;
+            sizes = refl;
+            rows = refl;
+            functions = refl;
+            abilities = all-replicate (λ x. onlyOpen t (x .able)) 16 noFunction (none-open t);
+            listeners = all-replicate (λ j. onlyOpen t (j .row .listeners)) 32 noJob (none-open t);
+            holders = refl;
+            clear = all-replicate _ n closed refl;
+            uniques = refl;
+            jobsKnown = refl;
+            ablesKnown = refl;
+          };
+      defined = refl;
+      awaited = refl;
+      idle = fresh-idle t 0 n;
+    })
+
+-- ---- every history
+
+-- what the start has and every event keeps, every server of a history has
+pub throughout : (P : Server → Type 0) → ((e : Event) (s : Server) → P s → P (next e s)) → (s : Server) (h : List Event) → P s → P (after s h)
+unfolding after
+throughout P f s [] p = p
+throughout P f s (e ∷ h) p = throughout P f (next e s) h (f e s p)
+
+next-obeys : (e : Event) (s : Server) → obeys (s .table) ≡ true → obeys (next e s .table) ≡ true
+unfolding next
+next-obeys e s h = obeys-kept e (s .table) h
+
+start-obeys : (n : ℕ) → obeys (start n .table) ≡ true
+unfolding start
+start-obeys n = obeys-fresh n
+
+start-shaped : (n : ℕ) → Shaped n (start n)
+unfolding start fresh
+start-shaped n = record { connections = length-replicate n closed; functions = refl; jobs = refl; workloads = refl; whole = whole-workloads 32 }
+  where
+    whole-workloads : (k : ℕ) → All Whole (replicate k (replicate 1024 0))
+    whole-workloads zero = All.none
+    whole-workloads (suc k) = All.more (length-replicate {A = ℕ} 1024 0) (whole-workloads k)
+
+-- document 01's table rules hold after any history from a fresh table
+pub obeys-after : (n : ℕ) (h : List Event) → obeys (after (start n) h .table) ≡ true
+obeys-after n h = throughout (λ s. obeys (s .table) ≡ true) next-obeys (start n) h (start-obeys n)
+
+pub shaped-after : (n : ℕ) (h : List Event) → Shaped n (after (start n) h)
+shaped-after n h = throughout (Shaped n) (shaped-kept n) (start n) h (start-shaped n)

@@ -1,0 +1,99 @@
+-- No event changes how many connections, functions, jobs and workloads there are, nor a workload's 1,024 bytes. Assumes nothing.
+use Prim.Native.Nat.{ℕ, suc}
+use mathlib.Core.Path.{_≡_, refl, ap, _∙_}
+use mathlib.Core.List.{List, [], _∷_}
+use lib.ListN.{length, length-set, length-map, length-replicate}
+use lib.Dec.{eqb}
+use Rattle.octets.specs.Bytes.{Bytes}
+use Rattle.server.specs.declared.JobRow.{JobRow}
+use Rattle.server.specs.Table.{Job, Table, closed, live}
+use Rattle.server.specs.Asked.{Event, Asked, connectionOf, asked}
+use Rattle.server.specs.Events.{Send, Decision, refuse, settle, dropped, woken, forgot, unlessLost, opening, closing, unable, leftBy, unableToAll, sleeping}
+use Rattle.server.specs.Server.{Server, reworked, rework, decided, next, opaqueOf}
+use Rattle.lists.proofs.Lists.{length-fit}
+use Rattle.lists.proofs.Cases.{cond-both, All}
+use Rattle.server_laws.proofs.Outcome.{Change, Outcome, outcome}
+use Rattle.lists.proofs.Rows.{length-mapFrom}
+
+-- u has as many places as t
+pub record AsLong (t u : Table) : Type 0 where
+  pub connections : length (u .connections) ≡ length (t .connections)
+  pub functions : length (u .functions) ≡ length (t .functions)
+  pub jobs : length (u .jobs) ≡ length (t .jobs)
+
+long-then : {t u v : Table} → AsLong t u → AsLong u v → AsLong t v
+long-then a b = record { connections = b .connections ∙ a .connections; functions = b .functions ∙ a .functions; jobs = b .jobs ∙ a .jobs }
+
+pub long-settle : (ss : List Send) (t : Table) → AsLong t (settle ss t .table)
+unfolding settle dropped woken forgot
+long-settle ss t = record { connections = length-mapFrom _ 0 (t .connections); functions = length-mapFrom _ 0 (t .functions); jobs = length-map (t .jobs) unlessLost }
+
+long-change : (c : ℕ) (t : Table) {a : Asked} {ss : List Send} {u : Table} → Change c t a ss u → AsLong t u
+unfolding closing sleeping unableToAll
+long-change c t Change.closed = record { connections = length-set (t .connections) c closed; functions = length-map (t .functions) (unable c); jobs = length-map (t .jobs) (leftBy c) }
+long-change c t (Change.able f q e) = record { connections = refl; functions = length-set (t .functions) q _; jobs = refl }
+long-change c t (Change.unknown f e) = record { connections = refl; functions = refl; jobs = refl }
+long-change c t (Change.disabled f q e) = record { connections = refl; functions = length-set (t .functions) q _; jobs = refl }
+long-change c t Change.cleared = record { connections = refl; functions = length-map (t .functions) (unable c); jobs = refl }
+long-change c t Change.slept = record { connections = length-set (t .connections) c _; functions = refl; jobs = refl }
+long-change c t (Change.noJobFor uniq e) = record { connections = length-set (t .connections) c _; functions = refl; jobs = refl }
+long-change c t (Change.grabbed uniq p e) = record { connections = length-set (t .connections) c _; functions = refl; jobs = length-set (t .jobs) p _ }
+long-change c t (Change.joins priority background f v size p e) = record { connections = refl; functions = refl; jobs = length-set (t .jobs) p _ }
+long-change c t (Change.accepts priority background f v size q p e₁ e₂ e₃ l) = record { connections = refl; functions = length-set (t .functions) q _; jobs = length-set (t .jobs) p _ }
+long-change c t (Change.worker how kind h n d p e) = record { connections = refl; functions = refl; jobs = length-set (t .jobs) p _ }
+long-change c t (Change.status h answer) = record { connections = refl; functions = refl; jobs = refl }
+long-change c t (Change.optioned name e) = record { connections = length-set (t .connections) c _; functions = refl; jobs = refl }
+long-change c t Change.echoed = record { connections = refl; functions = refl; jobs = refl }
+
+long-outcome : (c : ℕ) (t : Table) {a : Asked} {d : Decision} → Outcome c t a d → AsLong t (d .table)
+unfolding refuse opening
+long-outcome c t (Outcome.refused a n) = record { connections = refl; functions = refl; jobs = refl }
+long-outcome c t (Outcome.opened a e i o) = long-then (record { connections = length-set (t .connections) c _; functions = refl; jobs = refl }) (long-settle [] (opening c t))
+long-outcome c t (Outcome.done a ss u i o m) = long-then (long-change c t m) (long-settle ss u)
+
+pub long-decided : (e : Event) (t : Table) → AsLong t (decided e t .table)
+unfolding decided
+long-decided e t = long-outcome (connectionOf e) t (outcome (connectionOf e) (asked e) t)
+
+-- ---- workloads
+
+abbrev pub Whole : Bytes → Type 0
+Whole w = length w ≡ 1024
+
+pub whole-place : (j k : JobRow) (o w : Bytes) → Whole w → Whole (reworked j k o w)
+whole-place j k o w e =
+    cond-both Whole (eqb (j .serial) (k .serial)) e (cond-both Whole (live k) (length-fit 1024 o) (length-replicate {A = ℕ} 1024 0))
+
+whole-rework : (js ks : List Job) (o : Bytes) {ws : List Bytes} → All Whole ws → All Whole (rework js ks o ws)
+whole-rework [] ks o e = e
+whole-rework (j ∷ js) [] o e = e
+whole-rework (j ∷ js) (k ∷ ks) o All.none = All.none
+whole-rework (j ∷ js) (k ∷ ks) o (All.more e es) = All.more (whole-place (j .row) (k .row) o _ e) (whole-rework js ks o es)
+
+length-rework : (js ks : List Job) (o : Bytes) (ws : List Bytes) → length (rework js ks o ws) ≡ length ws
+length-rework [] ks o ws = refl
+length-rework (j ∷ js) [] o ws = refl
+length-rework (j ∷ js) (k ∷ ks) o [] = refl
+length-rework (j ∷ js) (k ∷ ks) o (w ∷ ws) = ap suc (length-rework js ks o ws)
+
+-- ---- servers
+
+-- 01: "Connections 0 to 15; known functions 16; unfinished jobs 32", here for n connections; "32 places of 1,024"
+pub record Shaped (n : ℕ) (s : Server) : Type 0 where
+  pub connections : length (s .table .connections) ≡ n
+  pub functions : length (s .table .functions) ≡ 16
+  pub jobs : length (s .table .jobs) ≡ 32
+  pub workloads : length (s .workloads) ≡ 32
+  pub whole : All Whole (s .workloads)
+
+pub shaped-kept : (n : ℕ) (e : Event) (s : Server) → Shaped n s → Shaped n (next e s)
+unfolding next
+shaped-kept n e s h =
+    let l = long-decided e (s .table) in
+    record {
+      connections = l .connections ∙ h .connections;
+      functions = l .functions ∙ h .functions;
+      jobs = l .jobs ∙ h .jobs;
+      workloads = length-rework (s .table .jobs) _ (opaqueOf e) (s .workloads) ∙ h .workloads;
+      whole = whole-rework (s .table .jobs) _ (opaqueOf e) (h .whole);
+    }

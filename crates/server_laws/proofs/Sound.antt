@@ -1,0 +1,154 @@
+-- A sound table: every table rule but those three that the end of an event makes true. It stays sound when its connections, its
+-- functions or its jobs are made anew in one of the ways that events do it. Assumes nothing.
+use Prim.Native.Nat.{ℕ, _+_, _<_}
+use mathlib.Core.Path.{_≡_, refl, sym, subst}
+use mathlib.Core.Bool.{Bool, true, false, not, cond}
+use mathlib.Core.List.{List, []}
+use native.Mathlib.Omega.{arith}
+use borrow.Author.Tests.{le-leb, leb-true, eqb-true, not-true, not-false}
+use lib.ListN.{length}
+use lib.Dec.{leb, eqb}
+use Rattle.octets.specs.Bytes.{same, firstZero}
+use Rattle.octets.proofs.Strings.{and-left, and-right, same-is}
+use Rattle.sets.specs.Sets.{isEmpty}
+use Rattle.server.specs.declared.Connection.{Connection}
+use Rattle.lists.specs.Lists.{all, implies}
+use Rattle.server.specs.Sizes.{nameSize}
+use Rattle.server.specs.Table.{Function, Job, Table, noFunction, noJob, functionAt, jobAt, live, withConnections, withFunctions}
+use Rattle.server.specs.Rules.{nextSmall, serialsBelow, serialsDistinct, textWithin, namesWithin, textsWithin, together, sizesWithin, rowIsFree, rowHasMeaning, rowsHaveMeaning, isKnown, functionsDistinct, abilitiesOpen, listenersOpen, holdersOpen, closedClear, uniquesDistinct}
+use Rattle.lists.proofs.Rows.{implies-by, implies-use, all-at, all-row, all-by, all-imp}
+use Rattle.server_laws.proofs.Openness.{holder-more}
+
+-- a live job's function has a name
+abbrev pub jobNamed : Table → Job → Bool
+jobNamed t j = implies (live (j .row)) (isKnown (functionAt t (j .row .function)))
+
+abbrev pub jobsNamed : Table → Bool
+jobsNamed t = all (jobNamed t) (t .jobs)
+
+-- so has a function that some connection can do
+abbrev pub ablesNamed : Table → Bool
+ablesNamed t = all (λ x. implies (not (isEmpty (x .able))) (isKnown x)) (t .functions)
+
+-- the row is zero throughout, or every field of it has a meaning
+abbrev pub rowMeans : Table → Job → Bool
+rowMeans t j = cond (live (j .row)) (rowHasMeaning t j) (rowIsFree j)
+
+pub record Sound (t : Table) : Type 0 where
+  pub small : nextSmall t ≡ true
+  pub below : serialsBelow t ≡ true
+  pub serials : serialsDistinct t ≡ true
+  pub names : namesWithin t ≡ true
+  pub texts : textsWithin t ≡ true
+  pub sizes : sizesWithin t ≡ true
+  pub rows : rowsHaveMeaning t ≡ true
+  pub functions : functionsDistinct t ≡ true
+  pub abilities : abilitiesOpen t ≡ true
+  pub listeners : listenersOpen t ≡ true
+  pub holders : holdersOpen t ≡ true
+  pub clear : closedClear t ≡ true
+  pub uniques : uniquesDistinct t ≡ true
+  pub jobsKnown : jobsNamed t ≡ true
+  pub ablesKnown : ablesNamed t ≡ true
+
+-- ---- connections anew
+
+pub sound-connections : (t : Table) (cs : List Connection) → let u = withConnections cs t in
+    length cs ≡ length (t .connections) → abilitiesOpen u ≡ true → listenersOpen u ≡ true → holdersOpen u ≡ true → closedClear u ≡ true → Sound t → Sound u
+sound-connections t cs long a l o c h =
+    record {
+      small = h .small;
+      below = h .below;
+      serials = h .serials;
+      names = h .names;
+      texts = h .texts;
+      sizes = h .sizes;
+      rows = rw long (h .rows);
+      functions = h .functions;
+      abilities = a;
+      listeners = l;
+      holders = o;
+      clear = c;
+      uniques = h .uniques;
+      jobsKnown = h .jobsKnown;
+      ablesKnown = h .ablesKnown;
+    }
+
+-- ---- functions anew
+
+-- a row without a job is zero throughout
+pub free-none : (j : Job) → live (j .row) ≡ false → rowIsFree j ≡ true → j ≡ noJob
+free-none j l e =
+    let r = j .row in
+    let e2 = and-right (eqb (r .function) 0) _ e in
+    let e3 = and-right (eqb (r .priority) 0) _ e2 in
+    let e4 = and-right (not (r .background)) _ e3 in
+    let e5 = and-right (isEmpty (r .listeners)) _ e4 in
+    let e6 = and-right (eqb (r .holder) 0) _ e5 in
+    let e7 = and-right (eqb (r .size) 0) _ e6 in
+    let e8 = and-right (same (j .unique) []) _ e7 in
+    let a0 : r .serial ≡ 0 = eqb-true _ 0 (not-false _ l) in
+    let a1 : r .function ≡ 0 = eqb-true _ 0 (and-left (eqb (r .function) 0) _ e) in
+    let a2 : r .priority ≡ 0 = eqb-true _ 0 (and-left (eqb (r .priority) 0) _ e2) in
+    let a3 : r .background ≡ false = not-true _ (and-left (not (r .background)) _ e3) in
+    let a4 : r .listeners ≡ 0 = eqb-true _ 0 (and-left (isEmpty (r .listeners)) _ e4) in
+    let a5 : r .holder ≡ 0 = eqb-true _ 0 (and-left (eqb (r .holder) 0) _ e5) in
+    let a6 : r .size ≡ 0 = eqb-true _ 0 (and-left (eqb (r .size) 0) _ e6) in
+    let a7 : j .unique ≡ [] = same-is _ [] (and-left (same (j .unique) []) _ e7) in
+    let a8 : j .numerator ≡ [] = same-is _ [] (and-left (same (j .numerator) []) _ e8) in
+    let a9 : j .denominator ≡ [] = same-is _ [] (and-right (same (j .numerator) []) _ e8) in
+    λ i. record {
+      row = record { serial = a0 i; function = a1 i; priority = a2 i; background = a3 i; listeners = a4 i; holder = a5 i; size = a6 i };
+      unique = a7 i;
+      numerator = a8 i;
+      denominator = a9 i;
+    }
+
+-- an empty row is within sizes in any table
+pub none-together : (t : Table) → namesWithin t ≡ true → leb (together t noJob) 1022 ≡ true
+unfolding firstZero
+none-together t n =
+    le-leb (length (functionAt t 0 .name) + 0 + 0) 1022 (omega (
+      arith,
+      leb-true (length (functionAt t 0 .name)) 32 (and-left (leb (length (functionAt t 0 .name)) 32) _
+          (all-row (λ x. textWithin nameSize (x .name)) (t .functions) 0 noFunction n refl)),
+    ))
+
+module _ (t : Table) (fs : List Function) (long : length fs ≡ length (t .functions)) where
+  -- the functions of unfinished jobs keep their names
+  abbrev pub NamesStay : Type 0
+  NamesStay = (i : ℕ) → i < length (t .jobs) → live (jobAt t i .row) ≡ true → functionAt (withFunctions fs t) (jobAt t i .row .function) .name ≡ functionAt t (jobAt t i .row .function) .name
+
+  sizes-stay : NamesStay → Sound t → namesWithin (withFunctions fs t) ≡ true → sizesWithin (withFunctions fs t) ≡ true
+  sizes-stay s h n = all-by (λ j. leb (together (withFunctions fs t) j) 1022) (t .jobs) noJob (λ i l. go i l (live (jobAt t i .row)) refl)
+    where
+      go : (i : ℕ) → i < length (t .jobs) → (b : Bool) → live (jobAt t i .row) ≡ b → leb (together (withFunctions fs t) (jobAt t i)) 1022 ≡ true
+      go i l true e = rw (s i l e) (all-at (λ j. leb (together t j) 1022) (t .jobs) i noJob (h .sizes) l)
+      go i l false e =
+          let m : rowIsFree (jobAt t i) ≡ true = rw e at (all-at (rowMeans t) (t .jobs) i noJob (h .rows) l) in
+          subst (λ (j : Job). leb (together (withFunctions fs t) j) 1022 ≡ true) (sym (free-none (jobAt t i) e m)) (none-together (withFunctions fs t) n)
+
+  jobs-stay : NamesStay → Sound t → jobsNamed (withFunctions fs t) ≡ true
+  jobs-stay s h = all-by (jobNamed (withFunctions fs t)) (t .jobs) noJob (λ i l. implies-by (live (jobAt t i .row)) _ (λ e.
+      rw (s i l e) (implies-use (live (jobAt t i .row)) _ (all-at (jobNamed t) (t .jobs) i noJob (h .jobsKnown) l) e)))
+
+  pub sound-functions : NamesStay → let u = withFunctions fs t in
+      namesWithin u ≡ true → functionsDistinct u ≡ true → abilitiesOpen u ≡ true → ablesNamed u ≡ true → Sound t → Sound u
+  sound-functions s n f a k h =
+      record {
+        small = h .small;
+        below = h .below;
+        serials = h .serials;
+        names = n;
+        texts = h .texts;
+        sizes = sizes-stay s h n;
+        rows = rw long (h .rows);
+        functions = f;
+        abilities = a;
+        listeners = h .listeners;
+        holders = all-imp _ _ (λ j e. holder-more t (withFunctions fs t) (λ c o. o) (j .row .holder) e) (t .jobs) (h .holders);
+        clear = h .clear;
+        uniques = h .uniques;
+        jobsKnown = jobs-stay s h;
+        ablesKnown = k;
+      }

@@ -1,0 +1,86 @@
+-- 01: a submission that joins an unfinished job: "its own workload and priority are dropped". The job keeps its priority, serial, place,
+-- function and workload; JOB_CREATED with its handle goes out alone, so nobody is woken. For a table that obeys the rules.
+-- Assumes nothing.
+use Prim.Native.Nat.{ℕ, _<_}
+use mathlib.Core.Path.{_≡_, refl, ap, sym, _∙_}
+use mathlib.Core.Logic.{_≢_}
+use mathlib.Core.Bool.{Bool, true, false, not}
+use mathlib.Core.Option.{some}
+use mathlib.Core.List.{List, [], _∷_}
+use borrow.Author.Tests.{eq-eqb, lt-ltb}
+use lib.ListN.{length, getD, set}
+use lib.Seq.{getD-set-same, getD-set-other}
+use Rattle.octets.specs.Bytes.{Bytes}
+use Rattle.sets.specs.Sets.{insert}
+use Rattle.sets.proofs.Laws.{has-insert-same, nonempty}
+use Rattle.server.specs.Table.{Function, Job, Table, noJob, connectionAt, jobAt, setJob, withRow, queued, grabbable, joins, joined}
+use Rattle.server.specs.Asked.{Event, connectionOf, asked, submit}
+use Rattle.server.specs.Events.{Decision, created, submittedBy, submitTo, served, admitted, decide}
+use Rattle.server.specs.Server.{Server, opaqueOf, rework, decided, next}
+use Rattle.server.specs.Rules.{obeys}
+use Rattle.lists.proofs.Cases.{All2, all2-set}
+use Rattle.lists.proofs.Searches.{found}
+use Rattle.lists.proofs.Rows.{implies-by, or-right}
+use Rattle.server_laws.proofs.Accepting.{Kept, submitted-keeps}
+use Rattle.server_laws.proofs.Obeyed.{obeyed}
+use Rattle.server_words.proofs.Quiet.{Quiet, awaited, one-job-quiet}
+
+-- the job is awaited after the join: the submitter listens, or it is background
+joined-awaited : (c : ℕ) (background : Bool) (j : Job) → awaited (submittedBy c background (j .row)) ≡ true
+joined-awaited c true j = implies-by (queued (submittedBy c true (j .row))) _ (λ e. refl)
+joined-awaited c false j = implies-by (queued (submittedBy c false (j .row))) _ (λ e. or-right (j .row .background) _ (ap not (nonempty (insert (j .row .listeners) c) c (has-insert-same (j .row .listeners) c))))
+
+joined-grabbable : (c : ℕ) (background : Bool) (j : Job) (fs : List Function) (k : ℕ) → grabbable fs k (submittedBy c background (j .row)) ≡ true → grabbable fs k (j .row) ≡ true
+joined-grabbable c true j fs k e = e
+joined-grabbable c false j fs k e = e
+
+module _ (t : Table) (c priority : ℕ) (background : Bool) (f u : Bytes) (size p : ℕ) (here : joined t f u ≡ some p) (h : obeys t ≡ true) where
+  abbrev answered : Decision
+  answered = served c (submit priority background f u size) t
+
+  abbrev joiner : Job
+  joiner = withRow (submittedBy c background (jobAt t p .row)) (jobAt t p)
+
+  inside : p < length (t .jobs)
+  unfolding joined
+  inside = found (joins (t .functions) f u) noJob (t .jobs) (some p) here .inside
+
+  -- JOB_CREATED with the job's own handle, and nothing else
+  pub join-quiet : Quiet (created c (jobAt t p .row .serial) ∷ []) (setJob t p joiner) answered
+  unfolding served submitTo
+  join-quiet =
+      rw here
+      (one-job-quiet t (obeyed t h .awaited) (obeyed t h .idle) p joiner inside (joined-awaited c background (jobAt t p)) (joined-grabbable c background (jobAt t p)) (created c (jobAt t p .row .serial) ∷ []))
+
+  row-after : (i : ℕ) → jobAt (answered .table) i ≡ getD (set (t .jobs) p joiner) i noJob
+  row-after i = ap (λ (js : List Job). getD js i noJob) (join-quiet .jobs)
+
+  -- serial, function, priority, holder and size stay, at the same place
+  pub join-keeps : Kept (jobAt t p .row) (jobAt (answered .table) p .row)
+  join-keeps = rw (row-after p, getD-set-same (t .jobs) p joiner noJob inside) (submitted-keeps c background (jobAt t p .row))
+
+  -- every other job stays as it is
+  pub join-others : (i : ℕ) → i ≢ p → jobAt (answered .table) i ≡ jobAt t i
+  join-others i d = row-after i ∙ getD-set-other (t .jobs) p i joiner noJob d
+
+  pub join-connections : answered .table .connections ≡ t .connections
+  join-connections = join-quiet .connections
+
+-- ---- workloads
+
+-- a place keeps its bytes while it keeps its job
+kept-workloads : {js ks : List Job} → All2 (λ (j k : Job). k .row .serial ≡ j .row .serial) js ks → (o : Bytes) (ws : List Bytes) → rework js ks o ws ≡ ws
+kept-workloads All2.none o ws = refl
+kept-workloads (All2.more e es) o [] = refl
+kept-workloads (All2.more {a = j} {b = k} e es) o (w ∷ ws) = rw (eq-eqb (j .row .serial) (k .row .serial) (sym e)) (ap {B = List Bytes} (λ (vs : List Bytes). w ∷ vs) (kept-workloads es o ws))
+
+pub join-workloads : (e : Event) (s : Server) (priority : ℕ) (background : Bool) (f u : Bytes) (size p : ℕ) → asked e ≡ submit priority background f u size → joined (s .table) f u ≡ some p
+    → connectionOf e < length (s .table .connections) → connectionAt (s .table) (connectionOf e) .opened ≡ true → obeys (s .table) ≡ true → next e s .workloads ≡ s .workloads
+unfolding next decided decide admitted
+join-workloads e s priority background f u size p q here l o h =
+    let c = connectionOf e in
+    let t = s .table in
+    let j = withRow (submittedBy c background (jobAt t p .row)) (jobAt t p) in
+    let z : decided e t .table .jobs ≡ set (t .jobs) p j = rw (lt-ltb c (length (t .connections)) l, o, q) (join-quiet t c priority background f u size p here h .jobs) in
+    ap (λ (ks : List Job). rework (t .jobs) ks (opaqueOf e) (s .workloads)) z
+    ∙ kept-workloads (all2-set (λ (j k : Job). k .row .serial ≡ j .row .serial) (λ j. refl) (t .jobs) p noJob j (submitted-keeps c background (jobAt t p .row) .serial)) (opaqueOf e) (s .workloads)

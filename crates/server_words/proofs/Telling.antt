@@ -1,0 +1,158 @@
+-- 01: "Worker packets go to all listeners", and "25 [..] goes only to listeners that set `exceptions`"; "Packets to several connections
+-- go in rising connection order". Each listener that hears of it gets exactly one copy, and nothing else is sent. For a table that
+-- obeys the rules. Assumes nothing.
+use Prim.Native.Nat.{ℕ, zero, suc, _<_, _≤_}
+use mathlib.Core.Path.{_≡_, refl, ap, sym, _∙_}
+use mathlib.Core.Logic.{_≢_}
+use mathlib.Core.Bool.{Bool, true, false, cond, _&&_, _||_}
+use mathlib.Core.Option.{some}
+use mathlib.Core.List.{List, [], _∷_, _++_, map, append-nil}
+use native.Mathlib.Decide.{ℕ-discrete}
+use native.Mathlib.Omega.{arith}
+use borrow.Author.Tests.{eq-eqb, ne-eqb, eqb-true, lt-ltb, le-ltb, ltb-true}
+use lib.ListN.{length}
+use lib.Dec.{eqb, ltb}
+use Rattle.octets.specs.Bytes.{Bytes}
+use Rattle.octets.proofs.Strings.{and-left, and-right, and-both}
+use Rattle.sets.specs.Sets.{has, members}
+use Rattle.lists.specs.Lists.{any, all, pairwise, find, filter}
+use Rattle.server.specs.Table.{Function, Job, Table, noJob, jobAt, setJob, grabbable}
+use Rattle.server.specs.Asked.{Work, tells, reports, ends, throws, work}
+use Rattle.server.specs.Events.{Decision, copy, holdsHandle, hears, listenersOf, worked, workAt, served}
+use Rattle.server.specs.Rules.{obeys}
+use Rattle.lists.proofs.Cases.{cond-both}
+use Rattle.lists.proofs.Searches.{found}
+use Rattle.lists.proofs.Rows.{clash, iff, all-at}
+use Rattle.server_laws.proofs.Obeyed.{obeyed}
+use Rattle.server_words.proofs.Quiet.{and-off, Quiet, awaited, one-job-quiet}
+
+-- ---- members of a set, in order
+
+all-append : (p : ℕ → Bool) (xs ys : List ℕ) → all p xs ≡ true → all p ys ≡ true → all p (xs ++ ys) ≡ true
+all-append p [] ys e f = f
+all-append p (x ∷ xs) ys e f = and-both (p x) _ (and-left (p x) _ e) (all-append p xs ys (and-right (p x) _ e) f)
+
+-- one greater than all before it, at the end
+rising-last : (xs : List ℕ) (y : ℕ) → pairwise ltb xs ≡ true → all (λ x. ltb x y) xs ≡ true → pairwise ltb (xs ++ (y ∷ [])) ≡ true
+rising-last [] y e f = refl
+rising-last (x ∷ xs) y e f =
+    and-both (all (ltb x) (xs ++ (y ∷ []))) _ (all-append (ltb x) xs (y ∷ []) (and-left (all (ltb x) xs) _ e) (and-both (ltb x y) true (and-left (ltb x y) _ f) refl))
+    (rising-last xs y (and-right (all (ltb x) xs) _ e) (and-right (ltb x y) _ f))
+
+members-below : (n s m : ℕ) → n ≤ m → all (λ l. ltb l m) (members n s) ≡ true
+unfolding members
+members-below zero s m h = refl
+members-below (suc n) s m h =
+    all-append (λ l. ltb l m) (members n s) _ (members-below n s m (omega arith))
+    (cond-both (λ (l : List ℕ). all (λ k. ltb k m) l ≡ true) (has s n) (and-both (ltb n m) true (lt-ltb n m (omega arith)) refl) refl)
+
+rising-more : (n s : ℕ) (b : Bool) → pairwise ltb (members n s) ≡ true → pairwise ltb (members n s ++ cond b (n ∷ []) []) ≡ true
+rising-more n s true r = rising-last (members n s) n r (members-below n s n (omega arith))
+rising-more n s false r = rw append-nil r
+
+-- no member comes twice: each is greater than the one before
+pub members-rise : (n s : ℕ) → pairwise ltb (members n s) ≡ true
+unfolding members
+members-rise zero s = refl
+members-rise (suc n) s = rising-more n s (has s n) (members-rise n s)
+
+all-filter : (p q : ℕ → Bool) (xs : List ℕ) → all p xs ≡ true → all p (filter q xs) ≡ true
+all-filter p q [] e = refl
+all-filter p q (x ∷ xs) e =
+    let r = all-filter p q xs (and-right (p x) _ e) in
+    cond-both (λ (l : List ℕ). all p l ≡ true) (q x) (and-both (p x) _ (and-left (p x) _ e) r) r
+
+rising-filter : (q : ℕ → Bool) (xs : List ℕ) → pairwise ltb xs ≡ true → pairwise ltb (filter q xs) ≡ true
+rising-filter q [] e = refl
+rising-filter q (x ∷ xs) e =
+    let r = rising-filter q xs (and-right (all (ltb x) xs) _ e) in
+    cond-both (λ (l : List ℕ). pairwise ltb l ≡ true) (q x) (and-both (all (ltb x) (filter q xs)) _ (all-filter (ltb x) q xs (and-left (all (ltb x) xs) _ e)) r) r
+
+-- ---- who is in the list
+
+-- the number stands in the list
+abbrev pub isIn : ℕ → List ℕ → Bool
+isIn l xs = any (λ k. eqb k l) xs
+
+in-append : (l : ℕ) (xs ys : List ℕ) → isIn l (xs ++ ys) ≡ isIn l xs || isIn l ys
+in-append l [] ys = refl
+in-append l (x ∷ xs) ys = ap (λ (b : Bool). eqb x l || b) (in-append l xs ys) ∙ or-assoc (eqb x l) (isIn l xs) (isIn l ys)
+  where
+    or-assoc : (a b c : Bool) → a || (b || c) ≡ (a || b) || c
+    or-assoc true b c = refl
+    or-assoc false b c = refl
+
+or-off : (b : Bool) → b || false ≡ b
+or-off true = refl
+or-off false = refl
+
+below-more : (l n : ℕ) → n ≢ l → ltb l (suc n) ≡ ltb l n
+below-more l n d = iff _ _ (λ e. let k = ltb-true l (suc n) e in lt-ltb l n (omega arith)) (λ e. let k = ltb-true l n e in lt-ltb l (suc n) (omega arith))
+
+one-more : (n s l : ℕ) → Dec (n ≡ l) → (b : Bool) → has s n ≡ b → (ltb l n && has s l) || isIn l (cond b (n ∷ []) []) ≡ ltb l (suc n) && has s l
+one-more n s l (yes e) true q = rw (← e, le-ltb n n (omega arith), lt-ltb n (suc n) (omega arith), eq-eqb n n refl, q)
+one-more n s l (yes e) false q = rw (← e, le-ltb n n (omega arith), lt-ltb n (suc n) (omega arith), q)
+one-more n s l (no d) true q = rw (below-more l n d, ne-eqb n l d) (or-off (ltb l n && has s l))
+one-more n s l (no d) false q = rw (below-more l n d) (or-off (ltb l n && has s l))
+
+-- the members below n are listed, and nobody else
+pub members-are : (n s l : ℕ) → isIn l (members n s) ≡ ltb l n && has s l
+unfolding members
+members-are zero s l = sym (rw (le-ltb l 0 (omega arith)))
+members-are (suc n) s l =
+    in-append l (members n s) (cond (has s n) (n ∷ []) [])
+    ∙ ap (λ (b : Bool). b || isIn l (cond (has s n) (n ∷ []) [])) (members-are n s l)
+    ∙ one-more n s l (ℕ-discrete n l) (has s n) refl
+
+filter-in : (q : ℕ → Bool) (l : ℕ) (xs : List ℕ) → isIn l (filter q xs) ≡ isIn l xs && q l
+filter-in q l [] = refl
+filter-in q l (x ∷ xs) = go (q x) refl (eqb x l) refl (filter-in q l xs)
+  where
+    go : (b : Bool) → q x ≡ b → (e : Bool) → eqb x l ≡ e → isIn l (filter q xs) ≡ isIn l xs && q l → isIn l (cond b (x ∷ filter q xs) (filter q xs)) ≡ (e || isIn l xs) && q l
+    go true z true w r = let i : x ≡ l = eqb-true x l w in rw (w, ← i, z)
+    go true z false w r = rw (w, r)
+    go false z true w r = let i : x ≡ l = eqb-true x l w in r ∙ rw (← i, z) (and-off (isIn x xs))
+    go false z false w r = r
+
+-- ---- worker packets
+
+-- a worker packet: exactly these copies go out, each listener that hears of it comes once, and nobody else
+pub record ToldOnce (t : Table) (how : Work) (kind p : ℕ) (d : Decision) : Type 0 where
+  pub listeners : List ℕ
+  pub packets : d .packets ≡ map (λ l. copy l kind) listeners
+  pub rising : pairwise ltb listeners ≡ true
+  pub exactly : (l : ℕ) → isIn l listeners ≡ (ltb l (length (t .connections)) && has (jobAt t p .row .listeners) l) && hears how t l
+
+worked-awaited : (how : Work) (n d : Bytes) (j : Job) → awaited (j .row) ≡ true → awaited (worked how n d j .row) ≡ true
+worked-awaited tells n d j e = e
+worked-awaited reports n d j e = e
+worked-awaited ends n d j e = refl
+worked-awaited throws n d j e = refl
+
+worked-grabbable : (how : Work) (n d : Bytes) (j : Job) (fs : List Function) (k : ℕ) → grabbable fs k (worked how n d j .row) ≡ true → grabbable fs k (j .row) ≡ true
+worked-grabbable tells n d j fs k e = e
+worked-grabbable reports n d j fs k e = e
+worked-grabbable ends n d j fs k e = clash e refl
+worked-grabbable throws n d j fs k e = clash e refl
+
+module _ (t : Table) (c : ℕ) (how : Work) (kind : ℕ) (job n d : Bytes) (p : ℕ) (here : find (λ j. holdsHandle c job (j .row)) (t .jobs) ≡ some p) (h : obeys t ≡ true) where
+  abbrev heard : List ℕ
+  heard = filter (hears how t) (listenersOf t (jobAt t p .row))
+
+  work-quiet : Quiet (map (λ l. copy l kind) heard) (setJob t p (worked how n d (jobAt t p))) (served c (work how kind job n d) t)
+  unfolding served workAt
+  work-quiet =
+      let o = obeyed t h in
+      let i : p < length (t .jobs) = found (λ j. holdsHandle c job (j .row)) noJob (t .jobs) (some p) here .inside in
+      rw here
+      (one-job-quiet t (o .awaited) (o .idle) p (worked how n d (jobAt t p)) i
+      (worked-awaited how n d (jobAt t p) (all-at (λ j. awaited (j .row)) (t .jobs) p noJob (o .awaited) i)) (worked-grabbable how n d (jobAt t p)) (map (λ l. copy l kind) heard))
+
+  pub work-told : ToldOnce t how kind p (served c (work how kind job n d) t)
+  work-told =
+      record {
+        listeners = heard;
+        packets = work-quiet .packets;
+        rising = rising-filter (hears how t) (listenersOf t (jobAt t p .row)) (members-rise (length (t .connections)) (jobAt t p .row .listeners));
+        exactly = λ l. filter-in (hears how t) l (listenersOf t (jobAt t p .row)) ∙ ap (λ (b : Bool). b && hears how t l) (members-are (length (t .connections)) (jobAt t p .row .listeners) l);
+      }

@@ -1,0 +1,82 @@
+// Which job a packet concerns, by its handle: the handle that stands in the packet itself, or else the one in the first packet that
+// the server sent. A packet that is refused, and a text that is no handle, name no job. An inner crate.
+use handle::Serial;
+use packet::Ends;
+use packet::Read;
+use packet::Shape;
+ghost use mathlib.Core.Path.{_≡_};
+ghost use Rattle.packet.specs.Packet.{requests, responses};
+ghost use Rattle.packet.specs.Answers.{argumentAt};
+ghost use Rattle.capture.specs.Packets.{Packed, packetsIn};
+ghost use Rattle.show_job.specs.Concerned.{concerned, firstSent, handleIn, jobNamed, namesJob};
+
+// Whether the first argument of a shape is a handle.
+fn names_job(shape: Shape) -> bool
+    ensures { λ r. ⌜ r ≡ namesJob shape ⌝ }
+{
+    match shape {
+        Shape::WorkStatus
+        | Shape::WorkData
+        | Shape::Handle
+        | Shape::Assignment
+        | Shape::UniqueAssignment
+        | Shape::StatusAnswer => true,
+        _ => false,
+    }
+}
+
+// The serial whose handle is the first argument of a packet that was read, if its shape begins with a handle.
+fn handle_in(shape: Shape, packet: &[u8], ends: Ends) -> Serial
+    ensures { λ r. ⌜ r ≡ handleIn shape (argumentAt (now (packet .entry)) ends 0) ⌝ }
+{
+    if !names_job(shape) {
+        return Serial::None;
+    }
+    handle::serial_of(packet_read::argument(packet, ends, 0))
+}
+
+// The serial that a request names.
+fn requested(packet: &[u8]) -> Serial
+    ensures { λ r. ⌜ r ≡ jobNamed requests (now (packet .entry)) ⌝ }
+{
+    let read = packet_read::read_request(packet);
+    match read {
+        Read::Refused(_) => Serial::None,
+        Read::Packet { kind, ends } => handle_in(packet_kinds::request_shape(kind), packet, ends),
+    }
+}
+
+// The serial that a response names.
+fn responded(packet: &[u8]) -> Serial
+    ensures { λ r. ⌜ r ≡ jobNamed responses (now (packet .entry)) ⌝ }
+{
+    let read = packet_read::read_response(packet);
+    match read {
+        Read::Refused(_) => Serial::None,
+        Read::Packet { kind, ends } => handle_in(packet_kinds::response_shape(kind), packet, ends),
+    }
+}
+
+// The serial that the first of the addressed packets names; none, where nothing was sent.
+fn sent_first(sent: &[u8]) -> Serial
+    requires { ⌜ Packed (now sent) ⌝ }
+    ensures { λ r. ⌜ r ≡ jobNamed responses (firstSent (packetsIn (now (sent .entry)))) ⌝ }
+{
+    if sent.len() == 0 {
+        return Serial::None;
+    }
+    let length = capture::packet_length(sent);
+    responded(&sent[1..length])
+}
+
+// The serial that the packet which came concerns, with the addressed packets that were sent.
+pub fn concerned(packet: &[u8], sent: &[u8]) -> Serial
+    requires { ⌜ Packed (now sent) ⌝ }
+    ensures { λ r. ⌜ r ≡ concerned (now (packet .entry)) (packetsIn (now (sent .entry))) ⌝ }
+{
+    let own = requested(packet);
+    match own {
+        Serial::Of(serial) => Serial::Of(serial),
+        Serial::None => sent_first(sent),
+    }
+}

@@ -1,0 +1,72 @@
+-- What `show` prints for a line, computed by the definitions: a submission, a late result under a handle that no job has any more, a
+-- close, and a line that is no frame. The first is docs/SHOW.md's. Assumes nothing.
+use Prim.Native.Nat.{ℕ}
+use Prim.Native.String.{String}
+use mathlib.Core.Path.{_≡_, refl}
+use mathlib.Core.Bool.{false}
+use mathlib.Core.Option.{Option, none, some}
+use mathlib.Core.List.{List, [], _∷_}
+use Rattle.octets.specs.Bytes.{Bytes, same, startsWith, firstZero, every, text}
+use Rattle.sets.specs.Sets.{has}
+use Rattle.hex.specs.Hex.{unhex, hex}
+use Rattle.packet.specs.Layout.{rulesOf, requestShape, responseShape}
+use Rattle.packet.specs.Arguments.{fits, split}
+use Rattle.packet.specs.Packet.{header, body, read}
+use Rattle.handle.specs.Handle.{decimal, decimalIn, handle, serialOf, value}
+use Rattle.show_names.specs.Names.{labelOf, labelsOf, nameOf, reasonOf}
+use Rattle.show_names.specs.Pieces.{pieces}
+use Rattle.server.specs.Sizes.{connectionCount}
+use Rattle.server.specs.Table.{Table, fresh, setJob}
+use Rattle.server.specs.Replay.{frame}
+use Rattle.plan.specs.Values.{serialRow}
+use Rattle.capture.specs.Packets.{packetLines}
+use Rattle.show_packet.specs.Lines.{argumentText, argumentTexts, labelBefore, packetText, readText, refusalText, refusedText, requestLine, responseLine, saying, seenByte, seenBytes, shown, sized, valueOf}
+use Rattle.show_table.specs.Standing.{connectionsText, each, foundText, holderText, jobText, jobsText, noJobText, orNone, serialText, sleepersText}
+use Rattle.show_job.specs.Concerned.{concerned, handleIn, jobNamed, namedBy}
+use Rattle.show_parts.specs.Parts.{answerText, digitsText, eventText, headerSeen, headingText, jobsAfter, numberText, sentText, tableText}
+use Rattle.show_line.specs.Shown.{lineText}
+
+-- the bytes that digits spell
+abbrev bytesIn : Option Bytes → Bytes
+bytesIn none = []
+bytesIn (some b) = b
+
+-- line k of a capture: its digits, the packets sent in digits, the number, and the table after it
+unfoldable printed : ℕ → Bytes → List Bytes → ℕ → Table → Bytes
+unfolding lineText headingText digitsText headerSeen eventText answerText packetLines sentText numberText tableText jobsAfter concerned jobNamed namedBy handleIn serialOf value handle frame unhex hex requestLine responseLine saying readText packetText refusedText refusalText argumentTexts argumentText pieces labelBefore valueOf sized shown seenBytes seenByte nameOf reasonOf labelOf labelsOf decimal decimalIn read header body split fits rulesOf requestShape responseShape startsWith firstZero every same sleepersText connectionsText each orNone serialText foundText serialRow jobText jobsText noJobText holderText has fresh
+printed k line sent n t = lineText k (frame line) sent n t
+
+abbrev spelled : String → Bytes
+unfolding unhex
+spelled s = bytesIn (unhex (text s))
+
+-- one job, with this serial, this holder and these listeners
+abbrev oneJob : ℕ → ℕ → ℕ → Table
+unfolding fresh
+oneJob serial holder listeners =
+    setJob (fresh connectionCount) 0 (record {
+      row = record { serial = serial; function = 0; priority = 1; background = false; listeners = listeners; holder = holder; size = 4 };
+      unique = [];
+      numerator = 48 ∷ [];
+      denominator = 48 ∷ [];
+    })
+
+submission : printed 6 (text "030000524551000000070000000d72657665727365000074657374")
+    (spelled "00005245530000000800000007483a6c61703a31" ∷ spelled "01005245530000000600000000" ∷ []) 0 (oneJob 1 0 1)
+    ≡ text "line 6 030000524551000000070000000d\n    0 -> SUBMIT_JOB function reverse unique \"\" workload 4 bytes\n    0 <- JOB_CREATED H:lap:1\n    1 <- NOOP\n    done\n    asleep none\n    job H:lap:1 holder none listeners 0\n"
+unfolding printed
+submission = refl
+
+late-result : printed 16 (text "0301005245510000000d0000000c483a6c61703a310070707070")
+    (spelled "0100524553000000130000000931340068616e646c65" ∷ []) 14 (oneJob 2 2 12)
+    ≡ text "line 16 0301005245510000000d0000000c\n    1 -> WORK_COMPLETE handle H:lap:1 data 4 bytes\n    1 <- ERROR number 14 text handle\n    refused 14 handle\n    asleep none\n    no job H:lap:1\n"
+unfolding printed
+late-result = refl
+
+close : printed 9 (text "0203") [] 0 (oneJob 2 2 4) ≡ text "line 9 0203\n    3 closes\n    done\n    asleep none\n    job H:lap:2 holder 1 listeners 2\n"
+unfolding printed
+close = refl
+
+not-a-frame : printed 3 (text "0A00") [] 16 (oneJob 2 2 4) ≡ text "line 3\n    refused 16 line is not a frame\n"
+unfolding printed
+not-a-frame = refl

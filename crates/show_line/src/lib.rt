@@ -1,0 +1,73 @@
+// One line of a capture in words, laid over a lent text: its number, what it says, what the server answered, and how the table stands
+// after it. docs/SHOW.md has the layout. A line that is no frame is answered by 16, and a text with too little room by nothing at all.
+// No caller has to check anything first.
+use capture::Frame;
+use carry_event::Answer;
+use server::OUTPUT_SIZE;
+use show_table::JOBS_ROOM;
+use show_table::SLEEPERS_ROOM;
+ghost use mathlib.Core.Path.{_≡_};
+ghost use Prim.Native.Nat.{_+_, _≤_};
+ghost use lib.ListN.{length};
+ghost use Rattle.octets.specs.Put.{put};
+ghost use Rattle.server.specs.Sizes.{connectionCount, outputSize};
+ghost use Rattle.server.specs.Layout.{tableOf, tableSize};
+ghost use Rattle.capture.specs.Frames.{Bounded, eventOf};
+ghost use Rattle.capture.specs.Packets.{Packed, packetsIn};
+ghost use Rattle.capture.specs.Spoken.{telling};
+ghost use Rattle.show_line.specs.Shown.{lineText, shown, textSize};
+
+// Room for what any line says.
+pub const TEXT_SIZE: usize = 14 * OUTPUT_SIZE + 1314 + 47 + (SLEEPERS_ROOM + JOBS_ROOM) + 1;
+
+// Lays all that is said of a line.
+fn put_line(
+    text: &mut [u8],
+    number: u32,
+    frame: Frame,
+    bytes: &[u8; 1040],
+    table: &[u8],
+    sent: &[u8],
+    outcome: u8,
+) -> usize
+    requires { ⌜ Bounded frame × Packed (now sent) × ((outcome ≡ 1 → ⊥) → (outcome ≡ 16 → ⊥) → tableSize connectionCount ≤ length (now table))
+        × (length (now sent) ≤ outputSize connectionCount) × (textSize ≤ length (now text)) ⌝ }
+    ensures { λ r. ⌜ (r ≡ 0 + length (lineText number (eventOf frame (now (bytes .entry))) (packetsIn (now (sent .entry))) outcome (tableOf connectionCount (now (table .entry)))))
+        × (now (text .exit) ≡ put 0 (lineText number (eventOf frame (now (bytes .entry))) (packetsIn (now (sent .entry))) outcome (tableOf connectionCount (now (table .entry)))) (now (text .entry))) ⌝ }
+{
+    let answer = show_parts::put_heading(text, number, frame, bytes);
+    let standing = show_parts::put_answer(text, answer, sent, outcome);
+    let end = show_parts::put_table(text, standing, table, frame, bytes, sent, outcome);
+    octets::put(text, end, b"\n")
+}
+
+// One line of a capture, without its line end: lays what is shown of it over the start of the text, and returns how long that is.
+// Nothing is said, and nothing changed, where the text has less room than `TEXT_SIZE` bytes.
+pub fn step(
+    table: &mut [u8],
+    workloads: &mut [u8],
+    output: &mut [u8],
+    text: &mut [u8],
+    number: u32,
+    line: &[u8],
+) -> usize
+    ensures { λ r. ⌜ telling r (now (text .exit)) (now (output .exit)) (now (table .exit)) (now (workloads .exit))
+        ≡ shown number (now (line .entry)) (now (table .entry)) (now (workloads .entry)) (now (output .entry)) (now (text .entry)) ⌝ }
+{
+    if text.len() < TEXT_SIZE {
+        return 0;
+    }
+    let mut bytes = [0u8; 1040];
+    let frame = capture::read_frame(line, &mut bytes);
+    let answer: Answer = capture::answer_frame(table, workloads, output, frame, &bytes);
+    let length = answer.length;
+    put_line(
+        text,
+        number,
+        frame,
+        &bytes,
+        table,
+        &output[..length],
+        answer.number,
+    )
+}

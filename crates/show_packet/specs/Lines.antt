@@ -1,0 +1,101 @@
+-- One packet in words: the connection, an arrow, the protocol's name of the type and the arguments; or that it is refused, and why.
+-- An opaque argument is its length alone. Assumes nothing.
+use Prim.Native.Nat.{ℕ}
+use mathlib.Core.Bool.{cond}
+use mathlib.Core.List.{[], _∷_, _++_}
+use lib.ListN.{length, getD}
+use lib.Dec.{eqb, ltb}
+use Rattle.octets.specs.Bytes.{Bytes, numberAt, within}
+use Rattle.packet.specs.declared.Rule.{Rule}
+use Rattle.packet.specs.declared.Rule.the-variants.{Absent}
+use Rattle.packet.specs.declared.Shape.{Shape}
+use Rattle.packet.specs.Layout.{rulesOf}
+use Rattle.packet.specs.Opaque.{isOpaque}
+use Rattle.packet.specs.Packet.{Direction, Reading, refused, got, read, requests, responses}
+use Rattle.handle.specs.Handle.{decimal}
+use Rattle.show_names.specs.Names.{labelOf, nameOf, reasonOf, space}
+use Rattle.show_names.specs.Pieces.{pieces}
+
+-- ---- the fixed words
+
+abbrev pub quotes : Bytes
+quotes = 34 ∷ 34 ∷ []  -- ""
+
+abbrev pub bytesWord : Bytes
+bytesWord = 32 ∷ 98 ∷ 121 ∷ 116 ∷ 101 ∷ 115 ∷ []  -- bytes, after a space
+
+abbrev pub refusedWord : Bytes
+refusedWord = 114 ∷ 101 ∷ 102 ∷ 117 ∷ 115 ∷ 101 ∷ 100 ∷ 32 ∷ []  -- refused, and a space
+
+-- the arrows, each between spaces: `->` to the server, `<-` from it
+abbrev pub toServer : Bytes
+toServer = 32 ∷ 45 ∷ 62 ∷ 32 ∷ []
+
+abbrev pub fromServer : Bytes
+fromServer = 32 ∷ 60 ∷ 45 ∷ 32 ∷ []
+
+-- ---- one argument
+
+-- a byte from 33 to 126 as it is, any other as `?`: no byte shown is a space or moves the cursor
+unfoldable pub seenByte : ℕ → ℕ
+seenByte x = cond (within 33 126 x) x 63
+
+unfoldable pub seenBytes : Bytes → Bytes
+seenBytes [] = []
+seenBytes (x ∷ a) = seenByte x ∷ seenBytes a
+
+-- a visible argument; an empty one is `""`
+unfoldable pub shown : Bytes → Bytes
+shown [] = quotes
+shown (x ∷ a) = seenBytes (x ∷ a)
+
+-- how many bytes an opaque argument has: `4 bytes`
+unfoldable pub sized : ℕ → Bytes
+sized n = decimal n ++ bytesWord
+
+unfoldable pub valueOf : Rule → Bytes → Bytes
+valueOf rule a = cond (isOpaque rule) (sized (length a)) (shown a)
+
+-- an argument's label and a space; an argument that is the only one of its type stands without
+unfoldable pub labelBefore : Shape → ℕ → Bytes
+labelBefore shape i = cond (eqb (length (rulesOf shape)) 1) [] (labelOf shape i ++ space)
+
+-- argument i, after a space
+unfoldable pub argumentText : Shape → ℕ → Bytes → Bytes
+argumentText shape i a = space ++ (labelBefore shape i ++ valueOf (getD (rulesOf shape) i Absent) a)
+
+-- the first n arguments in order, each given by its place
+unfoldable pub argumentTexts : Shape → (ℕ → Bytes) → ℕ → Bytes
+argumentTexts shape f n = pieces (λ i. argumentText shape i (f i)) n
+
+-- ---- one packet
+
+-- a packet that was read: its type's name and all its arguments
+unfoldable pub packetText : ℕ → Shape → (ℕ → Bytes) → Bytes
+packetText kind shape f = nameOf kind ++ argumentTexts shape f (length (rulesOf shape))
+
+-- `refused 14 handle`
+unfoldable pub refusalText : ℕ → Bytes
+refusalText n = refusedWord ++ (decimal n ++ (space ++ reasonOf n))
+
+-- a packet that was refused: from 9 on its header was good, and the name of its type is shown too
+unfoldable pub refusedText : ℕ → ℕ → Bytes
+refusedText kind n = cond (ltb n 9) (refusalText n) (nameOf kind ++ (space ++ refusalText n))
+
+-- what a reading says; the type in the header is `kind`
+unfoldable pub readText : (ℕ → Shape) → ℕ → Reading → Bytes
+readText shapes kind (refused n) = refusedText kind n
+readText shapes kind (got k as′) = packetText k (shapes k) (λ i. getD as′ i [])
+
+unfoldable pub saying : Direction → Bytes → Bytes
+saying w s = readText (w .shape) (numberAt s 4) (read w s)
+
+-- ---- one line, without its line end
+
+-- `1 -> CAN_DO reverse`
+unfoldable pub requestLine : ℕ → Bytes → Bytes
+requestLine c s = decimal c ++ (toServer ++ saying requests s)
+
+-- `0 <- JOB_CREATED H:lap:1`
+unfoldable pub responseLine : ℕ → Bytes → Bytes
+responseLine c s = decimal c ++ (fromServer ++ saying responses s)

@@ -1,0 +1,195 @@
+// Packets in words, laid over a lent text: a request or a response as one line in the protocol's names. An opaque argument is
+// shown by its length alone. Each function returns the place after what it laid. An inner crate: its callers see to the room.
+use packet::Ends;
+use packet::Read;
+use packet::Rule;
+use packet::Shape;
+ghost use mathlib.Core.Path.{_≡_};
+ghost use Prim.Native.Nat.{_+_, _≤_, _<_, _^_};
+ghost use lib.ListN.{length};
+ghost use Rattle.octets.specs.Bytes.{numberAt};
+ghost use Rattle.octets.specs.Put.{put};
+ghost use Rattle.packet.specs.Layout.{rulesOf};
+ghost use Rattle.packet.specs.Answers.{argumentAt};
+ghost use Rattle.show_packet.specs.Lines.{argumentText, argumentTexts, labelBefore, packetText, refusalText, refusedText, requestLine, responseLine, seenByte, seenBytes, shown, sized, valueOf};
+
+// A byte as it is shown: `?` for what is no visible character of ASCII.
+fn seen_byte(x: u8) -> u8
+    ensures { λ r. ⌜ r ≡ seenByte x ⌝ }
+{
+    if x < 33 {
+        return 63;
+    }
+    if 126 < x {
+        return 63;
+    }
+    x
+}
+
+// Lays each byte as it is shown.
+fn put_seen(out: &mut [u8], at: usize, a: &[u8]) -> usize
+    requires { ⌜ (at + length (seenBytes (now a)) ≤ length (now out)) ⌝ }
+    ensures { λ r. ⌜ (r ≡ at + length (seenBytes (now (a .entry)))) × (now (out .exit) ≡ put at (seenBytes (now (a .entry))) (now (out .entry))) ⌝ }
+{
+    let mut i = 0;
+    while i < a.len() {
+        out[at + i] = seen_byte(a[i]);
+        i += 1;
+    }
+    at + i
+}
+
+// Lays a visible argument.
+fn put_shown(out: &mut [u8], at: usize, a: &[u8]) -> usize
+    requires { ⌜ (at + length (shown (now a)) ≤ length (now out)) ⌝ }
+    ensures { λ r. ⌜ (r ≡ at + length (shown (now (a .entry)))) × (now (out .exit) ≡ put at (shown (now (a .entry))) (now (out .entry))) ⌝ }
+{
+    if a.len() == 0 {
+        return octets::put(out, at, b"\"\"");
+    }
+    put_seen(out, at, a)
+}
+
+// Lays how many bytes an opaque argument has.
+fn put_size(out: &mut [u8], at: usize, count: usize) -> usize
+    requires { ⌜ (count < 2 ^ 32) × (at + length (sized count) ≤ length (now out)) ⌝ }
+    ensures { λ r. ⌜ (r ≡ at + length (sized count)) × (now (out .exit) ≡ put at (sized count) (now (out .entry))) ⌝ }
+{
+    let place = show_names::put_number(out, at, count as u32);
+    octets::put(out, place, b" bytes")
+}
+
+// Lays an argument by its rule.
+fn put_value(out: &mut [u8], at: usize, rule: Rule, a: &[u8]) -> usize
+    requires { ⌜ (length (now a) < 2 ^ 32) × (at + length (valueOf rule (now a)) ≤ length (now out)) ⌝ }
+    ensures { λ r. ⌜ (r ≡ at + length (valueOf rule (now (a .entry)))) × (now (out .exit) ≡ put at (valueOf rule (now (a .entry))) (now (out .entry))) ⌝ }
+{
+    match rule {
+        Rule::Opaque => put_size(out, at, a.len()),
+        _ => put_shown(out, at, a),
+    }
+}
+
+// Lays the label of an argument and a space, if the shape has more arguments than one.
+fn put_label_before(out: &mut [u8], at: usize, shape: Shape, i: usize) -> usize
+    requires { ⌜ (at + length (labelBefore shape i) ≤ length (now out)) ⌝ }
+    ensures { λ r. ⌜ (r ≡ at + length (labelBefore shape i)) × (now (out .exit) ≡ put at (labelBefore shape i) (now (out .entry))) ⌝ }
+{
+    if packet_kinds::count_of(shape) == 1 {
+        return at;
+    }
+    let place = show_names::put_label(out, at, shape, i);
+    octets::put(out, place, b" ")
+}
+
+// Lays argument `i` of a shape, after a space.
+fn put_argument(out: &mut [u8], at: usize, shape: Shape, i: usize, a: &[u8]) -> usize
+    requires { ⌜ (length (now a) < 2 ^ 32) × (at + length (argumentText shape i (now a)) ≤ length (now out)) ⌝ }
+    ensures { λ r. ⌜ (r ≡ at + length (argumentText shape i (now (a .entry)))) × (now (out .exit) ≡ put at (argumentText shape i (now (a .entry))) (now (out .entry))) ⌝ }
+{
+    let label = octets::put(out, at, b" ");
+    let value = put_label_before(out, label, shape, i);
+    put_value(out, value, packet_kinds::rule_of(shape, i), a)
+}
+
+// Lays the arguments of a packet that was read.
+fn put_arguments(out: &mut [u8], at: usize, shape: Shape, packet: &[u8], ends: Ends) -> usize
+    requires { ⌜ (length (now packet) < 2 ^ 32) × (at + length (argumentTexts shape (argumentAt (now packet) ends) (length (rulesOf shape))) ≤ length (now out)) ⌝ }
+    ensures { λ r. ⌜ (r ≡ at + length (argumentTexts shape (argumentAt (now (packet .entry)) ends) (length (rulesOf shape)))) × (now (out .exit) ≡ put at (argumentTexts shape (argumentAt (now (packet .entry)) ends) (length (rulesOf shape))) (now (out .entry))) ⌝ }
+{
+    let count = packet_kinds::count_of(shape);
+    let mut place = at;
+    let mut i = 0;
+    while i < count {
+        let a = packet_read::argument(packet, ends, i);
+        place = put_argument(out, place, shape, i, a);
+        i += 1;
+    }
+    place
+}
+
+// Lays a packet that was read: the name of its type, and its arguments.
+fn put_packet(
+    out: &mut [u8],
+    at: usize,
+    kind: u32,
+    shape: Shape,
+    packet: &[u8],
+    ends: Ends,
+) -> usize
+    requires { ⌜ (length (now packet) < 2 ^ 32) × (at + length (packetText kind shape (argumentAt (now packet) ends)) ≤ length (now out)) ⌝ }
+    ensures { λ r. ⌜ (r ≡ at + length (packetText kind shape (argumentAt (now (packet .entry)) ends))) × (now (out .exit) ≡ put at (packetText kind shape (argumentAt (now (packet .entry)) ends)) (now (out .entry))) ⌝ }
+{
+    let place = show_names::put_name(out, at, kind);
+    put_arguments(out, place, shape, packet, ends)
+}
+
+// Lays a refusal: its number, and its reason.
+pub fn put_refusal(out: &mut [u8], at: usize, number: u8) -> usize
+    requires { ⌜ (at + length (refusalText number) ≤ length (now out)) ⌝ }
+    ensures { λ r. ⌜ (r ≡ at + length (refusalText number)) × (now (out .exit) ≡ put at (refusalText number) (now (out .entry))) ⌝ }
+{
+    let digits = octets::put(out, at, b"refused ");
+    let space = show_names::put_number(out, digits, number as u32);
+    let reason = octets::put(out, space, b" ");
+    show_names::put_reason(out, reason, number)
+}
+
+// Lays a packet that was refused: the name of its type, if its header was good, and the refusal.
+fn put_refused(out: &mut [u8], at: usize, packet: &[u8], number: u8) -> usize
+    requires { ⌜ (9 ≤ number → 8 ≤ length (now packet)) × (at + length (refusedText (numberAt (now packet) 4) number) ≤ length (now out)) ⌝ }
+    ensures { λ r. ⌜ (r ≡ at + length (refusedText (numberAt (now (packet .entry)) 4) number)) × (now (out .exit) ≡ put at (refusedText (numberAt (now (packet .entry)) 4) number) (now (out .entry))) ⌝ }
+{
+    if number < 9 {
+        return put_refusal(out, at, number);
+    }
+    let space = show_names::put_name(out, at, octets::number_at(packet, 4));
+    let place = octets::put(out, space, b" ");
+    put_refusal(out, place, number)
+}
+
+// Lays a request as a line: who sends it, and what it says.
+pub fn put_request(out: &mut [u8], at: usize, connection: u8, packet: &[u8]) -> usize
+    requires { ⌜ (at + length (requestLine connection (now packet)) ≤ length (now out)) ⌝ }
+    ensures { λ r. ⌜ (r ≡ at + length (requestLine connection (now (packet .entry)))) × (now (out .exit) ≡ put at (requestLine connection (now (packet .entry))) (now (out .entry))) ⌝ }
+{
+    let arrow = show_names::put_number(out, at, connection as u32);
+    let place = octets::put(out, arrow, b" -> ");
+    let read = packet_read::read_request(packet);
+    match read {
+        Read::Refused(number) => put_refused(out, place, packet, number),
+        Read::Packet { kind, ends } => {
+            put_packet(
+                out,
+                place,
+                kind,
+                packet_kinds::request_shape(kind),
+                packet,
+                ends,
+            )
+        }
+    }
+}
+
+// Lays a response as a line: to whom it goes, and what it says.
+pub fn put_response(out: &mut [u8], at: usize, connection: u8, packet: &[u8]) -> usize
+    requires { ⌜ (at + length (responseLine connection (now packet)) ≤ length (now out)) ⌝ }
+    ensures { λ r. ⌜ (r ≡ at + length (responseLine connection (now (packet .entry)))) × (now (out .exit) ≡ put at (responseLine connection (now (packet .entry))) (now (out .entry))) ⌝ }
+{
+    let arrow = show_names::put_number(out, at, connection as u32);
+    let place = octets::put(out, arrow, b" <- ");
+    let read = packet_read::read_response(packet);
+    match read {
+        Read::Refused(number) => put_refused(out, place, packet, number),
+        Read::Packet { kind, ends } => {
+            put_packet(
+                out,
+                place,
+                kind,
+                packet_kinds::response_shape(kind),
+                packet,
+                ends,
+            )
+        }
+    }
+}

@@ -1,0 +1,99 @@
+-- How long the parts of a line are at the most. Assumes nothing.
+use Prim.Native.Nat.{ℕ, _+_, _*_, _≤_}
+use mathlib.Core.Bool.{Bool, true, false, cond, _||_}
+use mathlib.Core.Option.{Option, none, some}
+use mathlib.Core.List.{List, [], _∷_, _++_}
+use native.Mathlib.Omega.{arith}
+use lib.ListN.{length, getD, take, drop, length-append, length-take, length-drop}
+use lib.Dec.{eqb, ltb}
+use Rattle.octets.specs.Bytes.{Bytes}
+use Rattle.hex.specs.Hex.{hex}
+use Rattle.hex.proofs.Writing.{hex-length}
+use Rattle.packet.specs.Packet.{Reading, refused, got, read, requests}
+use Rattle.handle.specs.declared.Serial as S
+use Rattle.handle.specs.declared.Serial.the-variants as SV
+use Rattle.handle.specs.Handle.{decimal}
+use Rattle.handle.proofs.Decimal.{decimal-most}
+use Rattle.server.specs.declared.JobRow.{JobRow}
+use Rattle.lists.specs.Lists.{concat}
+use Rattle.server.specs.Sizes.{connectionCount}
+use Rattle.server.specs.Table.{Table}
+use Rattle.server.specs.Asked.{Event, opens, closes, sends}
+use Rattle.plan.specs.Values.{rowsOf}
+use Rattle.capture.specs.Packets.{Addressed, packetLines}
+use Rattle.capture.proofs.Lines.{lines-short}
+use Rattle.show_packet.specs.Lines.{refusalText}
+use Rattle.show_packet.proofs.Bounds.{refusal-short, request-line-short, response-line-near}
+use Rattle.show_table.specs.Standing.{below, jobsText, sleepersText, sleepersRoom, jobsRoom}
+use Rattle.show_table.proofs.Bounds.{jobs-short, serial-text-short, sleepers-short}
+use Rattle.show_job.specs.Concerned.{concerned}
+use Rattle.show_parts.specs.Parts.{answerText, closesWord, digitsText, doneWord, eventText, frameDigits, headerIn, headerSeen, headingText, jobsAfter, namedText, numberText, opensWord, sentText, tableText}
+
+event-short : (f : Option Event) → length (eventText f) ≤ 1270
+unfolding eventText
+event-short none = omega arith
+event-short (some (opens c)) = omega (arith, length-append (decimal c) opensWord, decimal-most c)
+event-short (some (closes c)) = omega (arith, length-append (decimal c) closesWord, decimal-most c)
+event-short (some (sends c b)) = omega (arith, request-line-short c b)
+
+header-short : (b : Bytes) (r : Reading) → length (headerIn b r) ≤ 12
+header-short b (refused n) = either (ltb n 9)
+  where
+    either : (l : Bool) → length (cond l [] (take 12 b)) ≤ 12
+    either true = omega arith
+    either false = omega (arith, length-take 12 b)
+header-short b (got k as′) = omega (arith, length-take 12 b)
+
+frame-digits-short : (kind c : ℕ) (header : Bytes) → length header ≤ 12 → length (frameDigits kind c header) ≤ 29
+frame-digits-short kind c header h = omega (arith, length-append (hex (kind ∷ c ∷ [])) (hex header), hex-length (kind ∷ c ∷ []), hex-length header)
+
+digits-short : (f : Option Event) → length (digitsText f) ≤ 29
+unfolding digitsText headerSeen
+digits-short none = omega arith
+digits-short (some (opens c)) = frame-digits-short 1 c [] (omega arith)
+digits-short (some (closes c)) = frame-digits-short 2 c [] (omega arith)
+digits-short (some (sends c b)) = frame-digits-short 3 c (headerIn b (read requests b)) (header-short b (read requests b))
+
+pub heading-short : (k : ℕ) (f : Option Event) → length (headingText k f) ≤ 1314
+unfolding headingText
+heading-short k f = omega (arith, length-append (decimal k) (digitsText f ++ eventText f), length-append (digitsText f) (eventText f), decimal-most k, digits-short f, event-short f)
+
+-- at most fourteen times the packet
+pub sent-short : (p : Bytes) → 13 ≤ length p → length (sentText p) ≤ length p * 14
+unfolding sentText
+sent-short p h = omega (arith, response-line-near (getD p 0 0) (drop 1 p), length-drop 1 p)
+
+number-short : (n : ℕ) → length (numberText n) ≤ 47
+unfolding numberText
+number-short n = either (eqb n 0)
+  where
+    either : (b : Bool) → length (below ++ cond b doneWord (refusalText n)) ≤ 47
+    either true = omega arith
+    either false = omega (arith, refusal-short n)
+
+pub answer-short : (ps : List Bytes) (n : ℕ) → Addressed ps → length (answerText ps n) ≤ length (concat ps) * 14 + 47
+unfolding answerText
+answer-short ps n a = omega (arith, length-append (packetLines sentText ps) (numberText n), lines-short sentText 14 sent-short ps a, number-short n)
+
+named-short : (s : S.Serial) (rs : List JobRow) → length (namedText s rs) ≤ jobsRoom
+named-short SV.None rs = omega arith
+named-short (SV.Of n) rs = omega (arith, serial-text-short n rs)
+
+jobs-after-short : (f : Option Event) (ps : List Bytes) (n : ℕ) (rs : List JobRow) → length (jobsAfter f ps n rs) ≤ jobsRoom
+unfolding jobsAfter
+jobs-after-short none ps n rs = omega arith
+jobs-after-short (some (opens c)) ps n rs = omega arith
+jobs-after-short (some (closes c)) ps n rs = either (eqb n 0)
+  where
+    either : (b : Bool) → length (cond b (jobsText connectionCount rs) []) ≤ jobsRoom
+    either true = jobs-short rs
+    either false = omega arith
+jobs-after-short (some (sends c b)) ps n rs = named-short (concerned b ps) rs
+
+pub table-short : (f : Option Event) (ps : List Bytes) (n : ℕ) (t : Table) → length (tableText f ps n t) ≤ sleepersRoom + jobsRoom
+unfolding tableText
+table-short f ps n t = either (eqb n 1 || eqb n 16)
+  where
+    either : (b : Bool) → length (cond b [] (sleepersText connectionCount (t .connections) ++ jobsAfter f ps n (rowsOf t))) ≤ sleepersRoom + jobsRoom
+    either true = omega arith
+    either false = omega (arith, length-append (sleepersText connectionCount (t .connections)) (jobsAfter f ps n (rowsOf t)), sleepers-short (t .connections), jobs-after-short f ps n (rowsOf t))

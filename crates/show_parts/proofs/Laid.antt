@@ -1,0 +1,150 @@
+-- What each branch lays is the part of the line that the definition gives: by the kind of frame, by the number, by the serial that was
+-- found. Assumes nothing.
+use Prim.Native.Nat.{ℕ, _-_, _<_, _≤_}
+use mathlib.Core.Path.{_≡_, ap, sym}
+use mathlib.Core.Bool.{cond}
+use mathlib.Core.Option.{Option}
+use mathlib.Core.List.{List, [], _++_}
+use borrow.Author.Tests.{le-ltb, lt-ltb, ne-eqb}
+use lib.ListN.{length, getD, take, drop}
+use lib.Dec.{eqb}
+use Rattle.octets.specs.Bytes.{Bytes}
+use Rattle.octets.proofs.Strings.{rest-part}
+use Rattle.packet.specs.declared.Ends.{Ends}
+use Rattle.packet.specs.declared.Read.the-variants as RV
+use Rattle.packet.specs.Packet.{read, requests}
+use Rattle.packet.specs.Answers.{answerOf}
+use Rattle.packet_laws.proofs.Answers.{read-answer, refused-answer}
+use Rattle.handle.specs.declared.Serial as S
+use Rattle.handle.specs.declared.Serial.the-variants as SV
+use Rattle.handle.specs.Handle.{decimal}
+use Rattle.server.specs.declared.JobRow.{JobRow}
+use Rattle.server.specs.Sizes.{connectionCount}
+use Rattle.server.specs.Table.{Table}
+use Rattle.server.specs.Asked.{Event}
+use Rattle.plan.specs.declared.Values as V′
+use Rattle.plan.specs.Values.{valuesOf}
+use Rattle.capture.specs.declared.Frame as F
+use Rattle.capture.specs.declared.Frame.the-variants as FV
+use Rattle.capture.specs.Frames.{eventOf}
+use Rattle.show_packet.specs.Lines.{refusalText, requestLine, responseLine}
+use Rattle.show_table.specs.Standing.{below, jobsText, serialText, sleepersText}
+use Rattle.show_job.specs.Concerned.{concerned}
+use Rattle.show_parts.specs.Parts.{closesWord, digitsText, doneWord, eventText, frameDigits, headerSeen, jobsAfter, namedText, numberText, opensWord, sentText, tableText}
+
+-- ---- by the kind of frame
+
+module _ (f : F.Frame) (b : Bytes) where
+  module _ (e : f ≡ FV.Nothing) where
+    pub nothing-digits : [] ≡ digitsText (eventOf f b)
+    unfolding digitsText
+    nothing-digits = rw e
+
+    pub nothing-event : [] ≡ eventText (eventOf f b)
+    unfolding eventText
+    nothing-event = rw e
+
+    pub nothing-jobs : (ps : List Bytes) (n : ℕ) (rs : List JobRow) → [] ≡ jobsAfter (eventOf f b) ps n rs
+    unfolding jobsAfter
+    nothing-jobs ps n rs = rw e
+
+  module _ (c : ℕ) where
+    module _ (e : f ≡ FV.Open c) where
+      pub open-digits : frameDigits 1 c [] ≡ digitsText (eventOf f b)
+      unfolding digitsText
+      open-digits = rw e
+
+      pub open-event : below ++ (decimal c ++ opensWord) ≡ eventText (eventOf f b)
+      unfolding eventText
+      open-event = rw e
+
+      pub open-jobs : (ps : List Bytes) (n : ℕ) (rs : List JobRow) → [] ≡ jobsAfter (eventOf f b) ps n rs
+      unfolding jobsAfter
+      open-jobs ps n rs = rw e
+
+    module _ (e : f ≡ FV.Close c) where
+      pub close-digits : frameDigits 2 c [] ≡ digitsText (eventOf f b)
+      unfolding digitsText
+      close-digits = rw e
+
+      pub close-event : below ++ (decimal c ++ closesWord) ≡ eventText (eventOf f b)
+      unfolding eventText
+      close-event = rw e
+
+      pub close-jobs : (ps : List Bytes) (n : ℕ) (rs : List JobRow) → cond (eqb n 0) (jobsText connectionCount rs) [] ≡ jobsAfter (eventOf f b) ps n rs
+      unfolding jobsAfter
+      close-jobs ps n rs = rw e
+
+    module _ (end : ℕ) (e : f ≡ FV.Packet c end) where
+      pub packet-digits : (header : Bytes) → header ≡ headerSeen (take (end - 2) (drop 2 b)) → frameDigits 3 c header ≡ digitsText (eventOf f b)
+      unfolding digitsText
+      packet-digits header q = rw (e, q)
+
+      pub packet-event : below ++ requestLine c (take (end - 2) (drop 2 b)) ≡ eventText (eventOf f b)
+      unfolding eventText
+      packet-event = rw e
+
+      pub packet-jobs : (s : S.Serial) (ps : List Bytes) (n : ℕ) (rs : List JobRow) → s ≡ concerned (take (end - 2) (drop 2 b)) ps → namedText s rs ≡ jobsAfter (eventOf f b) ps n rs
+      unfolding jobsAfter
+      packet-jobs s ps n rs q = rw (e, q)
+
+-- ---- by the reading of a packet
+
+module _ (b : Bytes) where
+  module _ (n : ℕ) (e : RV.Refused n ≡ answerOf (read requests b)) where
+    pub bad-header : n < 9 → (h : Bytes) → h ≡ take 0 b → h ≡ headerSeen b
+    unfolding headerSeen
+    bad-header l h q = rw (refused-answer (read requests b) n (sym e), lt-ltb n 9 l) q
+
+    pub header-refused : 9 ≤ n → (h : Bytes) → h ≡ take 12 b → h ≡ headerSeen b
+    unfolding headerSeen
+    header-refused l h q = rw (refused-answer (read requests b) n (sym e), le-ltb n 9 l) q
+
+  pub header-read : (k : ℕ) (ends : Ends) → RV.Packet k ends ≡ answerOf (read requests b) → (h : Bytes) → h ≡ take 12 b → h ≡ headerSeen b
+  unfolding headerSeen
+  header-read k ends e h q = rw (read-answer (read requests b) k ends (sym e) .1) q
+
+-- ---- by the serial
+
+module _ (s : S.Serial) (rs : List JobRow) where
+  pub no-serial : s ≡ SV.None → [] ≡ namedText s rs
+  no-serial e = rw e
+
+  pub of-serial : (n : ℕ) → s ≡ SV.Of n → serialText connectionCount n rs ≡ namedText s rs
+  of-serial n e = rw e
+
+-- ---- by the number
+
+pub number-done : (n : ℕ) → n ≡ 0 → below ++ doneWord ≡ numberText n
+unfolding numberText
+number-done n e = rw e
+
+pub number-refused : (n : ℕ) → (n ≡ 0 → ⊥) → below ++ refusalText n ≡ numberText n
+unfolding numberText
+number-refused n e = rw (ne-eqb n 0 e)
+
+pub left-done : (n : ℕ) (rs : List JobRow) → n ≡ 0 → jobsText connectionCount rs ≡ cond (eqb n 0) (jobsText connectionCount rs) []
+left-done n rs e = rw e
+
+pub left-refused : (n : ℕ) (rs : List JobRow) → (n ≡ 0 → ⊥) → [] ≡ cond (eqb n 0) (jobsText connectionCount rs) []
+left-refused n rs e = rw (ne-eqb n 0 e)
+
+module _ (f : Option Event) (ps : List Bytes) (n : ℕ) (t : Table) where
+  pub no-table : n ≡ 1 → [] ≡ tableText f ps n t
+  unfolding tableText
+  no-table e = rw e
+
+  pub unseen : n ≡ 16 → [] ≡ tableText f ps n t
+  unfolding tableText
+  unseen e = rw e
+
+  pub table-stands : (n ≡ 1 → ⊥) → (n ≡ 16 → ⊥) → (v : V′.Values) → v ≡ valuesOf t → sleepersText connectionCount (v .connections) ++ jobsAfter f ps n (v .rows) ≡ tableText f ps n t
+  unfolding tableText valuesOf
+  table-stands a b v e = rw (ne-eqb n 1 a, ne-eqb n 16 b) (ap (λ (u : V′.Values). sleepersText connectionCount (u .connections) ++ jobsAfter f ps n (u .rows)) e)
+
+-- ---- an addressed packet
+
+-- without its connection
+pub sent-as : (p : Bytes) → below ++ responseLine (getD p 0 0) (take (length p - 1) (drop 1 p)) ≡ sentText p
+unfolding sentText
+sent-as p = ap (λ (b : Bytes). below ++ responseLine (getD p 0 0) b) (rest-part p 1)

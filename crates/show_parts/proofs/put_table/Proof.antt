@@ -1,0 +1,47 @@
+-- `show_parts::put_table` meets its contract: nothing after 1 and 16, or the sleepers and the jobs concerned. Assumes nothing.
+use denote.Ref.{now}
+use Rattle.capture.specs.Frames.{eventOf}
+use Rattle.capture.specs.Packets.{packetsIn}
+use Rattle.show_parts.specs.Parts.{jobsAfter}
+use Rattle.show_table.specs.Standing.{sleepersText}
+use Rattle.octets.proofs.Runs.{laid-as, laid-none, laid-then, room-as, room-first, room-then}
+use Rattle.show_parts.proofs.Laid.{no-table, table-stands, unseen}
+use borrow.Author.Needs.{needs}
+use Rattle.server.specs.Sizes.{connectionCount}
+use Rattle.show_parts.proofs.put_table.Statement.{statement}
+use Rattle.show_parts.proofs.put_table.Tie as tie
+
+returns : tie.Need-returns
+returns c = laid-as _ _ (no-table _ _ _ _ (c .if1 .taken)) _ _ _ _ (laid-none _ _)
+
+returns-2 : tie.Need-returns-2
+returns-2 c = laid-as _ _ (unseen _ _ _ _ (c .if2 .taken)) _ _ _ _ (laid-none _ _)
+
+read-values-requires : tie.Need-read-values-requires
+read-values-requires c κs = c .before .before .before .before .before .pre .2 (c .before .if1 .left) (c .if2 .left)
+
+put-sleepers-requires : tie.Need-put-sleepers-requires
+put-sleepers-requires c κs = room-first _ (sleepersText connectionCount (c .before .before .before .read-values .result .connections)) (jobsAfter (eventOf (c .before .before .before .before .before .before .before .before .before .args .frame) (now (c .before .before .before .before .before .before .before .before .before .args .bytes))) (packetsIn (now (c .before .before .before .before .before .before .before .before .before .args .sent))) (c .before .before .before .before .before .before .before .before .before .args .number) (c .before .before .before .read-values .result .rows)) _ (room-as _ _ (table-stands _ _ _ _ (c .before .before .before .before .before .if1 .left) (c .before .before .before .before .if2 .left) _ (c .before .before .before .read-values .ensures)) _ _ (c .before .before .before .before .before .before .before .before .before .pre .3))
+
+put-jobs-requires : tie.Need-put-jobs-requires
+put-jobs-requires c κs =
+    let room = room-as _ _ (table-stands _ _ _ _ (c .before .before .before .before .before .before .before .before .before .if1 .left) (c .before .before .before .before .before .before .before .before .if2 .left) _ (c .before .before .before .before .before .before .before .read-values .ensures)) _ _ (c .before .before .before .before .before .before .before .before .before .before .before .before .before .pre .3) in
+    (c .before .before .before .before .before .before .before .before .before .before .before .before .before .pre .0, c .before .before .before .before .before .before .before .before .before .before .before .before .before .pre .1, room-then _ _ (jobsAfter (eventOf (c .before .before .before .before .before .before .before .before .before .before .before .before .before .args .frame) (now (c .before .before .before .before .before .before .before .before .before .before .before .before .before .args .bytes))) (packetsIn (now (c .before .before .before .before .before .before .before .before .before .before .before .before .before .args .sent))) (c .before .before .before .before .before .before .before .before .before .before .before .before .before .args .number) (c .before .before .before .before .before .before .before .read-values .result .rows)) _ _ _ (c .before .before .before .put-sleepers .ensures) room)
+
+same-length : tie.Need-same-length
+same-length c = search needs
+
+returns-3 : tie.Need-returns-3
+returns-3 c = laid-as _ _ (table-stands _ _ _ _ (c .before .before .before .before .before .before .before .before .before .before .before .before .if1 .left) (c .before .before .before .before .before .before .before .before .before .before .before .if2 .left) _ (c .before .before .before .before .before .before .before .before .before .before .read-values .ensures)) _ _ _ _ (laid-then _ _ _ _ _ _ (c .before .before .before .before .before .before .put-sleepers .ensures) _ _ (c .before .before .put-jobs .ensures))
+
+pub put-table-spec : {M : Type 1} → statement M
+put-table-spec =
+    tie.close
+    (tie.spec
+    returns
+    returns-2
+    read-values-requires
+    put-sleepers-requires
+    put-jobs-requires
+    same-length
+    returns-3)

@@ -1,0 +1,44 @@
+-- What the tests and the search of the code say of a row's holder and of the job of a serial. Assumes nothing.
+use Prim.Native.Nat.{ℕ, zero, suc, _-_}
+use mathlib.Core.Path.{_≡_, refl, ap, _∙_}
+use mathlib.Core.Bool.{cond}
+use mathlib.Core.List.{List, [], _++_}
+use native.Mathlib.Omega.{arith}
+use lib.ListN.{getD}
+use Rattle.octets.specs.Bytes.{Bytes}
+use Rattle.handle.specs.Handle.{decimal}
+use Rattle.server.specs.declared.JobRow.{JobRow}
+use Rattle.server.specs.Sizes.{connectionCount}
+use Rattle.server.specs.Table.{live, noRow}
+use Rattle.lists.proofs.Places.{searched}
+use Rattle.lists.specs.declared.Place.the-variants.{At, Nowhere}
+use Rattle.lists.specs.Places.{placed}
+use Rattle.plan.specs.Values.{serialRow}
+use Rattle.show_names.specs.Names.{space}
+use Rattle.show_table.specs.Standing.{foundText, holderText, holderWord, jobText, noJobText, noneWord, serialText}
+
+-- the piece of place p
+abbrev pub unfinished : List JobRow → ℕ → Bytes
+unfinished rs p = cond (live (getD rs p noRow)) (jobText connectionCount (getD rs p noRow)) []
+
+-- ---- a holder, from the number in the row
+
+pub holder-none : (h : ℕ) → h ≡ 0 → holderWord ++ noneWord ≡ holderWord ++ holderText h
+unfolding holderText
+holder-none h e = rw e
+
+pub holder-some : (h : ℕ) → (h ≡ 0 → ⊥) → (holderWord ++ space) ++ decimal (h - 1) ≡ holderWord ++ holderText h
+unfolding holderText
+holder-some zero n = absurd (n refl)
+holder-some (suc c) n = let e : suc c - 1 ≡ c = omega arith in rw e
+
+-- ---- the job of a serial, from the answer of the search
+
+module _ (n serial : ℕ) (rs : List JobRow) where
+  pub serial-found : (p : ℕ) (r : JobRow) → At p ≡ placed (serialRow serial rs) → r ≡ getD rs p noRow → jobText n r ≡ serialText n serial rs
+  unfolding serialText foundText
+  serial-found p r e q = ap (jobText n) q ∙ ap (foundText n serial rs) (searched (serialRow serial rs) (At p) e)
+
+  pub serial-unfound : Nowhere ≡ placed (serialRow serial rs) → noJobText serial ≡ serialText n serial rs
+  unfolding serialText foundText
+  serial-unfound e = ap (foundText n serial rs) (searched (serialRow serial rs) Nowhere e)

@@ -1,0 +1,180 @@
+// How the table stands after an event, in words laid over a lent text: who is asleep, and a job with its holder and its listeners.
+// Each function returns the place after what it laid. An inner crate: its callers see to the room, and no table is refused.
+use lists::Place;
+use server::CONNECTIONS;
+use server::Connection;
+use server::JOBS;
+use server::JobRow;
+ghost use mathlib.Core.Path.{_≡_};
+ghost use Prim.Native.Nat.{_+_, _≤_, _<_};
+ghost use mathlib.Core.Bool.{cond};
+ghost use mathlib.Core.List.{[], _++_};
+ghost use lib.ListN.{length, getD};
+ghost use lib.Dec.{eqb};
+ghost use Rattle.octets.specs.Put.{put};
+ghost use Rattle.sets.specs.Sets.{has};
+ghost use Rattle.handle.specs.Handle.{decimal, handle, lap};
+ghost use Rattle.server.specs.Sizes.{connectionCount};
+ghost use Rattle.server.specs.Table.{closed, live};
+ghost use Rattle.show_names.specs.Names.{space};
+ghost use Rattle.show_table.specs.Standing.{connectionsText, each, holderText, holderWord, jobText, jobsText, listenersWord, noJobText, noneWord, serialText, sleepersText};
+
+// Room for who sleeps, and for all jobs: a space and two digits for each connection, and the words.
+pub const SLEEPERS_ROOM: usize = 3 * CONNECTIONS + 11;
+
+pub const JOBS_ROOM: usize = (3 * CONNECTIONS + 53) * JOBS;
+
+// ---- connections
+
+// Lays a connection's number after a space, if it is one of those that are shown.
+fn put_one(out: &mut [u8], at: usize, shown: bool, c: usize) -> usize
+    requires { ⌜ (c < connectionCount) × (at + length (cond shown (space ++ decimal c) []) ≤ length (now out)) ⌝ }
+    ensures { λ r. ⌜ (r ≡ at + length (cond shown (space ++ decimal c) [])) × (now (out .exit) ≡ put at (cond shown (space ++ decimal c) []) (now (out .entry))) ⌝ }
+{
+    if shown {
+        let place = octets::put(out, at, b" ");
+        return show_names::put_number(out, place, c as u32);
+    }
+    at
+}
+
+// Lays ` none` if a list of connections that began at `at` ends there too.
+fn put_none(out: &mut [u8], at: usize, place: usize) -> usize
+    requires { ⌜ place + length (cond (eqb place at) noneWord []) ≤ length (now out) ⌝ }
+    ensures { λ r. ⌜ (r ≡ place + length (cond (eqb place at) noneWord [])) × (now (out .exit) ≡ put place (cond (eqb place at) noneWord []) (now (out .entry))) ⌝ }
+{
+    if place == at {
+        return octets::put(out, place, b" none");
+    }
+    place
+}
+
+// Lays the connections that are asleep, in rising order.
+fn put_asleep(out: &mut [u8], at: usize, connections: [Connection; CONNECTIONS]) -> usize
+    requires { ⌜ at + length (each (λ c. getD connections c closed .asleep) connectionCount) ≤ length (now out) ⌝ }
+    ensures { λ r. ⌜ (r ≡ at + length (each (λ c. getD connections c closed .asleep) connectionCount)) × (now (out .exit) ≡ put at (each (λ c. getD connections c closed .asleep) connectionCount) (now (out .entry))) ⌝ }
+{
+    let mut place = at;
+    let mut c = 0;
+    while c < CONNECTIONS {
+        let connection = connections[c];
+        place = put_one(out, place, connection.asleep, c);
+        c += 1;
+    }
+    place
+}
+
+// Lays the connections of a set, in rising order.
+fn put_members(out: &mut [u8], at: usize, set: u32) -> usize
+    requires { ⌜ at + length (each (has set) connectionCount) ≤ length (now out) ⌝ }
+    ensures { λ r. ⌜ (r ≡ at + length (each (has set) connectionCount)) × (now (out .exit) ≡ put at (each (has set) connectionCount) (now (out .entry))) ⌝ }
+{
+    let mut place = at;
+    let mut c = 0;
+    while c < CONNECTIONS {
+        place = put_one(out, place, sets::has(set, c), c);
+        c += 1;
+    }
+    place
+}
+
+// Lays who is asleep.
+pub fn put_sleepers(out: &mut [u8], at: usize, connections: [Connection; CONNECTIONS]) -> usize
+    requires { ⌜ at + length (sleepersText connectionCount connections) ≤ length (now out) ⌝ }
+    ensures { λ r. ⌜ (r ≡ at + length (sleepersText connectionCount connections)) × (now (out .exit) ≡ put at (sleepersText connectionCount connections) (now (out .entry))) ⌝ }
+{
+    let list = octets::put(out, at, b"\n    asleep");
+    let place = put_asleep(out, list, connections);
+    put_none(out, list, place)
+}
+
+// ---- jobs
+
+// Lays the handle of a serial.
+fn put_handle(out: &mut [u8], at: usize, serial: u32) -> usize
+    requires { ⌜ at + length (handle lap serial) ≤ length (now out) ⌝ }
+    ensures { λ r. ⌜ (r ≡ at + length (handle lap serial)) × (now (out .exit) ≡ put at (handle lap serial) (now (out .entry))) ⌝ }
+{
+    let printed = handle::handle_of(serial);
+    let text = printed.text;
+    octets::put(out, at, &text[..printed.length])
+}
+
+// Lays a row's holder.
+fn put_holder(out: &mut [u8], at: usize, holder: u16) -> usize
+    requires { ⌜ at + length (holderWord ++ holderText holder) ≤ length (now out) ⌝ }
+    ensures { λ r. ⌜ (r ≡ at + length (holderWord ++ holderText holder)) × (now (out .exit) ≡ put at (holderWord ++ holderText holder) (now (out .entry))) ⌝ }
+{
+    if holder == 0 {
+        return octets::put(out, at, b" holder none");
+    }
+    let place = octets::put(out, at, b" holder ");
+    show_names::put_number(out, place, (holder - 1) as u32)
+}
+
+// Lays a row's listeners.
+fn put_listeners(out: &mut [u8], at: usize, listeners: u32) -> usize
+    requires { ⌜ at + length (listenersWord ++ connectionsText (has listeners) connectionCount) ≤ length (now out) ⌝ }
+    ensures { λ r. ⌜ (r ≡ at + length (listenersWord ++ connectionsText (has listeners) connectionCount)) × (now (out .exit) ≡ put at (listenersWord ++ connectionsText (has listeners) connectionCount) (now (out .entry))) ⌝ }
+{
+    let list = octets::put(out, at, b" listeners");
+    let place = put_members(out, list, listeners);
+    put_none(out, list, place)
+}
+
+// Lays the job of a row: its handle, its holder, its listeners.
+fn put_job(out: &mut [u8], at: usize, row: JobRow) -> usize
+    requires { ⌜ at + length (jobText connectionCount row) ≤ length (now out) ⌝ }
+    ensures { λ r. ⌜ (r ≡ at + length (jobText connectionCount row)) × (now (out .exit) ≡ put at (jobText connectionCount row) (now (out .entry))) ⌝ }
+{
+    let serial = octets::put(out, at, b"\n    job ");
+    let holder = put_handle(out, serial, row.serial);
+    let listeners = put_holder(out, holder, row.holder);
+    put_listeners(out, listeners, row.listeners)
+}
+
+// Lays that no unfinished job has this serial.
+fn put_no_job(out: &mut [u8], at: usize, serial: u32) -> usize
+    requires { ⌜ at + length (noJobText serial) ≤ length (now out) ⌝ }
+    ensures { λ r. ⌜ (r ≡ at + length (noJobText serial)) × (now (out .exit) ≡ put at (noJobText serial) (now (out .entry))) ⌝ }
+{
+    let place = octets::put(out, at, b"\n    no job ");
+    put_handle(out, place, serial)
+}
+
+// Lays the unfinished job of a serial; or that there is none.
+pub fn put_job_of(out: &mut [u8], at: usize, rows: [JobRow; JOBS], serial: u32) -> usize
+    requires { ⌜ at + length (serialText connectionCount serial rows) ≤ length (now out) ⌝ }
+    ensures { λ r. ⌜ (r ≡ at + length (serialText connectionCount serial rows)) × (now (out .exit) ≡ put at (serialText connectionCount serial rows) (now (out .entry))) ⌝ }
+{
+    let place = plan_search::serial_row(rows, serial);
+    match place {
+        Place::At(p) => put_job(out, at, plan_rows::row_at(rows, p)),
+        Place::Nowhere => put_no_job(out, at, serial),
+    }
+}
+
+// Lays the job of a row, if the row is not free.
+fn put_row(out: &mut [u8], at: usize, row: JobRow) -> usize
+    requires { ⌜ at + length (cond (live row) (jobText connectionCount row) []) ≤ length (now out) ⌝ }
+    ensures { λ r. ⌜ (r ≡ at + length (cond (live row) (jobText connectionCount row) [])) × (now (out .exit) ≡ put at (cond (live row) (jobText connectionCount row) []) (now (out .entry))) ⌝ }
+{
+    if plan_search::is_live(row) {
+        return put_job(out, at, row);
+    }
+    at
+}
+
+// Lays every unfinished job, in the order of the places.
+pub fn put_jobs(out: &mut [u8], at: usize, rows: [JobRow; JOBS]) -> usize
+    requires { ⌜ at + length (jobsText connectionCount rows) ≤ length (now out) ⌝ }
+    ensures { λ r. ⌜ (r ≡ at + length (jobsText connectionCount rows)) × (now (out .exit) ≡ put at (jobsText connectionCount rows) (now (out .entry))) ⌝ }
+{
+    let mut place = at;
+    let mut p = 0;
+    while p < JOBS {
+        place = put_row(out, place, rows[p]);
+        p += 1;
+    }
+    place
+}

@@ -1,1 +1,0 @@
-// The table and its bytes: theorems about the layout. No code.
