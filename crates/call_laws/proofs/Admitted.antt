@@ -10,7 +10,7 @@ use lib.Dec.{ltb}
 use Rattle.octets.specs.Bytes.{Bytes, same}
 use Rattle.server.specs.Sizes.{connectionCount}
 use Rattle.server.specs.Table.{Table, closed}
-use Rattle.server.specs.Asked.{Event, connectionOf, Asked, toOpen, toClose, reset, preSleep, echo, bad, canDo, cantDo, grab, submit, work, getStatus, option, asked}
+use Rattle.server.specs.Requests.{Event, Request, reset, preSleep, echo, bad, canDo, cantDo, grab, submit, work, getStatus, option, requestIn}
 use Rattle.server.specs.Events.{refuse, served, isOpening, admitted, decide}
 use Rattle.server.specs.Server.{decided}
 use Rattle.server.specs.Layout.{tableOf}
@@ -31,7 +31,7 @@ call-performed e t w o h = rw h
 -- ---- what is decided at once
 
 -- only an open opens
-only-open : (a : Asked) → isOpening a ≡ true → a ≡ toOpen
+only-open : (a : Request) → isOpening a ≡ true → a ≡ toOpen
 only-open toOpen e = refl
 only-open toClose e = clash e refl
 only-open reset e = clash e refl
@@ -46,10 +46,10 @@ only-open (work how kind h n d) e = clash e refl
 only-open (getStatus h) e = clash e refl
 only-open (option name) e = clash e refl
 
-module _ (c : ℕ) (a : Asked) (t : Table) where
+module _ (c : ℕ) (a : Request) (t : Table) where
   by-state : (isOpen opens : Bool) → isOpening a ≡ opens → ¬ (stateRefusal isOpen opens ≡ 0) → admitted true isOpen c a t ≡ refuse c (stateRefusal isOpen opens) t
   unfolding stateRefusal admitted served
-  by-state true true e z = ap (λ (x : Asked). served c x t) (only-open a e)
+  by-state true true e z = ap (λ (x : Request). served c x t) (only-open a e)
   by-state true false e z = absurd (z refl)
   by-state false true e z = absurd (z refl)
   by-state false false e z = rw e

@@ -18,7 +18,7 @@ use Rattle.server.specs.declared.JobRow.{JobRow}
 use Rattle.lists.specs.Lists.{concat, numbers}
 use Rattle.server.specs.Sizes.{connectionCount, jobCount}
 use Rattle.server.specs.Table.{Table}
-use Rattle.server.specs.Asked.{Event}
+use Rattle.server.specs.Requests.{Event}
 use Rattle.server.specs.Events.{Send, Decision, error, refuse, noop}
 use Rattle.server.specs.Server.{Server, render, rework, opaqueOf, decided, next, answer}
 use Rattle.server.specs.Layout.{connectionIn, tableOf, bytesOf, isImage}

@@ -22,7 +22,7 @@ use Rattle.packet_laws.proofs.Places.{argument-read}
 use Rattle.packet_kinds.proofs.Tests.{bools, range-arm}
 use Rattle.packet_kinds.proofs.Shapes.{at-most-five}
 use Rattle.server.specs.Sizes.{connectionCount}
-use Rattle.server.specs.Asked.{Event, opens, closes, sends, Asked, toOpen, toClose, bad, requested, fromReading, asked}
+use Rattle.server.specs.Requests.{Event, opens, closes, sends, Request, bad, requested, fromReading, requestIn}
 use Rattle.server.specs.Events.{refuse, isOpening, served, admitted, decide}
 use Rattle.server.specs.Server.{opaqueOf, decided}
 use Rattle.server.specs.Layout.{tableOf}
@@ -86,11 +86,11 @@ module _ (p : Bytes) (ends : Ends) (kind : ℕ) (came : answerOf (read requests 
 
 module _ (c : ℕ) (p : Bytes) (ends : Ends) (kind : ℕ) (t w o : Bytes) (h : Admitted false c t w o) (came : answerOf (read requests p) ≡ RV.Packet kind ends)
     (plan : Plan) (is : plan ≡ planServed c (asked (sends c p)) (tableOf connectionCount t)) where
-  abbrev what : Asked
+  abbrev what : Request
   what = requested kind (argumentAt p ends 0) (argumentAt p ends 1) (argumentAt p ends 2)
 
   plan-is : plan ≡ planServed c what (tableOf connectionCount t)
-  plan-is = is ∙ ap (λ (a : Asked). planServed c a (tableOf connectionCount t)) (asks c p ends kind came)
+  plan-is = is ∙ ap (λ (a : Request). planServed c a (tableOf connectionCount t)) (asks c p ends kind came)
 
   whole-table : Whole (tableOf connectionCount t)
   whole-table = whole t (sound (h .bytes))
@@ -177,7 +177,7 @@ unfolding opaqueIn opaquePlace requestShape rulesOf argumentAt between
 nothing-opaque = refl
 
 -- an event without a packet
-module _ (e : Event) (a : Asked) (way : Bool) (c : ℕ) (t w o : Bytes) (h : Admitted way c t w o) (plan : Plan) (is : plan ≡ planFor c a (tableOf connectionCount t))
+module _ (e : Event) (a : Request) (way : Bool) (c : ℕ) (t w o : Bytes) (h : Admitted way c t w o) (plan : Plan) (is : plan ≡ planFor c a (tableOf connectionCount t))
     (decides : decided e (tableOf connectionCount t) ≡ decide c a (tableOf connectionCount t)) (suits : (v : Words) → Suits v a) (bare : opaqueOf e ≡ []) (silent : plan .order ≡ OV.Nothing)
     (fits : Fitting (planFor c a (tableOf connectionCount t) .change) (argumentAt [] noEnds 0) (argumentAt [] noEnds 1) (argumentAt [] noEnds 2)) where
   abbrev woken : List ℕ

@@ -14,7 +14,7 @@ use Rattle.packet.specs.Answers.{answerOf, argumentAt}
 use Rattle.lists.specs.Lists.{find}
 use Rattle.server.specs.Sizes.{connectionCount, jobCount}
 use Rattle.server.specs.Table.{Job, Table, noRow, noJob, noFunction, live, hasHandle, known, roomFor, joined, best, justOpened}
-use Rattle.server.specs.Asked.{Event, opens, closes, sends, connectionOf, Work, tells, reports, ends, throws, Asked, toOpen, toClose, reset, preSleep, echo, bad, canDo, cantDo, grab, submit, work, getStatus, option, requested, asked}
+use Rattle.server.specs.Requests.{Event, opens, closes, sends, Work, tells, reports, ends, throws, Request, reset, preSleep, echo, bad, canDo, cantDo, grab, submit, work, getStatus, option, requested, requestIn}
 use Rattle.server.specs.Events.{exceptionsName, holdsHandle, isOpening}
 use Rattle.server.specs.Layout.{tableOf}
 use Rattle.lists.proofs.Cases.{cond-both}
@@ -97,7 +97,7 @@ module _ (c : ℕ) (t : Table) (w : Whole t) (h : c < connectionCount) where
   option-in false = zero-le
   option-in true = h
 
-  served-in : (a : Asked) → In (briefServed c a t)
+  served-in : (a : Request) → In (briefServed c a t)
   unfolding briefServed
   served-in toOpen = zero-le
   served-in toClose = h
@@ -128,7 +128,7 @@ module _ (c : ℕ) (p : Bytes) (t w o : Bytes) (h : Admitted false c t w o) (bri
       let x : Bytes = argumentAt p places 0 in
       let y : Bytes = argumentAt p places 1 in
       let z : Bytes = argumentAt p places 2 in
-      let e : brief ≡ briefServed c (requested kind x y z) (tableOf connectionCount t) = is ∙ ap (λ (a : Asked). briefServed c a (tableOf connectionCount t)) (asks c p places kind came) in
+      let e : brief ≡ briefServed c (requested kind x y z) (tableOf connectionCount t) = is ∙ ap (λ (a : Request). briefServed c a (tableOf connectionCount t)) (asks c p places kind came) in
       subst (λ (b : Brief). isLean (b .step) ≡ true → Lean (b .step) (tableOf connectionCount t) (changed (b .change) x y z (tableOf connectionCount t))) (sym e)
       (served-leans (wordsGiven kind x y z) c (tableOf connectionCount t) (h .bytes .rules) (request-suits kind x y z))
 

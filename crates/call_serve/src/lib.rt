@@ -12,7 +12,7 @@ ghost use Rattle.packet.specs.Packet.{read, requests};
 ghost use Rattle.packet.specs.Answers.{answerOf};
 ghost use Rattle.server.specs.Table.{justOpened};
 ghost use Rattle.server.specs.Sizes.{connectionCount};
-ghost use Rattle.server.specs.Asked.{closes, opens, sends};
+ghost use Rattle.server.specs.Requests.{closes, opens, sends};
 ghost use Rattle.server.specs.Call.{call, left};
 ghost use Rattle.plan.specs.declared.Change.the-variants as CV;
 ghost use Rattle.plan.specs.declared.Order.the-variants as OV;

@@ -5,7 +5,7 @@ use mathlib.Core.Option.{Option, some}
 use lib.ListN.{take, drop}
 use Rattle.octets.specs.Bytes.{Bytes}
 use Rattle.server.specs.Sizes.{connectionCount}
-use Rattle.server.specs.Asked.{Event, opens, closes, sends}
+use Rattle.server.specs.Requests.{Event, opens, closes, sends}
 use Rattle.server.specs.Call.{Result, refusedBy, call, left}
 use Rattle.capture.specs.declared.Frame as F
 use Rattle.capture.specs.declared.Frame.the-variants as FV

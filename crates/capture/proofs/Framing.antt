@@ -18,7 +18,7 @@ use Rattle.hex.specs.declared.Spelled.the-variants as SV
 use Rattle.hex.proofs.Writing.{hex-length}
 use Rattle.hex.proofs.RoundTrip.{hex-unhex}
 use Rattle.hex.proofs.Answers.{spelled-bytes, spelled-fits}
-use Rattle.server.specs.Asked.{opens, closes, sends}
+use Rattle.server.specs.Requests.{opens, closes, sends}
 use Rattle.server.specs.Replay.{framed, frame}
 
 -- ---- the bytes of a frame

@@ -13,7 +13,7 @@ use Rattle.octets.proofs.Laying.{put-start, length-put}
 use Rattle.packet.specs.Packet.{packet}
 use Rattle.lists.specs.Lists.{concat}
 use Rattle.server.specs.Sizes.{connectionCount, outputSize}
-use Rattle.server.specs.Asked.{Event}
+use Rattle.server.specs.Requests.{Event}
 use Rattle.server.specs.Server.{Sent, addressed, answer}
 use Rattle.server.specs.Call.{Result, serverIn, tooShort, isSound, sentBytes, refusedBy, performed, call}
 use Rattle.server_calls.proofs.Refusals.{taken}

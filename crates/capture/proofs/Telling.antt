@@ -11,7 +11,7 @@ use lib.Seq.{length-take-le}
 use Rattle.octets.specs.Bytes.{Bytes}
 use Rattle.octets.specs.Put.{put}
 use Rattle.server.specs.Sizes.{connectionCount, outputSize}
-use Rattle.server.specs.Asked.{Event}
+use Rattle.server.specs.Requests.{Event}
 use Rattle.server.specs.Layout.{tableOf}
 use Rattle.server.specs.Call.{Result, left}
 use Rattle.server.specs.Replay.{frame}

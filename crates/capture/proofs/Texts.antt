@@ -14,7 +14,7 @@ use Rattle.octets.proofs.Laying.{put-start, length-put}
 use Rattle.lists.specs.Lists.{concat}
 use Rattle.server.specs.Sizes.{connectionCount, workloadsSize, outputSize}
 use Rattle.server.specs.Table.{Table, fresh}
-use Rattle.server.specs.Asked.{Event}
+use Rattle.server.specs.Requests.{Event}
 use Rattle.server.specs.Server.{Server, addressed, next, answer, start}
 use Rattle.server.specs.Layout.{little, tableSize, bytesOf, tableOf}
 use Rattle.server.specs.Call.{Result, refusedBy, sentBytes, performed, Made, make}

@@ -3,7 +3,7 @@ use Prim.Native.Nat.{_-_, _≤_}
 use mathlib.Core.Option.{Option, none, some}
 use lib.ListN.{take, drop}
 use Rattle.octets.specs.Bytes.{Bytes}
-use Rattle.server.specs.Asked.{Event, opens, closes, sends}
+use Rattle.server.specs.Requests.{Event, opens, closes, sends}
 use Rattle.capture.specs.declared.Frame as F
 use Rattle.capture.specs.declared.Frame.the-variants as FV
 

@@ -10,7 +10,7 @@ use Rattle.octets.specs.Bytes.{Bytes}
 use Rattle.octets.specs.Put.{put}
 use Rattle.server.specs.Sizes.{connectionCount}
 use Rattle.server.specs.Table.{Table}
-use Rattle.server.specs.Asked.{Event}
+use Rattle.server.specs.Requests.{Event}
 use Rattle.server.specs.Server.{Server, addressed, next, answer}
 use Rattle.server.specs.Layout.{tableOf}
 use Rattle.server.specs.Call.{Result, serverIn, tooShort, isSound, refusedBy, call}

@@ -22,7 +22,7 @@ use Rattle.packet_kinds.proofs.Tests.{bools, range-arm}
 use Rattle.packet_kinds.proofs.Shapes.{shapes}
 use Rattle.lists.specs.Lists.{find}
 use Rattle.server.specs.Table.{Table, noJob, jobAt, live, hasHandle, best}
-use Rattle.server.specs.Asked.{Work, tells, reports, ends, throws, Asked, toOpen, toClose, reset, preSleep, echo, bad, canDo, cantDo, grab, submit, work, getStatus, option, requested}
+use Rattle.server.specs.Requests.{Work, tells, reports, ends, throws, Request, reset, preSleep, echo, bad, canDo, cantDo, grab, submit, work, getStatus, option, requested}
 use Rattle.server.specs.Events.{exceptionsName}
 use Rattle.lists.proofs.Cases.{cond-both}
 use Rattle.lists.proofs.Searches.{found}
@@ -43,7 +43,7 @@ use Rattle.carry_laws.proofs.Requests.{wordsGiven, request-suits}
 -- ---- the shape of a request whose argument is answered
 
 -- an echo's data, and the handle of a question for a status
-shaped : Shape → Asked → Bool
+shaped : Shape → Request → Bool
 shaped s toOpen = true
 shaped s toClose = true
 shaped s reset = true
@@ -66,7 +66,7 @@ module _ (x y z : Bytes) (k : ℕ) (low : k < 37) where
   unfolding shaped shaped-row requested requestShape
   shaped-all = sym (range-arm bools shaped-row [] 0 37 tt k tt zero-le low)
 
-  shape-of : (a : Asked) (s : Shape) → requested k x y z ≡ a → shaped (requestShape k) a ≡ shapes .same s (requestShape k) → s ≡ requestShape k
+  shape-of : (a : Request) (s : Shape) → requested k x y z ≡ a → shaped (requestShape k) a ≡ shapes .same s (requestShape k) → s ≡ requestShape k
   unfolding shaped-row
   shape-of a s e q = shapes .tells s (requestShape k) (subst T (sym (sym q ∙ ap (shaped (requestShape k)) (sym e) ∙ shaped-all)) tt)
 
@@ -144,7 +144,7 @@ module _ (c : ℕ) (t : Table) (whole : Whole t) (p : Bytes) (places : Ends) (ki
 
   -- ---- every order
 
-  served-by : {a : Asked} → Suits (wordsGiven kind x y z) a → requested kind x y z ≡ a → Orders (planServed c a t)
+  served-by : {a : Request} → Suits (wordsGiven kind x y z) a → requested kind x y z ≡ a → Orders (planServed c a t)
   unfolding planServed responseShape shaped
   served-by for-open e = zero-le
   served-by for-close e = zero-le

@@ -15,7 +15,7 @@ use Rattle.packet.specs.Arguments.{digits, fits}
 use Rattle.lists.specs.Lists.{find}
 use Rattle.server.specs.Sizes.{connectionCount, functionCount, jobCount}
 use Rattle.server.specs.Table.{Job, Table, noRow, noJob, live, hasHandle, roomFor, joined}
-use Rattle.server.specs.Asked.{Work, Asked, toOpen, toClose}
+use Rattle.server.specs.Requests.{Work, Request}
 use Rattle.server.specs.Events.{exceptionsName, holdsHandle}
 use Rattle.lists.proofs.Cases.{cond-both}
 use Rattle.lists.proofs.Searches.{found}
@@ -105,7 +105,7 @@ module _ (w : Words) (c : ℕ) (t : Table) (whole : Whole t) where
 
   -- ---- every plan
 
-  pub served-fitting : c < connectionCount → {a : Asked} → Suits w a → Good a → Fits (planServed c a t)
+  pub served-fitting : c < connectionCount → {a : Request} → Suits w a → Good a → Fits (planServed c a t)
   unfolding planServed
   served-fitting h for-open g = zero-le
   served-fitting h for-close g = h
@@ -122,7 +122,7 @@ module _ (w : Words) (c : ℕ) (t : Table) (whole : Whole t) where
   served-fitting h (for-option name) g = option-fits (same name exceptionsName)
   served-fitting h for-echo g = zero-le
 
-  pub fitting : {a : Asked} → Suits w a → Good a → Fits (planFor c a t)
+  pub fitting : {a : Request} → Suits w a → Good a → Fits (planFor c a t)
   fitting {a} s g =
       each-plan c a t Fits (λ e. served-fitting (omega (arith, ltb-true c (length (t .connections)) e, whole .connections)) s g) zero-le (λ n. zero-le)
 

@@ -10,7 +10,7 @@ use lib.Dec.{ltb}
 use Rattle.octets.specs.Bytes.{Bytes}
 use Rattle.server.specs.Table.{Table, closed}
 use Rattle.server.specs.Rules.{obeys}
-use Rattle.server.specs.Asked.{Asked, bad, requested}
+use Rattle.server.specs.Requests.{Request, bad, requested}
 use Rattle.server.specs.Events.{decide}
 use Rattle.lists.proofs.Cases.{All}
 use Rattle.plan.specs.declared.Plan.{Plan}
@@ -48,5 +48,5 @@ module _ (kind : ℕ) (x y z : Bytes) where
 
 -- on a connection that is open
 pub served-planned : (w : Words) (c : ℕ) (t : Table) → obeys t ≡ true → ltb c (length (t .connections)) ≡ true → getD (t .connections) c closed .opened ≡ true
-    → {a : Asked} → Suits w a → Planned w c t (planServed c a t) (decide c a t)
+    → {a : Request} → Suits w a → Planned w c t (planServed c a t) (decide c a t)
 served-planned w c t ok inside opened {a} s = subst (λ (p : Plan). Planned w c t p (decide c a t)) (served-plan c a t inside opened) (planned w c t ok s)

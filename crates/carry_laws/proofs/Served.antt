@@ -5,7 +5,7 @@ use mathlib.Core.Bool.{true}
 use lib.ListN.{length, getD}
 use lib.Dec.{ltb}
 use Rattle.server.specs.Table.{Table, closed}
-use Rattle.server.specs.Asked.{Asked}
+use Rattle.server.specs.Requests.{Request}
 use Rattle.server.specs.Events.{isOpening}
 use Rattle.lists.proofs.Cases.{cond-both, cond-cases}
 use Rattle.plan.specs.declared.Plan.{Plan}
@@ -14,7 +14,7 @@ use Rattle.plan.specs.declared.Order.the-variants as OV
 use Rattle.plan.specs.Values.{valuesOf}
 use Rattle.plan.specs.Plans.{openedIn, refusal, done, planServed, planFor}
 
-module _ (c : ℕ) (a : Asked) (t : Table) where
+module _ (c : ℕ) (a : Request) (t : Table) where
   -- what holds of the served, of an opening and of refusals holds of the plan
   pub each-plan : (P : Plan → Type 0) → (ltb c (length (t .connections)) ≡ true → P (planServed c a t))
       → P (done (openedIn c (valuesOf t)) CV.Nothing OV.Nothing) → ((n : ℕ) → P (refusal n (valuesOf t))) → P (planFor c a t)

@@ -12,7 +12,7 @@ use Rattle.server.specs.declared.Connection.{Connection}
 use Rattle.server.specs.declared.JobRow.{JobRow}
 use Rattle.lists.specs.Lists.{find}
 use Rattle.server.specs.Table.{Job, Function, Table, closed, hasHandle, known, roomFor, joined}
-use Rattle.server.specs.Asked.{Work, tells, reports, ends, throws, Asked, toOpen, toClose, reset, preSleep, echo, bad, canDo, cantDo, grab, submit, work, getStatus, option}
+use Rattle.server.specs.Requests.{Work, tells, reports, ends, throws, Request, reset, preSleep, echo, bad, canDo, cantDo, grab, submit, work, getStatus, option}
 use Rattle.server.specs.Events.{exceptionsName, holdsHandle}
 use Rattle.lists.proofs.Cases.{cond-both}
 use Rattle.plan.specs.declared.Values.{Values}
@@ -109,7 +109,7 @@ module _ (c : ℕ) (t : Table) (whole : Whole t) where
   own : Sized (valuesOf t)
   own = values-sized t whole
 
-  pub served-sized : (a : Asked) → Sized (planServed c a t .values)
+  pub served-sized : (a : Request) → Sized (planServed c a t .values)
   unfolding planServed valuesOf
   served-sized toOpen = own
   served-sized toClose = close-sized c _ own
@@ -125,7 +125,7 @@ module _ (c : ℕ) (t : Table) (whole : Whole t) where
   served-sized (option name) = option-sized c _ own (same name exceptionsName)
   served-sized echo = own
 
-pub sized : (c : ℕ) (a : Asked) (t : Table) → Whole t → Sized (planFor c a t .values)
+pub sized : (c : ℕ) (a : Request) (t : Table) → Whole t → Sized (planFor c a t .values)
 sized c a t whole =
     let own : Sized (valuesOf t) = values-sized t whole in
     each-plan c a t Keeps (λ e. served-sized c t whole a) (connection-sized _ own c _) (λ n. own)

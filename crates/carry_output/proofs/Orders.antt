@@ -14,7 +14,7 @@ use Rattle.sets.specs.Sets.{members}
 use Rattle.server.specs.declared.Connection.{Connection}
 use Rattle.server.specs.declared.JobRow.{JobRow}
 use Rattle.server.specs.Sizes.{connectionCount}
-use Rattle.server.specs.Asked.{sends}
+use Rattle.server.specs.Requests.{sends}
 use Rattle.server.specs.Events.{noop, exceptionsName}
 use Rattle.server.specs.Server.{render}
 use Rattle.server.specs.Layout.{tableOf}

@@ -13,7 +13,7 @@ use Rattle.server.specs.declared.JobRow.{JobRow}
 use Rattle.lists.specs.Lists.{fit}
 use Rattle.server.specs.Sizes.{connectionCount, jobCount, nameSize, uniqueSize, numberSize, workloadSize, workloadsSize}
 use Rattle.server.specs.Table.{Function, Job, functionAt, jobAt, live}
-use Rattle.server.specs.Asked.{sends}
+use Rattle.server.specs.Requests.{sends}
 use Rattle.server.specs.Layout.{tableOf, textAt, namesAt, uniquesAt, numeratorsAt, denominatorsAt}
 use Rattle.server.specs.Call.{isSound, serverIn}
 use Rattle.lists.proofs.Lists.{length-fit}

@@ -4,7 +4,7 @@ use Prim.Native.Nat.{ℕ}
 use mathlib.Core.List.{List, _++_, map}
 use Rattle.octets.specs.Bytes.{Bytes}
 use Rattle.server.specs.Sizes.{connectionCount}
-use Rattle.server.specs.Asked.{sends}
+use Rattle.server.specs.Requests.{sends}
 use Rattle.server.specs.Events.{Send, noop}
 use Rattle.server.specs.Server.{render}
 use Rattle.server.specs.Layout.{tableOf}

@@ -24,7 +24,7 @@ use Rattle.packet_laws.proofs.Answers.{read-answer}
 use Rattle.packet_laws.proofs.Places.{argument-read}
 use Rattle.packet_kinds.proofs.Tests.{bools, range-arm}
 use Rattle.packet_kinds.proofs.Shapes.{at-most-five, shapes}
-use Rattle.server.specs.Asked.{Work, Asked, toOpen, toClose, reset, preSleep, echo, bad, canDo, cantDo, grab, submit, work, getStatus, option, requested}
+use Rattle.server.specs.Requests.{Work, Request, reset, preSleep, echo, bad, canDo, cantDo, grab, submit, work, getStatus, option, requested}
 use Rattle.carry_packet.specs.Messages.{Sendable, Forwards}
 
 -- ---- which packets may be forwarded
@@ -46,7 +46,7 @@ served-below p ends k e =
     below-served k (ltb k 37) refl (read-got requests p k (r .0) (r .1) .own)
 
 -- what a worker says of its job goes out by the type by which it came
-told : ℕ → Asked → Bool
+told : ℕ → Request → Bool
 told k toOpen = true
 told k toClose = true
 told k reset = true

@@ -16,7 +16,7 @@ use Rattle.packet.specs.Opaque.{hides, opaque, past, seen, visible}
 use Rattle.packet_laws.proofs.Blindness.{visible-opaque}
 use Rattle.lists.specs.Lists.{fit}
 use Rattle.server.specs.Table.{functionAt, jobAt}
-use Rattle.server.specs.Asked.{Event, sends}
+use Rattle.server.specs.Requests.{Event, sends}
 use Rattle.server.specs.Events.{Send, plain, copy, assign, error, noop, created, exceptionsName, flag}
 use Rattle.server.specs.Server.{Server, addressed, opaqueOf, render, shownBy}
 use Rattle.server.specs.Call.{sentBytes}

@@ -4,7 +4,7 @@ use mathlib.Core.Path.{_≡_, ap}
 use native.Mathlib.Omega.{arith}
 use Rattle.octets.specs.Bytes.{Bytes}
 use Rattle.server.specs.Sizes.{connectionCount, outputSize}
-use Rattle.server.specs.Asked.{Event}
+use Rattle.server.specs.Requests.{Event}
 use Rattle.server.specs.Call.{Result, call, left}
 use Rattle.server_calls.proofs.EveryCall.{call-fits}
 

@@ -4,7 +4,7 @@
 use carry_event::Answer;
 ghost use mathlib.Core.Path.{_≡_};
 ghost use Rattle.server.specs.Sizes.{connectionCount};
-ghost use Rattle.server.specs.Asked.{closes, opens, sends};
+ghost use Rattle.server.specs.Requests.{closes, opens, sends};
 ghost use Rattle.server.specs.Call.{call, left, made, make};
 
 // Makes a fresh table.

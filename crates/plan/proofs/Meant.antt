@@ -8,7 +8,7 @@ use lib.Dec.{ltb}
 use Rattle.octets.specs.Bytes.{same}
 use Rattle.lists.specs.Lists.{find}
 use Rattle.server.specs.Table.{Table, hasHandle, known, roomFor, joined}
-use Rattle.server.specs.Asked.{Work, tells, reports, ends, throws, Asked, toOpen, toClose, reset, preSleep, echo, bad, canDo, cantDo, grab, submit, work, getStatus, option}
+use Rattle.server.specs.Requests.{Work, tells, reports, ends, throws, Request, reset, preSleep, echo, bad, canDo, cantDo, grab, submit, work, getStatus, option}
 use Rattle.server.specs.Events.{exceptionsName, holdsHandle}
 use Rattle.plan.specs.declared.Values as V′
 use Rattle.plan.specs.declared.Change.the-variants as CV
@@ -74,7 +74,7 @@ module _ (c : ℕ) (v : V′.Values) where
   m-option false = refl
   m-option true = refl
 
-pub meant-served : (c : ℕ) (a : Asked) (t : Table) → meant (briefServed c a t) (valuesOf t) ≡ planServed c a t
+pub meant-served : (c : ℕ) (a : Request) (t : Table) → meant (briefServed c a t) (valuesOf t) ≡ planServed c a t
 unfolding briefServed planServed stepped valuesOf
 meant-served c toOpen t = refl
 meant-served c toClose t = refl

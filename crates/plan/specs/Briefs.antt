@@ -9,7 +9,7 @@ use Rattle.sets.specs.Sets.{insert, remove}
 use Rattle.server.specs.declared.Connection.{Connection}
 use Rattle.lists.specs.Lists.{find}
 use Rattle.server.specs.Table.{Table, withHolder, hasHandle, known, roomFor, joined, withAsleep}
-use Rattle.server.specs.Asked.{Work, tells, reports, ends, throws, Asked, toOpen, toClose, reset, preSleep, echo, bad, canDo, cantDo, grab, submit, work, getStatus, option}
+use Rattle.server.specs.Requests.{Work, tells, reports, ends, throws, Request, reset, preSleep, echo, bad, canDo, cantDo, grab, submit, work, getStatus, option}
 use Rattle.server.specs.Events.{exceptionsName, catching, submittedBy, holdsHandle}
 use Rattle.plan.specs.declared.Values as V′
 use Rattle.plan.specs.declared.Change as C′
@@ -74,7 +74,7 @@ abbrev pub briefOption : Bool → ℕ → V′.Values → Brief
 briefOption false c v = refusal 15
 briefOption true c v = done (SV.Flags c (catching (connectionIn v c))) CV.Nothing OV.Optioned
 
-unfoldable pub briefServed : ℕ → Asked → Table → Brief
+unfoldable pub briefServed : ℕ → Request → Table → Brief
 briefServed c toOpen t = refusal 4
 briefServed c toClose t = done (SV.Leave c) (CV.Left c) OV.Nothing
 briefServed c (bad n) t = refusal n

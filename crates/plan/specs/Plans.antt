@@ -12,7 +12,7 @@ use Rattle.server.specs.declared.Connection.{Connection}
 use Rattle.server.specs.declared.JobRow.{JobRow}
 use Rattle.lists.specs.Lists.{find}
 use Rattle.server.specs.Table.{Function, Job, Table, noRow, noJob, noFunction, closed, jobAt, functionAt, setFunction, setJob, withRow, withTexts, withHolder, live, heldBy, hasHandle, known, roomFor, joined, withLastSerial, withConnections, withFunctions, withJobs, justOpened, withAsleep, withName, withAble, freshRow, unstarted}
-use Rattle.server.specs.Asked.{Work, tells, reports, ends, throws, Asked, toOpen, toClose, reset, preSleep, echo, bad, canDo, cantDo, grab, submit, work, getStatus, option}
+use Rattle.server.specs.Requests.{Work, tells, reports, ends, throws, Request, reset, preSleep, echo, bad, canDo, cantDo, grab, submit, work, getStatus, option}
 use Rattle.server.specs.Events.{Send, plain, copy, assign, created, flag, exceptionsName, catching, submittedBy, deafTo, holdsHandle, isOpening}
 use Rattle.plan.specs.declared.Values as V′
 use Rattle.plan.specs.declared.Plan.{Plan}
@@ -113,7 +113,7 @@ planOption false c v = refusal 15 v
 planOption true c v = done (withConnection c (catching (connectionIn v c)) v) CV.Nothing OV.Optioned
 
 -- on a connection that is open
-unfoldable pub planServed : ℕ → Asked → Table → Plan
+unfoldable pub planServed : ℕ → Request → Table → Plan
 planServed c toOpen t = refusal 4 (valuesOf t)
 planServed c toClose t = done (closedIn c (valuesOf t)) (CV.Left c) OV.Nothing
 planServed c (bad n) t = refusal n (valuesOf t)
@@ -132,7 +132,7 @@ planServed c echo t = done (valuesOf t) CV.Nothing OV.Echo
 abbrev pub openedIn : ℕ → V′.Values → V′.Values
 openedIn c v = withConnection c justOpened v
 
-unfoldable pub planFor : ℕ → Asked → Table → Plan
+unfoldable pub planFor : ℕ → Request → Table → Plan
 planFor c a t =
     cond (ltb c (length (t .connections)))
     (cond (getD (t .connections) c closed .opened)

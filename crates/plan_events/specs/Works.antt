@@ -1,5 +1,5 @@
 -- What a worker says, as the server's definition has it. Assumes nothing.
-use Rattle.server.specs.Asked as A
+use Rattle.server.specs.Requests as A
 use Rattle.plan_events.specs.declared.Work as W′
 use Rattle.plan_events.specs.declared.Work.the-variants as WV
 

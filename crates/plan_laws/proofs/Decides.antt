@@ -15,7 +15,7 @@ use Rattle.server.specs.declared.JobRow.{JobRow}
 use Rattle.lists.specs.Lists.{find, filter}
 use Rattle.server.specs.Table.{Function, Job, Table, noRow, noJob, noFunction, closed, connectionAt, functionAt, jobAt, setConnection, setFunction, setJob, withRow, withTexts, withHolder, live, heldBy, known, roomFor, best, freePlace, joined, withName}
 use Rattle.server.specs.Rules.{obeys}
-use Rattle.server.specs.Asked.{Work, tells, reports, ends, throws, Asked, toOpen, toClose, reset, preSleep, echo, bad, canDo, cantDo, grab, submit, work, getStatus, option}
+use Rattle.server.specs.Requests.{Work, tells, reports, ends, throws, Request, reset, preSleep, echo, bad, canDo, cantDo, grab, submit, work, getStatus, option}
 use Rattle.server.specs.Events.{Send, plain, copy, Decision, refuse, noop, settle, opening, closing, leftBy, deafTo, unable, ableTo, canDoAt, cantDoAt, unableToAll, sleeping, grabAt, submittedBy, created, newJob, accepted, submitNew, submitTo, holdsHandle, listenersOf, workAt, statusAt, exceptionsName, catching, optionIf, served, isOpening, admitted, decide}
 use Rattle.server.specs.Refusals.{lastNumber}
 use Rattle.lists.proofs.Rows.{clash}
@@ -52,7 +52,7 @@ pub data Says (w : Words) : Work → Bytes → Bytes → Type 0 where
   that-throws : (n d : Bytes) → Says w throws n d
 
 -- what may be asked with these words: where a plan uses a word, the request has it; a refusal has a number of document 01
-pub data Suits (w : Words) : Asked → Type 0 where
+pub data Suits (w : Words) : Request → Type 0 where
   for-open : Suits w toOpen
   for-close : Suits w toClose
   for-reset : Suits w reset
@@ -289,7 +289,7 @@ module _ (w : Words) (c : ℕ) (t : Table) (ok : obeys t ≡ true) where
 
   -- ---- every event
 
-  p-served : {a : Asked} → Suits w a → Planned w c t (planServed c a t) (served c a t)
+  p-served : {a : Request} → Suits w a → Planned w c t (planServed c a t) (served c a t)
   unfolding planServed served
   p-served for-open = refuses 4 tt tt
   p-served for-close = p-close
@@ -309,7 +309,7 @@ module _ (w : Words) (c : ℕ) (t : Table) (ok : obeys t ≡ true) where
   p-opening true = p-open
   p-opening false = refuses 3 tt tt
 
-  p-admitted : {a : Asked} → Suits w a → (b o : Bool) → Planned w c t
+  p-admitted : {a : Request} → Suits w a → (b o : Bool) → Planned w c t
       (cond b (cond o (planServed c a t) (cond (isOpening a) (done (openedIn c (valuesOf t)) CV.Nothing OV.Nothing) (refusal 3 (valuesOf t)))) (refusal 2 (valuesOf t)))
       (admitted b o c a t)
   unfolding admitted
@@ -318,6 +318,6 @@ module _ (w : Words) (c : ℕ) (t : Table) (ok : obeys t ≡ true) where
   p-admitted s true true = p-served s
 
   -- the plan of every event does what the definitions decide, with all words that suit what it asks
-  pub planned : {a : Asked} → Suits w a → Planned w c t (planFor c a t) (decide c a t)
+  pub planned : {a : Request} → Suits w a → Planned w c t (planFor c a t) (decide c a t)
   unfolding planFor decide
   planned s = p-admitted s (ltb c (length (t .connections))) (connectionAt t c .opened)

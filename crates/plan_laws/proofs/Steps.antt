@@ -18,7 +18,7 @@ use Rattle.server.specs.declared.Connection.{Connection}
 use Rattle.server.specs.declared.JobRow.{JobRow}
 use Rattle.lists.specs.Lists.{any, find, implies}
 use Rattle.server.specs.Table.{Function, Job, Table, closed, noJob, noRow, noFunction, connectionAt, functionAt, jobAt, setConnection, setFunction, setJob, withRow, withTexts, withHolder, live, queued, names, wanted, able, grabbable, hasHandle, known, roomFor, best, joined, withLastSerial, withFunctions, withJobs, justOpened, withAsleep, withName, withAble, freshRow, unstarted}
-use Rattle.server.specs.Asked.{Work, Asked}
+use Rattle.server.specs.Requests.{Work, Request}
 use Rattle.server.specs.Events.{dropped, newJob, accepted, submittedBy, holdsHandle, exceptionsName}
 use Rattle.server.specs.Rules.{rowHasMeaning, obeys}
 use Rattle.lists.proofs.Cases.{cond-both}
@@ -405,7 +405,7 @@ module _ (w : Words) (c : ℕ) (t : Table) (ok : obeys t ≡ true) where
   unfolding isLean
   leave-leans x = λ e. clash e refl
 
-  pub served-leans : {a : Asked} → Suits w a → Leans (briefServed c a t)
+  pub served-leans : {a : Request} → Suits w a → Leans (briefServed c a t)
   unfolding briefServed isLean
   served-leans for-open = nothing-leans 4 OV.Nothing
   served-leans for-close = λ e. clash e refl

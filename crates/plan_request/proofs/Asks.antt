@@ -23,8 +23,8 @@ use Rattle.packet_laws.proofs.Packets.{Headed, header-good, Got, read-got, requ
 use Rattle.packet_laws.proofs.Places.{argument-read}
 use Rattle.packet_laws.proofs.Blindness.{read-masked, answer-masked, masked-length, opaque-at}
 use Rattle.packet_kinds.proofs.Tests.{bools, range-arm}
-use Rattle.server.specs.Asked.{sends, Work, Asked, submit, work, requested, fromReading, asked}
-use Rattle.server.specs.Asked as A
+use Rattle.server.specs.Requests.{sends, Work, Request, submit, work, requested, fromReading, requestIn}
+use Rattle.server.specs.Requests as A
 use Rattle.server_laws.proofs.Requests.{Good, good-requested}
 use Rattle.packet_laws.proofs.Answers.{read-answer}
 use Rattle.carry_packet.proofs.Forwarding.{served-below}
@@ -46,7 +46,7 @@ each-of P (x ∷ y ∷ ks) ps k (inr o) = each-of P (y ∷ ks) (ps .1) k o
 -- ---- the last argument replaced
 
 -- what a type asks of a list of arguments
-abbrev asksOf : ℕ → List Bytes → Asked
+abbrev asksOf : ℕ → List Bytes → Request
 asksOf kind args = requested kind (getD args 0 []) (getD args 1 []) (getD args 2 [])
 
 -- worker data leaves the handle as it is
@@ -56,7 +56,7 @@ first-kept o (a ∷ []) n = absurd (omega arith)
 first-kept o (a ∷ (b ∷ args)) n = refl
 
 -- a submission's workload counts by its length alone
-size-kept : (f : Bytes → Bytes → ℕ → Asked) (o : Bytes) (args : List Bytes) → length args ≡ 3 → length (getD args 2 []) ≡ length o
+size-kept : (f : Bytes → Bytes → ℕ → Request) (o : Bytes) (args : List Bytes) → length args ≡ 3 → length (getD args 2 []) ≡ length o
     → f (getD (withLast o args) 0 []) (getD (withLast o args) 1 []) (length (getD (withLast o args) 2 [])) ≡ f (getD args 0 []) (getD args 1 []) (length (getD args 2 []))
 size-kept f o [] n l = absurd (omega arith)
 size-kept f o (a ∷ []) n l = absurd (omega arith)

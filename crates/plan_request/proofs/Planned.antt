@@ -27,8 +27,8 @@ use Rattle.packet.specs.Answers.{answerOf, argumentAt}
 use Rattle.lists.specs.Lists.{find, numbers}
 use Rattle.server.specs.Sizes.{connectionCount, functionCount}
 use Rattle.server.specs.Table.{Table, hasHandle, known, roomFor, joined}
-use Rattle.server.specs.Asked.{sends, Work, Asked, work, requested, asked}
-use Rattle.server.specs.Asked as A
+use Rattle.server.specs.Requests.{sends, Work, Request, work, requested, requestIn}
+use Rattle.server.specs.Requests as A
 use Rattle.server.specs.Events.{holdsHandle, exceptionsName}
 use Rattle.server.specs.Layout.{tableOf}
 use Rattle.server.specs.Call.{isSound}
@@ -154,7 +154,7 @@ module _ (b p : Bytes) (c kind : ℕ) (ends : Ends) (e : answerOf (read requests
 
   -- the type has this number: what it asks computes
   typed : (k : ℕ) (r : Brief) → kind ≡ k → r ≡ briefServed c (requested k (argument 0) (argument 1) (argument 2)) (tableOf connectionCount b) → Answers r
-  typed k r q g = g ∙ ap (λ (a : Asked). briefServed c a (tableOf connectionCount b)) (sym (asks c p ends kind e ∙ ap (λ (k : ℕ). requested k (argument 0) (argument 1) (argument 2)) q))
+  typed k r q g = g ∙ ap (λ (a : Request). briefServed c a (tableOf connectionCount b)) (sym (asks c p ends kind e ∙ ap (λ (k : ℕ). requested k (argument 0) (argument 1) (argument 2)) q))
 
   -- a type that was read is served
   pub plan-foreign : (r : Brief) → Foreign ≡ requestShape kind → Answers r

@@ -18,7 +18,7 @@ ghost use Rattle.packet.specs.Answers.{answerOf};
 ghost use Rattle.lists.specs.Lists.{find};
 ghost use Rattle.server.specs.Sizes.{connectionCount};
 ghost use Rattle.server.specs.Table.{hasHandle};
-ghost use Rattle.server.specs.Asked.{asked, sends};
+ghost use Rattle.server.specs.Requests.{requestIn, sends};
 ghost use Rattle.server.specs.Events.{holdsHandle};
 ghost use Rattle.server.specs.Layout.{tableOf, tableSize};
 ghost use Rattle.server.specs.Call.{isSound};

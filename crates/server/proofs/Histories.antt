@@ -9,10 +9,10 @@ use Rattle.packet.specs.Arguments.{fits, fitAll, join, split}
 use Rattle.packet.specs.Packet.{packet, header, body, read, requests, responses}
 use Rattle.packet.specs.Opaque.{hasZeros, past, hides, seen, visible, opaque, masked}
 use Rattle.server.specs.Sizes.{connectionCount}
-use Rattle.server.specs.Table.{fresh, hasHandle, rank, best, freePlace, joined}
-use Rattle.server.specs.Asked.{Event, sends, requested, asked}
+use Rattle.server.specs.Table.{fresh, hasHandle, rank, bestRow, freeRow, joined}
+use Rattle.server.specs.Requests.{Event, sends, requested, requestIn}
 use Rattle.server.specs.Refusals.{isTold}
-use Rattle.server.specs.Events.{refuse, dropped, woken, toWake, forgot, settle, opening, closing, canDoAt, cantDoAt, unableToAll, sleeping, grabAt, submitNew, submitTo, holdsHandle, workAt, statusAt, optionIf, served, admitted, decide}
+use Rattle.server.specs.Events.{silence, refuse, dropped, wokenIn, toWakeIn, forgot, settle, opening, closing, canDoAt, cantDoAt, unableToAll, sleeping, grabAt, submitNew, submitTo, holdsHandle, workAt, statusAt, optionIf, served, onlyIfOpen, onlyIfClosed}
 use Rattle.server.specs.Server.{Server, Answer, Sent, addressed, shownBy, opaqueOf, render, decided, next, answer, start, after, answers}
 
 -- a request with these arguments, from connection c
@@ -34,7 +34,7 @@ sentOf a = a .sent
 
 -- from any server on
 unfoldable pub answeredFrom : Server → List Event → List Answer
-unfolding same startsWith firstZero every has insert remove members handle decimal decimalIn rulesOf requestShape responseShape priorityOf backgroundOf fits fitAll join split packet header body read hasZeros past hides seen visible opaque masked hasHandle rank best freePlace joined requested asked isTold refuse dropped woken toWake forgot settle opening closing canDoAt cantDoAt unableToAll sleeping grabAt submitNew submitTo holdsHandle workAt statusAt optionIf served admitted decide shownBy opaqueOf render decided next answer after answers
+unfolding same startsWith firstZero every has insert remove members handle decimal decimalIn rulesOf requestShape responseShape priorityOf backgroundOf fits fitAll join split packet header body read hasZeros past hides seen visible opaque masked hasHandle rank bestRow freeRow joined requested requestIn isTold silence refuse dropped wokenIn toWakeIn forgot settle opening closing canDoAt cantDoAt unableToAll sleeping grabAt submitNew submitTo holdsHandle workAt statusAt optionIf served onlyIfOpen onlyIfClosed shownBy opaqueOf render decided next answer after answers
 answeredFrom s h = answers s h
 
 unfoldable pub answered : List Event → List Answer

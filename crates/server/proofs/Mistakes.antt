@@ -6,7 +6,7 @@ use mathlib.Core.List.{List, [], _∷_, _++_}
 use lib.ListN.{replicate}
 use lib.Dec.{T}
 use Rattle.octets.specs.Bytes.{Bytes, text}
-use Rattle.server.specs.Asked.{Event, opens}
+use Rattle.server.specs.Requests.{Event, opens}
 use Rattle.server.proofs.Histories.{request, response}
 use Rattle.server.proofs.Edge.{Edge, edge, holds}
 

@@ -11,7 +11,7 @@ use Rattle.lists.specs.Lists.{concat, numbers}
 use Rattle.server.specs.Sizes.{jobCount, workloadSize, workloadsSize, outputSize}
 use Rattle.server.specs.Table.{fresh}
 use Rattle.server.specs.Rules.{obeys}
-use Rattle.server.specs.Asked.{Event}
+use Rattle.server.specs.Requests.{Event}
 use Rattle.server.specs.Server.{Server, Sent, addressed, next, answer}
 use Rattle.server.specs.Layout.{tableSize, tableOf, bytesOf, isImage}
 

@@ -1,20 +1,20 @@
--- What each event does: its number, the packets to send and the next table. 01, "Refusal numbers" and "Jobs and the queue".
--- Nothing here sees an opaque byte. Assumes nothing.
+-- What is done: the number, the packets to send and the next table. 01, "Refusal numbers" and "Jobs and the queue". Nothing here sees
+-- an opaque byte. Assumes nothing.
 use Prim.Native.Nat.{ℕ, suc, _+_, _-_, _/_, _%_}
 use mathlib.Core.Bool.{Bool, true, false, not, cond, _&&_}
 use mathlib.Core.Option.{Option, none, some}
 use mathlib.Core.List.{List, [], _∷_, _++_, map}
 use lib.ListN.{length, getD, set}
 use lib.Dec.{ltb, eqb}
-use Rattle.octets.specs.Bytes.{Bytes, same}
+use Rattle.octets.specs.Bytes.{Bytes, same, text}
 use Rattle.handle.specs.Handle.{handle, lap}
 use Rattle.sets.specs.Sets.{insert, remove, isEmpty, members}
 use Rattle.server.specs.declared.Connection.{Connection}
 use Rattle.server.specs.declared.JobRow.{JobRow}
 use Rattle.lists.specs.Lists.{any, find, filter, mapFrom, numbers}
-use Rattle.server.specs.Table.{Function, Job, Table, closed, noFunction, noJob, connectionAt, functionAt, jobAt, withLastSerial, withConnections, withFunctions, withJobs, setConnection, setFunction, setJob, justOpened, withAsleep, withExceptions, withName, withAble, freshRow, withListeners, inBackground, withHolder, withRow, withTexts, unstarted, queued, heldBy, hasHandle, known, roomFor, wanted, grabbable, best, freePlace, joined}
+use Rattle.server.specs.Table.{Function, Job, Table, closed, noFunction, noJob, connectionAt, functionAt, jobAt, withLastSerial, withConnections, withFunctions, withJobs, setConnection, setFunction, setJob, justOpened, withAsleep, withExceptions, withName, withAble, freshRow, withListeners, inBackground, withHolder, withRow, withTexts, unstarted, queued, heldBy, hasHandle, rowsOf, ablesOf, known, roomFor, wanted, grabbable, best, freePlace, joined}
 use Rattle.server.specs.Refusals.{errorText, isTold}
-use Rattle.server.specs.Asked.{Work, tells, reports, ends, throws, Asked, toOpen, toClose, reset, preSleep, echo, bad, canDo, cantDo, grab, submit, work, getStatus, option}
+use Rattle.server.specs.Requests.{Work, tells, reports, ends, throws, Request, reset, preSleep, echo, bad, canDo, cantDo, grab, submit, work, getStatus, option}
 
 -- ---- packets to send
 
@@ -35,7 +35,11 @@ pub record Decision : Type 0 where
 abbrev pub error : ℕ → ℕ → Send
 error c n = plain c 19 (((n / 10 + 48) ∷ (n % 10 + 48) ∷ []) ∷ errorText n ∷ [])
 
--- 01: "All refusals keep table and workloads. 1 to 8 write nothing [..]. 9 to 15 write one ERROR packet to the sender"
+-- 01: "All refusals keep table and workloads. 1 to 8 write nothing"
+unfoldable pub silence : ℕ → Table → Decision
+silence n t = record { number = n; packets = []; table = t }
+
+-- a packet of connection c is refused. 01: "9 to 15 write one ERROR packet to the sender"
 unfoldable pub refuse : ℕ → ℕ → Table → Decision
 refuse c n t = record { number = n; packets = cond (isTold n) (error c n ∷ []) []; table = t }
 
@@ -52,22 +56,28 @@ unfoldable pub dropped : Table → Table
 dropped t = withJobs (map unlessLost (t .jobs)) t
 
 -- 01: "NOOP to sleepers with a grabbable job", "NOOP always ends sleep"
-abbrev pub wakes : List Function → List Job → ℕ → Connection → Bool
-wakes fs js c x = x .asleep && any (λ j. grabbable fs c (j .row)) js
+abbrev pub wakes : List ℕ → List JobRow → ℕ → Connection → Bool
+wakes ables rs c x = x .asleep && any (grabbable ables c) rs
 
 abbrev pub awake : Connection → Connection
 awake x = withAsleep false x
 
-unfoldable pub woken : Table → Table
-woken t = withConnections (mapFrom (λ c x. cond (wakes (t .functions) (t .jobs) c x) (awake x) x) 0 (t .connections)) t
+unfoldable pub wokenIn : List ℕ → List JobRow → List Connection → List Connection
+wokenIn ables rs cs = mapFrom (λ c x. cond (wakes ables rs c x) (awake x) x) 0 cs
+
+abbrev pub woken : Table → Table
+woken t = withConnections (wokenIn (ablesOf t) (rowsOf t) (t .connections)) t
 
 -- 01: "Packets to several connections go in rising connection order."
-unfoldable pub toWake : Table → List ℕ
-toWake t = filter (λ c. wakes (t .functions) (t .jobs) c (connectionAt t c)) (numbers 0 (length (t .connections)))
+unfoldable pub toWakeIn : List ℕ → List JobRow → List Connection → List ℕ
+toWakeIn ables rs cs = filter (λ c. wakes ables rs c (getD cs c closed)) (numbers 0 (length cs))
+
+abbrev pub toWake : Table → List ℕ
+toWake t = toWakeIn (ablesOf t) (rowsOf t) (t .connections)
 
 -- 01: "At the end of an event it is forgotten, and its place set to zero and free, when neither holds."
 unfoldable pub forgot : Table → Table
-forgot t = withFunctions (mapFrom (λ q x. cond (wanted (t .jobs) q x) x noFunction) 0 (t .functions)) t
+forgot t = withFunctions (mapFrom (λ q x. cond (wanted (rowsOf t) q (x .able)) x noFunction) 0 (t .functions)) t
 
 abbrev pub noop : ℕ → Send
 noop c = plain c 6 []
@@ -192,16 +202,15 @@ abbrev pub flag : Bool → Bytes
 flag b = cond b 49 48 ∷ []
 
 -- 01: "for an unfinished job known 1, running 1 if held, and the stored texts [..]; otherwise 0, 0, 0, 0 with the handle as asked"
-unfoldable pub statusAt : Option ℕ → ℕ → Bytes → Table → Decision
-statusAt none c h t = settle (plain c 20 (h ∷ flag false ∷ flag false ∷ flag false ∷ flag false ∷ []) ∷ []) t
-statusAt (some p) c h t =
-    settle
-    (plain c 20 (h ∷ flag true ∷ flag (not (eqb (jobAt t p .row .holder) 0)) ∷ jobAt t p .numerator ∷ jobAt t p .denominator ∷ []) ∷ [])
-    t
+abbrev pub statusOf : Option ℕ → Bytes → Table → List Bytes
+statusOf none h t = h ∷ flag false ∷ flag false ∷ flag false ∷ flag false ∷ []
+statusOf (some p) h t = h ∷ flag true ∷ flag (not (eqb (jobAt t p .row .holder) 0)) ∷ jobAt t p .numerator ∷ jobAt t p .denominator ∷ []
 
--- `exceptions`
+unfoldable pub statusAt : Option ℕ → ℕ → Bytes → Table → Decision
+statusAt o c h t = settle (plain c 20 (statusOf o h t) ∷ []) t
+
 abbrev pub exceptionsName : Bytes
-exceptionsName = 101 ∷ 120 ∷ 99 ∷ 101 ∷ 112 ∷ 116 ∷ 105 ∷ 111 ∷ 110 ∷ 115 ∷ []
+exceptionsName = text "exceptions"
 
 abbrev pub catching : Connection → Connection
 catching x = withExceptions true x
@@ -211,12 +220,9 @@ unfoldable pub optionIf : Bool → ℕ → Bytes → Table → Decision
 optionIf false c name t = refuse c 15 t
 optionIf true c name t = settle (plain c 27 (name ∷ []) ∷ []) (setConnection t c (catching (connectionAt t c)))
 
--- ---- every event
+-- ---- what a packet asks, on a connection that is open
 
--- on a connection that is open
-unfoldable pub served : ℕ → Asked → Table → Decision
-served c toOpen t = refuse c 4 t
-served c toClose t = settle [] (closing c t)
+unfoldable pub served : ℕ → Request → Table → Decision
 served c (bad n) t = refuse c n t
 served c (canDo f) t = canDoAt (roomFor (t .functions) f) c f t
 served c (cantDo f) t = cantDoAt (known (t .functions) f) c t
@@ -229,26 +235,20 @@ served c (getStatus h) t = statusAt (find (λ j. hasHandle h (j .row)) (t .jobs)
 served c (option name) t = optionIf (same name exceptionsName) c name t
 served c echo t = settle (copy c 17 ∷ []) t
 
-abbrev pub isOpening : Asked → Bool
-isOpening toOpen = true
-isOpening toClose = false
-isOpening reset = false
-isOpening preSleep = false
-isOpening echo = false
-isOpening (bad n) = false
-isOpening (canDo f) = false
-isOpening (cantDo f) = false
-isOpening (grab uniq) = false
-isOpening (submit priority background f u size) = false
-isOpening (work how kind h n d) = false
-isOpening (getStatus h) = false
-isOpening (option name) = false
+-- ---- connections
 
--- 01, refusals 2 to 4: the number is a connection's, and it is open
-unfoldable pub admitted : Bool → Bool → ℕ → Asked → Table → Decision
-admitted false isOpen c a t = refuse c 2 t
-admitted true false c a t = cond (isOpening a) (settle [] (opening c t)) (refuse c 3 t)
-admitted true true c a t = served c a t
+-- the number is a connection's. 01: "2: connection above 15"
+abbrev pub isConnection : Table → ℕ → Bool
+isConnection t c = ltb c (length (t .connections))
 
-unfoldable pub decide : ℕ → Asked → Table → Decision
-decide c a t = admitted (ltb c (length (t .connections))) (connectionAt t c .opened) c a t
+-- 01: "3: packet or close, connection not open". The tests: the number is a connection's; it is open
+unfoldable pub onlyIfOpen : Bool → Bool → Table → Decision → Decision
+onlyIfOpen false isOpen t d = silence 2 t
+onlyIfOpen true false t d = silence 3 t
+onlyIfOpen true true t d = d
+
+-- 01: "4: open, already open"
+unfoldable pub onlyIfClosed : Bool → Bool → Table → Decision → Decision
+onlyIfClosed false isOpen t d = silence 2 t
+onlyIfClosed true true t d = silence 4 t
+onlyIfClosed true false t d = d

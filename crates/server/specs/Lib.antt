@@ -1,7 +1,7 @@
 pub mod Sizes
 pub mod Table
 pub mod Rules
-pub mod Asked
+pub mod Requests
 pub mod Refusals
 pub mod Events
 pub mod Server

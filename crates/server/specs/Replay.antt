@@ -8,7 +8,7 @@ use lib.Dec.{leb, eqb}
 use Rattle.octets.specs.Bytes.{Bytes}
 use Rattle.hex.specs.Hex.{unhex, hexByte, hex}
 use Rattle.lists.specs.Lists.{concat}
-use Rattle.server.specs.Asked.{Event, opens, closes, sends}
+use Rattle.server.specs.Requests.{Event, opens, closes, sends}
 
 -- ---- a line to a frame
 

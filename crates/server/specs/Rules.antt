@@ -8,9 +8,10 @@ use Rattle.octets.specs.Bytes.{Bytes, same, zeroFree, within}
 use Rattle.packet.specs.Arguments.{digits}
 use Rattle.sets.specs.Sets.{has, isEmpty}
 use Rattle.server.specs.declared.Connection.{Connection}
+use Rattle.server.specs.declared.JobRow.{JobRow}
 use Rattle.lists.specs.Lists.{implies, any, all, pairwise, numbers}
 use Rattle.server.specs.Sizes.{nameSize, uniqueSize, numberSize}
-use Rattle.server.specs.Table.{Function, Job, Table, connectionAt, functionAt, live, queued, wanted, grabbable}
+use Rattle.server.specs.Table.{Function, Job, Table, connectionAt, functionAt, rowsOf, ablesOf, live, queued, wanted, grabbable}
 
 -- ---- serials: "serials distinct, from 1 and below the next, which is at most 4,294,967,296"
 
@@ -73,12 +74,12 @@ abbrev pub functionsDistinct : Table → Bool
 functionsDistinct t = pairwise namesApart (t .functions)
 
 -- a place has a name exactly if some connection can do it or an unfinished job names it
-abbrev pub asDefined : List Job → ℕ → List Function → Bool
-asDefined js q [] = true
-asDefined js q (x ∷ xs) = cond (isKnown x) (wanted js q x) (not (wanted js q x)) && asDefined js (suc q) xs
+abbrev pub asDefined : List JobRow → ℕ → List Function → Bool
+asDefined rs q [] = true
+asDefined rs q (x ∷ xs) = cond (isKnown x) (wanted rs q (x .able)) (not (wanted rs q (x .able))) && asDefined rs (suc q) xs
 
 abbrev pub functionsAsDefined : Table → Bool
-functionsAsDefined t = asDefined (t .jobs) 0 (t .functions)
+functionsAsDefined t = asDefined (rowsOf t) 0 (t .functions)
 
 -- ---- "abilities, listeners, holders, options and sleep only on open connections"
 
@@ -121,7 +122,7 @@ uniquesDistinct t = pairwise uniquesApart (t .jobs)
 -- ---- "no sleeper has a grabbable job"
 
 abbrev pub sleeperIdle : Table → ℕ → Connection → Bool
-sleeperIdle t c x = implies (x .asleep) (not (any (λ j. grabbable (t .functions) c (j .row)) (t .jobs)))
+sleeperIdle t c x = implies (x .asleep) (not (any (grabbable (ablesOf t) c) (rowsOf t)))
 
 abbrev pub sleepersIdleFrom : Table → ℕ → List Connection → Bool
 sleepersIdleFrom t c [] = true
@@ -130,9 +131,8 @@ sleepersIdleFrom t c (x ∷ xs) = sleeperIdle t c x && sleepersIdleFrom t (suc c
 abbrev pub sleepersIdle : Table → Bool
 sleepersIdle t = sleepersIdleFrom t 0 (t .connections)
 
--- ---- all of them
+-- ---- the rules together, in the order of document 01; with the bytes being an image of the layout they are `Call: isSound`
 
--- the rules in the order of document 01
 unfoldable pub obeys : Table → Bool
 obeys t =
     nextSmall t && (serialsBelow t && (serialsDistinct t && (namesWithin t && (textsWithin t && (sizesWithin t && (rowsHaveMeaning t

@@ -12,9 +12,9 @@ use Rattle.packet.specs.Opaque.{visible, opaque}
 use Rattle.server.specs.declared.JobRow.{JobRow}
 use Rattle.lists.specs.Lists.{fit}
 use Rattle.server.specs.Sizes.{jobCount, workloadSize}
-use Rattle.server.specs.Table.{Job, Table, fresh, functionAt, jobAt, live}
-use Rattle.server.specs.Asked.{Event, opens, closes, sends, connectionOf, asked}
-use Rattle.server.specs.Events.{Send, plain, copy, assign, Decision, decide}
+use Rattle.server.specs.Table.{Job, Table, fresh, connectionAt, functionAt, jobAt, live}
+use Rattle.server.specs.Requests.{Event, opens, closes, sends, requestIn}
+use Rattle.server.specs.Events.{Send, plain, copy, assign, Decision, settle, opening, closing, served, isConnection, onlyIfOpen, onlyIfClosed}
 
 -- the table, and the workload of each place in 1,024 bytes
 pub record Server : Type 0 where
@@ -82,16 +82,25 @@ rework (j ∷ js) (k ∷ ks) o (w ∷ ws) = reworked (j .row) (k .row) o w ∷ r
 
 -- ---- one event, and histories
 
-unfoldable pub decided : Event → Table → Decision
-decided e t = decide (connectionOf e) (asked e) t
+-- whether a connection is one, and is open, is asked first; what is decided may look at the whole server
+unfoldable pub decided : Event → Server → Decision
+decided (opens c) s =
+    let t = s .table in
+    onlyIfClosed (isConnection t c) (connectionAt t c .opened) t (settle [] (opening c t))
+decided (closes c) s =
+    let t = s .table in
+    onlyIfOpen (isConnection t c) (connectionAt t c .opened) t (settle [] (closing c t))
+decided (sends c b) s =
+    let t = s .table in
+    onlyIfOpen (isConnection t c) (connectionAt t c .opened) t (served c (requestIn b) t)
 
 unfoldable pub next : Event → Server → Server
 next e s =
-    let t = decided e (s .table) .table in
+    let t = decided e s .table in
     record { table = t; workloads = rework (s .table .jobs) (t .jobs) (opaqueOf e) (s .workloads) }
 
 unfoldable pub answer : Event → Server → Answer
-answer e s = let d = decided e (s .table) in record { number = d .number; sent = map (render e s) (d .packets) }
+answer e s = let d = decided e s in record { number = d .number; sent = map (render e s) (d .packets) }
 
 -- a fresh table for n connections; 01: "32 places of 1,024"
 unfoldable pub start : ℕ → Server

@@ -142,11 +142,21 @@ heldBy c r = live r && eqb (r .holder) (suc c)
 unfoldable pub hasHandle : Bytes → JobRow → Bool
 hasHandle h r = live r && same (handle lap (r .serial)) h
 
+-- ---- the numbers that rules and searches look at
+
+-- the rows of the jobs
+abbrev pub rowsOf : Table → List JobRow
+rowsOf t = map (λ j. j .row) (t .jobs)
+
+-- the connections able to do each function
+abbrev pub ablesOf : Table → List ℕ
+ablesOf t = map (λ x. x .able) (t .functions)
+
 -- ---- functions and abilities
 
 -- connection c can do the function at place q
-abbrev pub able : List Function → ℕ → ℕ → Bool
-able fs q c = has (getD fs q noFunction .able) c
+abbrev pub able : List ℕ → ℕ → ℕ → Bool
+able ables q c = has (getD ables q 0) c
 
 -- 01: "Known function": the place where a name stands
 abbrev pub known : List Function → Bytes → Option ℕ
@@ -156,40 +166,53 @@ abbrev pub orElse : Option ℕ → Option ℕ → Option ℕ
 orElse (some q) o = some q
 orElse none o = o
 
+-- the lowest place without a name
+abbrev pub freeFunction : List Function → Option ℕ
+freeFunction fs = known fs []
+
 -- 01: "A new one takes the lowest free of 16 places"; none, if it is new and there is none
 abbrev pub roomFor : List Function → Bytes → Option ℕ
-roomFor fs f = orElse (known fs f) (known fs [])
+roomFor fs f = orElse (known fs f) (freeFunction fs)
 
--- 01: "some connection can do it or an unfinished job names it"
+-- an unfinished job names the function at place q
 abbrev pub names : ℕ → JobRow → Bool
 names q r = live r && eqb (r .function) q
 
-abbrev pub wanted : List Job → ℕ → Function → Bool
-wanted js q x = not (isEmpty (x .able)) || any (λ j. names q (j .row)) js
+-- 01: "some connection can do it or an unfinished job names it": the function at place q, which the connections of a set can do
+abbrev pub wanted : List JobRow → ℕ → ℕ → Bool
+wanted rs q able = not (isEmpty able) || any (names q) rs
 
 -- ---- grabbing
 
 -- the queued job is one that connection c can do
-abbrev pub grabbable : List Function → ℕ → JobRow → Bool
-grabbable fs c r = queued r && able fs (r .function) c
+abbrev pub grabbable : List ℕ → ℕ → JobRow → Bool
+grabbable ables c r = queued r && able ables (r .function) c
 
 -- 01: "the highest priority, then the lowest serial": the greater rank is grabbed first; 0 cannot be grabbed
-unfoldable pub rank : List Function → ℕ → JobRow → ℕ
-rank fs c r = cond (grabbable fs c r) (r .priority * 4294967296 + (4294967296 - r .serial)) 0
+unfoldable pub rank : List ℕ → ℕ → JobRow → ℕ
+rank ables c r = cond (grabbable ables c r) (r .priority * 4294967296 + (4294967296 - r .serial)) 0
 
 abbrev pub greatest : List ℕ → ℕ
 greatest [] = 0
 greatest (x ∷ xs) = max x (greatest xs)
 
 -- the place of the job that connection c is given; none "exactly if there is none"
-unfoldable pub best : Table → ℕ → Option ℕ
-best t c =
-    let m = greatest (map (λ j. rank (t .functions) c (j .row)) (t .jobs)) in
-    find (λ j. not (eqb m 0) && eqb (rank (t .functions) c (j .row)) m) (t .jobs)
+unfoldable pub bestRow : List ℕ → List JobRow → ℕ → Option ℕ
+bestRow ables rs c =
+    let m = greatest (map (rank ables c) rs) in
+    find (λ r. not (eqb m 0) && eqb (rank ables c r) m) rs
+
+abbrev pub best : Table → ℕ → Option ℕ
+best t c = bestRow (ablesOf t) (rowsOf t) c
 
 -- 01: "a new job takes the lowest free place"
-unfoldable pub freePlace : Table → Option ℕ
-freePlace t = find (λ j. not (live (j .row))) (t .jobs)
+unfoldable pub freeRow : List JobRow → Option ℕ
+freeRow rs = find (λ r. not (live r)) rs
+
+abbrev pub freePlace : Table → Option ℕ
+freePlace t = freeRow (rowsOf t)
+
+-- ---- joining
 
 -- 01: "A submission with a non-empty unique whose function and unique equal an unfinished job's joins it"
 abbrev pub joins : List Function → Bytes → Bytes → Job → Bool

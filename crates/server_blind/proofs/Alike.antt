@@ -7,8 +7,7 @@ use lib.ListN.{length, drop, length-append}
 use Rattle.octets.specs.Bytes.{Bytes, bigEndian}
 use Rattle.packet.specs.Packet.{packet, requests, responses}
 use Rattle.packet.specs.Opaque.{visible, opaque, masked}
-use Rattle.server.specs.Table.{Table}
-use Rattle.server.specs.Asked.{Event, opens, closes, sends, connectionOf, asked}
+use Rattle.server.specs.Requests.{Event, opens, closes, sends, requestIn}
 use Rattle.server.specs.Events.{Send, plain, copy, assign}
 use Rattle.server.specs.Server.{Server, Sent, Answer, shownBy, opaqueOf, render, addressed, decided}
 use Rattle.lists.proofs.Lists.{length-fit}
@@ -60,16 +59,9 @@ like-before p q l =
 
 -- ---- what two events ask and show, if they are alike
 
-pub connection-alike : {e f : Event} → Alike e f → connectionOf e ≡ connectionOf f
-connection-alike opening = refl
-connection-alike closing = refl
-connection-alike (sending v l) = refl
-
-pub asked-alike : {e f : Event} → Alike e f → asked e ≡ asked f
-unfolding asked masked
-asked-alike opening = refl
-asked-alike closing = refl
-asked-alike (sending v l) = rw (v, l)
+pub request-alike : (a b : Bytes) → visible requests a ≡ visible requests b → length (opaque requests a) ≡ length (opaque requests b) → requestIn a ≡ requestIn b
+unfolding requestIn masked
+request-alike a b v l = rw (v, l)
 
 shown-alike : {e f : Event} → Alike e f → shownBy e ≡ shownBy f
 unfolding shownBy
@@ -85,9 +77,12 @@ size-alike (sending v l) = l
 
 -- ---- the decision, and the packets sent
 
-pub decided-alike : {e f : Event} → Alike e f → (t : Table) → decided e t ≡ decided f t
+-- at two servers with equal tables
+pub decided-alike : {e f : Event} → Alike e f → (s r : Server) → s .table ≡ r .table → decided e s ≡ decided f r
 unfolding decided
-decided-alike a t = rw (connection-alike a, asked-alike a)
+decided-alike opening s r q = rw q
+decided-alike closing s r q = rw q
+decided-alike (sending {c} {a} {b} v l) s r q = rw (q, request-alike a b v l)
 
 pub like-render : {e f : Event} → Alike e f → (s r : Server) → s .table ≡ r .table → (x : Send) → Like (render e s x) (render f r x)
 unfolding render

@@ -3,7 +3,7 @@
 use Prim.Native.Nat.{ℕ}
 use mathlib.Core.Path.{_≡_, refl, ap, _∙_}
 use mathlib.Core.List.{List, [], _∷_, map}
-use Rattle.server.specs.Asked.{Event}
+use Rattle.server.specs.Requests.{Event}
 use Rattle.server.specs.Events.{Send, Decision}
 use Rattle.server.specs.Server.{Server, render, decided, next, answer, start, after, answers}
 use Rattle.lists.proofs.Cases.{All2}
@@ -12,8 +12,8 @@ use Rattle.server_blind.proofs.Alike.{Alike, Like, Agree, decided-alike
 -- ---- one event, at two servers with equal tables
 
 module _ {e f : Event} (a : Alike e f) (s r : Server) (q : s .table ≡ r .table) where
-  pub decided-same : decided e (s .table) ≡ decided f (r .table)
-  decided-same = decided-alike a (s .table) ∙ ap (decided f) q
+  pub decided-same : decided e s ≡ decided f r
+  decided-same = decided-alike a s r q
 
   like-renders : (xs : List Send) → All2 Like (map (render e s) xs) (map (render f r) xs)
   like-renders [] = All2.none
@@ -23,7 +23,7 @@ module _ {e f : Event} (a : Alike e f) (s r : Server) (q : s .table ≡ r .table
   unfolding answer
   answer-alike = record {
     number = ap (λ (d : Decision). d .number) decided-same;
-    sent = rw decided-same (like-renders (decided f (r .table) .packets));
+    sent = rw decided-same (like-renders (decided f r .packets));
   }
 
   pub table-alike : next e s .table ≡ next f r .table

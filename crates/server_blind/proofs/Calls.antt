@@ -15,7 +15,7 @@ use Rattle.server.specs.Server.{Server, Sent, Answer, next, answer, start, answ
 use Rattle.server.specs.Layout.{tableSize, bytesOf}
 use Rattle.server.specs.Call.{sentBytes, performed, call, make}
 use Rattle.lists.proofs.Cases.{All, All2}
-use Rattle.server_calls.specs.History.{Request, events, calls}
+use Rattle.server_calls.specs.History.{Call, events, calls}
 use Rattle.server_calls.proofs.Follows.{tableWith, workloadsWith, Running, running-next, call-follows}
 use Rattle.server_calls.proofs.Output.{output-fits}
 use Rattle.server_calls.proofs.Histories.{running-start, make-start, LongOutputs}
@@ -25,8 +25,8 @@ use Rattle.server_blind.proofs.OpaqueParts.{sent-apt}
 use Rattle.server_blind.proofs.Outputs.{all-alike, length-covered, covered-same, Match, Both}
 
 -- the events of two histories differ in opaque bytes alone; whatever outputs are lent
-abbrev pub AlikeEvents : List Request → List Request → Type 0
-AlikeEvents xs ys = All2 (λ (x y : Request). Alike (x .event) (y .event)) xs ys
+abbrev pub AlikeEvents : List Call → List Call → Type 0
+AlikeEvents xs ys = All2 (λ (x y : Call). Alike (x .event) (y .event)) xs ys
 
 -- two answers with one number, whose packets R relates
 pub record Related (R : Sent → Sent → Type 0) (a b : Answer) : Type 0 where
@@ -44,7 +44,7 @@ all-like f (All2.more r rs) = All2.more (f _ _ r) (all-like f rs)
 module _ (n : ℕ) (few : n ≤ 256) (t w : Bytes) (longTable : tableSize n ≤ length t) (longWorkloads : workloadsSize ≤ length w) {R : Sent → Sent → Type 0} (finer : Finer R) where
   -- ---- one call
 
-  module _ (x y : Request) (s r : Server) (h : Running n s) (k : Running n r) (l : outputSize n ≤ length (x .output)) (m : outputSize n ≤ length (y .output)) where
+  module _ (x y : Call) (s r : Server) (h : Running n s) (k : Running n r) (l : outputSize n ≤ length (x .output)) (m : outputSize n ≤ length (y .output)) where
     match-performed : Related R (answer (x .event) s) (answer (y .event) r) → next (x .event) s .table ≡ next (y .event) r .table
         → Match R x y (performed (x .event) s t w (x .output)) (performed (y .event) r t w (y .output))
     unfolding performed
@@ -74,7 +74,7 @@ module _ (n : ℕ) (few : n ≤ 256) (t w : Bytes) (longTable : tableSize n ≤ 
   -- ---- all calls
 
   -- buffers that hold two servers with equal tables, whose answers are related
-  pub match-calls : {xs ys : List Request} → AlikeEvents xs ys → LongOutputs n xs → LongOutputs n ys → (s r : Server) → Running n s → Running n r → s .table ≡ r .table
+  pub match-calls : {xs ys : List Call} → AlikeEvents xs ys → LongOutputs n xs → LongOutputs n ys → (s r : Server) → Running n s → Running n r → s .table ≡ r .table
       → All2 (Related R) (answers s (events xs)) (answers r (events ys))
       → Both (Match R) xs ys (calls n xs (tableWith s t) (workloadsWith s w)) (calls n ys (tableWith r t) (workloadsWith r w))
   unfolding calls answers performed
@@ -91,18 +91,18 @@ related-agree : {as′ bs : List Answer} → All2 Agree as′ bs → All2 (Relat
 related-agree All2.none = All2.none
 related-agree (All2.more a rest) = All2.more (record { number = a .number; sent = a .sent }) (related-agree rest)
 
-events-alike : {xs ys : List Request} → AlikeEvents xs ys → All2 Alike (events xs) (events ys)
+events-alike : {xs ys : List Call} → AlikeEvents xs ys → All2 Alike (events xs) (events ys)
 events-alike All2.none = All2.none
 events-alike (All2.more e rest) = All2.more e (events-alike rest)
 
 -- from a fresh table on
-pub blind-calls : (n : ℕ) → n ≤ 256 → (t w : Bytes) → tableSize n ≤ length t → workloadsSize ≤ length w → {xs ys : List Request} → AlikeEvents xs ys → LongOutputs n xs → LongOutputs n ys
+pub blind-calls : (n : ℕ) → n ≤ 256 → (t w : Bytes) → tableSize n ≤ length t → workloadsSize ≤ length w → {xs ys : List Call} → AlikeEvents xs ys → LongOutputs n xs → LongOutputs n ys
     → Both (Match Like) xs ys (calls n xs (make n t w .table) (make n t w .workloads)) (calls n ys (make n t w .table) (make n t w .workloads))
 blind-calls n few t w lt lw a l m =
     rw (make-start n t w lt lw)
     (match-calls n few t w lt lw (λ p q z. z) a l m (start n) (start n) (running-start n) (running-start n) refl (related-agree (agree-from (events-alike a) (start n) (start n) refl)))
 
 -- 16 connections: a table of 3,796 bytes and workloads of 32,768
-pub sixteen-blind : (t w : Bytes) → tableSize connectionCount ≤ length t → workloadsSize ≤ length w → {xs ys : List Request} → AlikeEvents xs ys → LongOutputs connectionCount xs → LongOutputs connectionCount ys
+pub sixteen-blind : (t w : Bytes) → tableSize connectionCount ≤ length t → workloadsSize ≤ length w → {xs ys : List Call} → AlikeEvents xs ys → LongOutputs connectionCount xs → LongOutputs connectionCount ys
     → Both (Match Like) xs ys (calls connectionCount xs (make connectionCount t w .table) (make connectionCount t w .workloads)) (calls connectionCount ys (make connectionCount t w .table) (make connectionCount t w .workloads))
 sixteen-blind t w lt lw a l m = blind-calls connectionCount (omega arith) t w lt lw a l m

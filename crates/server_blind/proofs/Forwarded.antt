@@ -18,29 +18,27 @@ use Rattle.packet.specs.Opaque.{endsOpaque, hasZeros, past, hides, seen, visibl
 use Rattle.packet_laws.proofs.Packets.{requests-well, header-good, Got, read-got}
 use Rattle.packet_laws.proofs.Separators.{Heads, heads}
 use Rattle.packet_laws.proofs.Blindness.{read-masked, got-hides, opaque-none}
-use Rattle.server.specs.Asked.{Event, opens, closes, sends, Work, Asked, toOpen, toClose, reset, preSleep, echo, bad, canDo, cantDo, grab, submit, work, getStatus, option, requested, fromReading, asked}
+use Rattle.server.specs.Requests.{Event, sends, Work, Request, reset, preSleep, echo, bad, canDo, cantDo, grab, submit, work, getStatus, option, requested, fromReading, requestIn}
 use Rattle.server.specs.Server.{shownBy, opaqueOf}
 use Rattle.server_calls.proofs.Packets.{data-short}
 
 -- ---- what is passed on, by the type's number
 
 -- the tables of shapes of requests and of responses beside the table of what is asked; beyond the third nothing is asked
-data Beside (R : Shape → Shape → Asked → Type 0) : List Shape → List Shape → List Asked → Type 0 where
+data Beside (R : Shape → Shape → Request → Type 0) : List Shape → List Shape → List Request → Type 0 where
   beyond : {ss rs : List Shape} → Beside R ss rs []
-  line : {s r : Shape} {a : Asked} {ss rs : List Shape} {asks : List Asked} → R s r a → Beside R ss rs asks → Beside R (s ∷ ss) (r ∷ rs) (a ∷ asks)
+  line : {s r : Shape} {a : Request} {ss rs : List Shape} {asks : List Request} → R s r a → Beside R ss rs asks → Beside R (s ∷ ss) (r ∷ rs) (a ∷ asks)
 
-beside-at : {R : Shape → Shape → Asked → Type 0} {ss rs : List Shape} {asks : List Asked} → ((s r : Shape) → R s r (bad 9)) → Beside R ss rs asks
+beside-at : {R : Shape → Shape → Request → Type 0} {ss rs : List Shape} {asks : List Request} → ((s r : Shape) → R s r (bad 9)) → Beside R ss rs asks
     → (i : ℕ) → R (getD ss i Foreign) (getD rs i Foreign) (getD asks i (bad 9))
 beside-at f beyond i = f _ _
 beside-at f (line r rs) zero = r
 beside-at f (line r rs) (suc i) = beside-at f rs i
 
 -- a worker packet has the shape of its copies, and an echo that of an echo
-abbrev Passes : ℕ → Shape → Shape → Asked → Type 0
+abbrev Passes : ℕ → Shape → Shape → Request → Type 0
 Passes kind s r (work how k h n d) = (k ≡ kind) × (r ≡ s)
 Passes kind s r echo = s ≡ Echo
-Passes kind s r toOpen = Unit {0}
-Passes kind s r toClose = Unit {0}
 Passes kind s r reset = Unit {0}
 Passes kind s r preSleep = Unit {0}
 Passes kind s r (bad n) = Unit {0}
@@ -114,29 +112,25 @@ unfolding responseShape
 echo-shape = refl
 
 module _ (c : ℕ) (b : Bytes) where
-  work-reading : (how : Work) (kind : ℕ) (h n d : Bytes) (r : Reading) → read requests (masked requests b) ≡ r → fromReading r ≡ work how kind h n d → asked (sends c b) ≡ work how kind h n d
+  work-reading : (how : Work) (kind : ℕ) (h n d : Bytes) (r : Reading) → read requests (masked requests b) ≡ r → fromReading r ≡ work how kind h n d → requestIn b ≡ work how kind h n d
       → Forwarded (sends c b) kind
   work-reading how kind h n d (refused m) e q a = let z : _≡_ {A = ℕ} 0 1 = cc in absurd (omega arith)
   work-reading how kind h n d (got k args) e q a =
       let p : Passes k (requestShape k) (responseShape k) (work how kind h n d) = subst (Passes k (requestShape k) (responseShape k)) q (requested-passes k _ _ _) in
       let g = read-got requests b k _ (reads-as-came b k args e) in
       let low : kind < 2 ^ 32 = rw (p .0) (requests-well .low k (g .own)) in
-      passed-on c b k _ (reads-as-came b k args e) kind low (rw (p .0) (p .1)) (data-short (sends c b) (work how kind h n d) a refl)
+      passed-on c b k _ (reads-as-came b k args e) kind low (rw (p .0) (p .1)) (data-short c b (work how kind h n d) a refl)
 
-  echo-reading : (r : Reading) → read requests (masked requests b) ≡ r → fromReading r ≡ echo → asked (sends c b) ≡ echo → Forwarded (sends c b) 17
+  echo-reading : (r : Reading) → read requests (masked requests b) ≡ r → fromReading r ≡ echo → requestIn b ≡ echo → Forwarded (sends c b) 17
   echo-reading (refused m) e q a = let z : _≡_ {A = ℕ} 0 1 = cc in absurd (omega arith)
   echo-reading (got k args) e q a =
       let p : requestShape k ≡ Echo = subst (Passes k (requestShape k) (responseShape k)) q (requested-passes k _ _ _) in
-      passed-on c b k _ (reads-as-came b k args e) 17 (omega arith) (echo-shape ∙ sym p) (data-short (sends c b) echo a refl)
+      passed-on c b k _ (reads-as-came b k args e) 17 (omega arith) (echo-shape ∙ sym p) (data-short c b echo a refl)
 
-pub work-forwarded : (e : Event) (how : Work) (kind : ℕ) (h n d : Bytes) → asked e ≡ work how kind h n d → Forwarded e kind
-unfolding asked
-work-forwarded (opens c) how kind h n d q = let z : _≡_ {A = ℕ} 0 1 = cc in absurd (omega arith)
-work-forwarded (closes c) how kind h n d q = let z : _≡_ {A = ℕ} 0 1 = cc in absurd (omega arith)
-work-forwarded (sends c b) how kind h n d q = work-reading c b how kind h n d _ refl q q
+  pub work-forwarded : (how : Work) (kind : ℕ) (h n d : Bytes) → requestIn b ≡ work how kind h n d → Forwarded (sends c b) kind
+  unfolding requestIn
+  work-forwarded how kind h n d q = work-reading how kind h n d _ refl q q
 
-pub echo-forwarded : (e : Event) → asked e ≡ echo → Forwarded e 17
-unfolding asked
-echo-forwarded (opens c) q = let z : _≡_ {A = ℕ} 0 1 = cc in absurd (omega arith)
-echo-forwarded (closes c) q = let z : _≡_ {A = ℕ} 0 1 = cc in absurd (omega arith)
-echo-forwarded (sends c b) q = echo-reading c b _ refl q q
+  pub echo-forwarded : requestIn b ≡ echo → Forwarded (sends c b) 17
+  unfolding requestIn
+  echo-forwarded q = echo-reading _ refl q q

@@ -5,21 +5,21 @@ use mathlib.Core.Path.{_≡_, refl, ap, ap₂, _∙_, subst}
 use mathlib.Core.List.{List, [], _∷_, _++_}
 use Rattle.octets.specs.Bytes.{Bytes}
 use Rattle.server.specs.Table.{Table}
-use Rattle.server.specs.Asked.{Event, connectionOf, asked, Work, Asked, echo, work}
+use Rattle.server.specs.Requests.{Event, Request}
 use Rattle.server.specs.Events.{Decision}
 use Rattle.server.specs.Server.{Server, Sent, Answer, opaqueOf, rework, decided, next, answer, after, answers}
 use Rattle.lists.proofs.Cases.{All2}
-use Rattle.server_laws.proofs.Serials.{Stays, Makes, IsSubmit, is-submit, Creates, Creation, nothing, one, creation, numbered}
+use Rattle.server_laws.proofs.Serials.{Stays, Makes, IsSubmit, Submits, submits, Creates, Creation, nothing, one, creation, numbered}
 use Rattle.server_blind.proofs.Alike.{Alike, decided-alike}
 use Rattle.server_blind.proofs.Blind.{answer-alike}
 use Rattle.server_blind.proofs.Workloads.{its, near-same, rework-near, rework-blind, Apart, AgreeBut, answers-but}
-use Rattle.server_blind.proofs.Copies.{Listens, MaySee, ButTo, equal, differs, answer-to}
+use Rattle.server_blind.proofs.Copies.{Sees, sees-echo, sees-work, MaySee, sees, ButTo, equal, differs, answer-to}
 
 -- ---- the server after the event
 
 module _ {e f : Event} (a : Alike e f) (s : Server) where
-  decided-both : decided e (s .table) ≡ decided f (s .table)
-  decided-both = decided-alike a (s .table)
+  decided-both : decided e s ≡ decided f s
+  decided-both = decided-alike a s s refl
 
   -- no job was made: the two servers are one
   stays-same : Stays (s .table) (next e s .table) → next e s ≡ next f s
@@ -29,9 +29,9 @@ module _ {e f : Event} (a : Alike e f) (s : Server) where
       (rework-blind (opaqueOf e) (opaqueOf f) (m .jobs) (s .workloads) ∙ ap (λ (d : Decision). rework (s .table .jobs) (d .table .jobs) (opaqueOf f) (s .workloads)) decided-both)
 
   -- a job was made: they differ at most in its workload
-  pub makes-apart : Makes (connectionOf e) (s .table) (decided e (s .table)) → Apart (suc (s .table .last)) (next e s) (next f s)
+  pub makes-apart : (c : ℕ) → Makes c (s .table) (decided e s) → Apart (suc (s .table .last)) (next e s) (next f s)
   unfolding next
-  makes-apart m = record {
+  makes-apart c m = record {
     table = ap (λ (d : Decision). d .table) decided-both;
     workloads = rw (← decided-both) (rework-near (opaqueOf e) (opaqueOf f) (its refl) (m .jobs) (near-same _ (s .table .jobs) (s .workloads)));
   }
@@ -42,7 +42,7 @@ module _ {e f : Event} (a : Alike e f) (s : Server) where
     where
       by : Creation s e → next e s ≡ next f s
       by (nothing m z) = stays-same m
-      by (one m c g) = absurd (n _ c)
+      by (one d i m c g) = absurd (n _ c)
 
   -- an event that created the job with serial k: later, nothing differs but the workload in assignments of that job
   pub lone-created : (k : ℕ) → Creates s e k → (later : List Event) → All2 (AgreeBut k) (answers (next e s) later) (answers (next f s) later)
@@ -50,7 +50,7 @@ module _ {e f : Event} (a : Alike e f) (s : Server) where
     where
       by : Creation s e → All2 (AgreeBut k) (answers (next e s) later) (answers (next f s) later)
       by (nothing m z) = absurd (z k c)
-      by (one m d g) = rw (g k c .is) (answers-but _ later (next e s) (next f s) (makes-apart m))
+      by (one x i m d g) = rw (g k c .is) (answers-but _ later (next e s) (next f s) (makes-apart x m))
 
 -- ---- one submission
 
@@ -63,10 +63,14 @@ pub data Later (e f : Event) (s : Server) : Type 0 where
 
 later-by : {e f : Event} → Alike e f → (s : Server) → Creation s e → Later e f s
 later-by a s (nothing m n) = made-none n (lone-none a s n)
-later-by a s (one m c g) = made-one c (lone-created a s _ c)
+later-by a s (one d i m c g) = made-one c (lone-created a s _ c)
 
-nobody-sees : {a : Asked} → IsSubmit a → (c : ℕ) (t : Table) (l : ℕ) → ¬ MaySee c t a l
-nobody-sees is-submit c t l x = x
+submits-unseen : {a : Request} {c l : ℕ} {t : Table} → IsSubmit a → ¬ Sees c t a l
+submits-unseen i sees-echo = elim i [ ]
+submits-unseen i (sees-work x) = elim i [ ]
+
+nobody-sees : {e : Event} {d : ℕ} → Submits e d → (t : Table) (l : ℕ) → ¬ MaySee t e l
+nobody-sees (submits c b i) t l (sees x y z) = submits-unseen i z
 
 all-equal : {P : ℕ → Type 0} → ((l : ℕ) → ¬ P l) → {ps qs : List Sent} → All2 (ButTo P) ps qs → ps ≡ qs
 all-equal n All2.none = refl
@@ -74,12 +78,12 @@ all-equal n (All2.more (equal e) rest) = ap₂ _∷_ e (all-equal n rest)
 all-equal n (All2.more (differs x l) rest) = absurd (n _ x)
 
 -- the submission's own answer is equal, and later ones as said above
-pub lone-submission : {e f : Event} → Alike e f → (s : Server) → IsSubmit (asked e) → (answer e s ≡ answer f s) × Later e f s
+pub lone-submission : {e f : Event} → Alike e f → (s : Server) {c : ℕ} → Submits e c → (answer e s ≡ answer f s) × Later e f s
 lone-submission {e} {f} a s i =
-    let ps : answer e s .sent ≡ answer f s .sent = all-equal (nobody-sees i (connectionOf e) (s .table)) (answer-to a s) in
+    let ps : answer e s .sent ≡ answer f s .sent = all-equal (nobody-sees i (s .table)) (answer-to a s) in
     (ap₂ {C = Answer} (λ (n : ℕ) (qs : List Sent). record { number = n; sent = qs }) (answer-alike a s s refl .number) ps, later-by a s (creation s e))
 
--- ---- one worker packet, one echo
+-- ---- one event that is no submission
 
 -- the servers after it are one, so nothing at all differs later; and at the event itself the number is the same, and only packets
 -- to these connections differ, and those in their opaque part alone
@@ -89,21 +93,13 @@ pub record OnlyTo (P : ℕ → Type 0) (e f : Event) (s : Server) : Type 0 where
   pub sent : All2 (ButTo P) (answer e s .sent) (answer f s .sent)
 
 module _ {e f : Event} (a : Alike e f) (s : Server) where
-  -- whatever it asks, if that is no submission
-  pub lone-other : (x : Asked) → asked e ≡ x → ¬ IsSubmit x → OnlyTo (MaySee (connectionOf e) (s .table) x) e f s
-  lone-other x q n = record {
-    server = lone-none a s (λ k c. n (subst IsSubmit q (numbered c .asks)));
+  -- whatever it is, if it is no submission: only those who may see its opaque bytes are told other ones
+  pub lone-other : ((c : ℕ) → ¬ Submits e c) → OnlyTo (MaySee (s .table) e) e f s
+  lone-other n = record {
+    server = lone-none a s (λ k c. n (numbered c .sender) (numbered c .asks));
     number = answer-alike a s s refl .number;
-    sent = rw q at (answer-to a s);
+    sent = answer-to a s;
   }
-
-  -- a worker packet: only listeners of the job with that handle, held by the sender, are told other bytes
-  pub lone-work : (how : Work) (kind : ℕ) (h n d : Bytes) → asked e ≡ work how kind h n d → OnlyTo (Listens (connectionOf e) (s .table) h) e f s
-  lone-work how kind h n d q = lone-other _ q (λ i. elim i [ ])
-
-  -- an echo: only its sender is told other bytes
-  pub lone-echo : asked e ≡ echo → OnlyTo (λ l. l ≡ connectionOf e) e f s
-  lone-echo q = lone-other _ q (λ i. elim i [ ])
 
 -- ---- in a history
 

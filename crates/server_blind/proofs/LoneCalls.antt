@@ -10,13 +10,13 @@ use Rattle.octets.specs.Bytes.{Bytes}
 use Rattle.octets.specs.Put.{put}
 use Rattle.lists.specs.Lists.{concat}
 use Rattle.server.specs.Sizes.{workloadsSize, outputSize}
-use Rattle.server.specs.Asked.{Event, connectionOf, asked, Work, echo, work}
+use Rattle.server.specs.Requests.{Event}
 use Rattle.server.specs.Server.{Server, Sent, Answer, next, answer, start, after, answers}
 use Rattle.server.specs.Layout.{tableSize}
 use Rattle.server.specs.Call.{Result, performed, call, make}
 use Rattle.lists.proofs.Cases.{All2}
-use Rattle.server_laws.proofs.Serials.{IsSubmit, Creates}
-use Rattle.server_calls.specs.History.{Request, Memory, events, calls, leaves}
+use Rattle.server_laws.proofs.Serials.{Submits, Creates}
+use Rattle.server_calls.specs.History.{Call, Memory, events, calls, leaves}
 use Rattle.server_calls.proofs.Follows.{tableWith, workloadsWith, Running, running-next, call-follows}
 use Rattle.server_calls.proofs.Histories.{running-after, LongOutputs, history}
 use Rattle.server_blind.proofs.Alike.{Alike, alike-same, Like, like-same}
@@ -24,20 +24,20 @@ use Rattle.server_blind.proofs.Blind.{table-alike}
 use Rattle.server_blind.proofs.Workloads as Workloads
 use Rattle.server_blind.proofs.Workloads.{ButAssigned, AgreeBut, Apart}
 use Rattle.server_blind.proofs.Copies as Copies
-use Rattle.server_blind.proofs.Copies.{Listens, ButTo}
+use Rattle.server_blind.proofs.Copies.{MaySee, ButTo}
 use Rattle.server_blind.proofs.Lone as Abstract
-use Rattle.server_blind.proofs.Lone.{OnlyTo, Later, lone-created, lone-submission, lone-work, lone-echo}
+use Rattle.server_blind.proofs.Lone.{OnlyTo, Later, lone-created, lone-submission, lone-other}
 use Rattle.server_blind.proofs.Outputs.{Match, Both}
 use Rattle.server_blind.proofs.Stored.{serverOf, created-apart, leaves-apart}
 use Rattle.server_blind.proofs.Calls.{AlikeEvents, Related, Finer, match-call, match-calls}
 
 -- ---- where a call stands in a history
 
-abbrev pub callOn : ℕ → Memory → Request → Result
+abbrev pub callOn : ℕ → Memory → Call → Result
 callOn n m x = call n (x .event) (m .table) (m .workloads) (x .output)
 
 -- the calls of a history: those before one, itself on what they left, and those after it
-pub calls-around : (n : ℕ) (before : List Request) (x : Request) (xs : List Request) (t w : Bytes)
+pub calls-around : (n : ℕ) (before : List Call) (x : Call) (xs : List Call) (t w : Bytes)
     → let r = callOn n (leaves n before t w) x in calls n (before ++ (x ∷ xs)) t w ≡ calls n before t w ++ (r ∷ calls n xs (r .table) (r .workloads))
 unfolding calls leaves
 calls-around n [] x xs t w = refl
@@ -48,29 +48,29 @@ calls-around n (b ∷ before) x xs t w =
 -- ---- one call alone
 
 -- the calls x and y on one memory, and the calls after each: R relates the packets of x and y, S those of the later calls
-pub record Lone (R S : Sent → Sent → Type 0) (n : ℕ) (m : Memory) (x y : Request) (xs ys : List Request) : Type 0 where
+pub record Lone (R S : Sent → Sent → Type 0) (n : ℕ) (m : Memory) (x y : Call) (xs ys : List Call) : Type 0 where
   pub itself : Match R x y (callOn n m x) (callOn n m y)
   pub later : Both (Match S) xs ys (calls n xs (callOn n m x .table) (callOn n m x .workloads)) (calls n ys (callOn n m y .table) (callOn n m y .workloads))
 
 -- nothing at all differs later: the workloads are equal too
-pub record LoneNow (R : Sent → Sent → Type 0) (n : ℕ) (m : Memory) (x y : Request) (xs ys : List Request) : Type 0 where
+pub record LoneNow (R : Sent → Sent → Type 0) (n : ℕ) (m : Memory) (x y : Call) (xs ys : List Call) : Type 0 where
   pub lone : Lone R (λ p q. p ≡ q) n m x y xs ys
   pub workloads : callOn n m x .workloads ≡ callOn n m y .workloads
 
 -- later only assignments of the job with serial k differ, in their workload; and of the workloads only that job's place
-pub record LoneMade (k : ℕ) (n : ℕ) (m : Memory) (x y : Request) (xs ys : List Request) : Type 0 where
+pub record LoneMade (k : ℕ) (n : ℕ) (m : Memory) (x y : Call) (xs ys : List Call) : Type 0 where
   pub lone : Lone (λ p q. p ≡ q) (ButAssigned k) n m x y xs ys
   pub workloads : Apart k (serverOf n (leaves n xs (callOn n m x .table) (callOn n m x .workloads))) (serverOf n (leaves n ys (callOn n m y .table) (callOn n m y .workloads)))
 
 -- the same events; whatever outputs are lent
-abbrev pub SameEvents : List Request → List Request → Type 0
-SameEvents xs ys = All2 (λ (x y : Request). x .event ≡ y .event) xs ys
+abbrev pub SameEvents : List Call → List Call → Type 0
+SameEvents xs ys = All2 (λ (x y : Call). x .event ≡ y .event) xs ys
 
-same-alike : {xs ys : List Request} → SameEvents xs ys → AlikeEvents xs ys
+same-alike : {xs ys : List Call} → SameEvents xs ys → AlikeEvents xs ys
 same-alike All2.none = All2.none
 same-alike (All2.more {a = x} e rest) = All2.more (subst (Alike (x .event)) e (alike-same (x .event))) (same-alike rest)
 
-same-events : {xs ys : List Request} → SameEvents xs ys → events xs ≡ events ys
+same-events : {xs ys : List Call} → SameEvents xs ys → events xs ≡ events ys
 same-events All2.none = refl
 same-events (All2.more e rest) = ap₂ {C = List Event} (λ (a : Event) (es : List Event). a ∷ es) e (same-events rest)
 
@@ -105,8 +105,8 @@ related-but (All2.more a rest) = All2.more (record { number = a .number; sent = 
 -- ---- two calls on buffers that hold a server, and those after them
 
 module _ (n : ℕ) (few : n ≤ 256) (t w : Bytes) (longTable : tableSize n ≤ length t) (longWorkloads : workloadsSize ≤ length w) (s : Server) (h : Running n s)
-    (x y : Request) (a : Alike (x .event) (y .event)) (lx : outputSize n ≤ length (x .output)) (ly : outputSize n ≤ length (y .output))
-    {xs ys : List Request} (same : SameEvents xs ys) (lxs : LongOutputs n xs) (lys : LongOutputs n ys) where
+    (x y : Call) (a : Alike (x .event) (y .event)) (lx : outputSize n ≤ length (x .output)) (ly : outputSize n ≤ length (y .output))
+    {xs ys : List Call} (same : SameEvents xs ys) (lxs : LongOutputs n xs) (lys : LongOutputs n ys) where
   abbrev held : Memory
   held = record { table = tableWith s t; workloads = workloadsWith s w }
 
@@ -151,13 +151,13 @@ module _ (n : ℕ) (few : n ≤ 256) (t w : Bytes) (longTable : tableSize n ≤ 
 
 -- what a submission with another workload may change later: nothing, if it made no job, as when it joins one or is refused; or the
 -- workload in assignments of the job that it made, which has the next serial
-pub data LaterCalls (s : Server) (n : ℕ) (m : Memory) (x y : Request) (xs ys : List Request) : Type 0 where
+pub data LaterCalls (s : Server) (n : ℕ) (m : Memory) (x y : Call) (xs ys : List Call) : Type 0 where
   made-none : ((k : ℕ) → ¬ Creates s (x .event) k) → LoneNow (λ p q. p ≡ q) n m x y xs ys → LaterCalls s n m x y xs ys
   made-one : Creates s (x .event) (suc (s .table .last)) → LoneMade (suc (s .table .last)) n m x y xs ys → LaterCalls s n m x y xs ys
 
-module _ (n : ℕ) (few : n ≤ 256) (t w : Bytes) (longTable : tableSize n ≤ length t) (longWorkloads : workloadsSize ≤ length w) (before : List Request) (long : LongOutputs n before)
-    (x y : Request) (a : Alike (x .event) (y .event)) (lx : outputSize n ≤ length (x .output)) (ly : outputSize n ≤ length (y .output))
-    {xs ys : List Request} (same : SameEvents xs ys) (lxs : LongOutputs n xs) (lys : LongOutputs n ys) where
+module _ (n : ℕ) (few : n ≤ 256) (t w : Bytes) (longTable : tableSize n ≤ length t) (longWorkloads : workloadsSize ≤ length w) (before : List Call) (long : LongOutputs n before)
+    (x y : Call) (a : Alike (x .event) (y .event)) (lx : outputSize n ≤ length (x .output)) (ly : outputSize n ≤ length (y .output))
+    {xs ys : List Call} (same : SameEvents xs ys) (lxs : LongOutputs n xs) (lys : LongOutputs n ys) where
   -- what the calls before left, and the server that it holds
   abbrev pub left : Memory
   left = leaves n before (make n t w .table) (make n t w .workloads)
@@ -176,7 +176,7 @@ module _ (n : ℕ) (few : n ≤ 256) (t w : Bytes) (longTable : tableSize n ≤ 
       (lone-now n few t w longTable longWorkloads server (running-after n (events before)) x y a lx ly same lxs lys (finer-to P) (record { number = o .number; sent = o .sent }) (o .server))
 
   -- a submission: its own packets are equal, and later ones as said above
-  pub submission-calls : IsSubmit (asked (x .event)) → LaterCalls server n left x y xs ys
+  pub submission-calls : {c : ℕ} → Submits (x .event) c → LaterCalls server n left x y xs ys
   submission-calls i =
       let (q, l) = lone-submission a server i in
       by q l
@@ -187,10 +187,7 @@ module _ (n : ℕ) (few : n ≤ 256) (t w : Bytes) (longTable : tableSize n ≤ 
       by q (Abstract.made-one c f) =
           made-one c (rw left-is (lone-made n few t w longTable longWorkloads server (running-after n (events before)) x y a lx ly same lxs lys _ q c))
 
-  -- a worker packet: only packets to listeners of the job with that handle, held by the sender, differ; nothing differs later
-  pub work-calls : (how : Work) (kind : ℕ) (h u d : Bytes) → asked (x .event) ≡ work how kind h u d → LoneNow (ButTo (Listens (connectionOf (x .event)) (server .table) h)) n left x y xs ys
-  work-calls how kind h u d q = now (lone-work a server how kind h u d q)
-
-  -- an echo: only the packet to its sender differs; nothing differs later
-  pub echo-calls : asked (x .event) ≡ echo → LoneNow (ButTo (λ l. l ≡ connectionOf (x .event))) n left x y xs ys
-  echo-calls q = now (lone-echo a server q)
+  -- any other event: only packets to those who may see its opaque bytes differ, the sender of an echo and the listeners of the job that a
+  -- worker packet names; nothing differs later
+  pub other-calls : ((c : ℕ) → ¬ Submits (x .event) c) → LoneNow (ButTo (MaySee (server .table) (x .event))) n left x y xs ys
+  other-calls z = now (lone-other a server z)

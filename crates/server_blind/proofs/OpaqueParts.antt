@@ -24,13 +24,13 @@ use Rattle.lists.specs.Lists.{filter}
 use Rattle.server.specs.Sizes.{nameSize, uniqueSize}
 use Rattle.server.specs.Table.{Table, noFunction, noJob, functionAt, jobAt, live, queued, best}
 use Rattle.server.specs.Rules.{textWithin, storedNumber, together}
-use Rattle.server.specs.Asked.{Event, Asked, connectionOf, asked}
-use Rattle.server.specs.Events.{Send, plain, copy, assign, Decision, refuse, settle, noop, dropped, toWake, hears, listenersOf}
-use Rattle.server.specs.Server.{Server, Sent, render, decided, answer}
+use Rattle.server.specs.Requests.{Event, sends, Request, requestIn}
+use Rattle.server.specs.Events.{Send, plain, copy, assign, Decision, silence, refuse, settle, noop, dropped, toWake, hears, listenersOf}
+use Rattle.server.specs.Server.{Server, Sent, render, answer}
 use Rattle.lists.proofs.Lists.{length-fit}
 use Rattle.server.specs.Refusals.{isTold}
 use Rattle.lists.proofs.Cases.{All, cond-both, all-append, all-map, all-any}
-use Rattle.server_laws.proofs.Outcome.{Change, Outcome, outcome}
+use Rattle.server_laws.proofs.Outcome.{Change, Served, Outcome, outcome}
 use Rattle.lists.proofs.Rows.{implies-use, all-at, all-row}
 use Rattle.server_laws.proofs.Going.{best-found}
 use Rattle.server_laws.proofs.Obeyed.{obeyed}
@@ -173,38 +173,47 @@ module _ (e : Event) (s : Server) (to p : ℕ) (x : Texts (s .table) p) where
 
 -- ---- every event
 
-module _ (n : ℕ) (e : Event) (s : Server) (h : Running n s) where
-  fits-grabbed : (uniq : Bool) (p : ℕ) → best (s .table) (connectionOf e) ≡ some p → All (Fits e s) (assign uniq (connectionOf e) p ∷ [])
-  fits-grabbed uniq p r =
-      let (i, g) = best-found (s .table) (connectionOf e) p r in
-      let l = and-left (live (jobAt (s .table) p .row)) _ (and-left (queued (jobAt (s .table) p .row)) _ g) in
-      All.more (fits-assigned e s (connectionOf e) p (texts n s h p i l) uniq) All.none
+module _ (n : ℕ) (s : Server) (h : Running n s) where
+  module _ (c : ℕ) (b : Bytes) where
+    abbrev e : Event
+    e = sends c b
 
-  fits-one : (kind : ℕ) (args : List Bytes) → kind < 2 ^ 32 → endsOpaque (rulesOf (responseShape kind)) ≡ false → All (Fits e s) (plain (connectionOf e) kind args ∷ [])
-  fits-one kind args k q = All.more (fits-plain e s (connectionOf e) kind args k q) All.none
+    fits-grabbed : (uniq : Bool) (p : ℕ) → best (s .table) c ≡ some p → All (Fits e s) (assign uniq c p ∷ [])
+    fits-grabbed uniq p r =
+        let (i, g) = best-found (s .table) c p r in
+        let l = and-left (live (jobAt (s .table) p .row)) _ (and-left (queued (jobAt (s .table) p .row)) _ g) in
+        All.more (fits-assigned e s c p (texts n s h p i l) uniq) All.none
 
-  fits-change : {a : Asked} {ss : List Send} {u : Table} → asked e ≡ a → Change (connectionOf e) (s .table) a ss u → All (Fits e s) ss
-  unfolding rulesOf responseShape
-  fits-change q Change.closed = All.none
-  fits-change q (Change.able f k r) = All.none
-  fits-change q (Change.unknown f r) = All.none
-  fits-change q (Change.disabled f k r) = All.none
-  fits-change q Change.cleared = All.none
-  fits-change q Change.slept = All.none
-  fits-change q (Change.noJobFor uniq r) = fits-one 10 [] (omega arith) refl
-  fits-change q (Change.grabbed uniq p r) = fits-grabbed uniq p r
-  fits-change q (Change.joins priority background f u size p r) = fits-one 8 _ (omega arith) refl
-  fits-change q (Change.accepts priority background f u size k p r₁ r₂ r₃ l) = fits-one 8 _ (omega arith) refl
-  fits-change q (Change.worker how kind j x y p r) = fits-copies e s kind (work-forwarded e how kind j x y q) (filter (hears how (s .table)) (listenersOf (s .table) (jobAt (s .table) p .row)))
-  fits-change q (Change.status j args) = fits-one 20 _ (omega arith) refl
-  fits-change q (Change.optioned name r) = fits-one 27 _ (omega arith) refl
-  fits-change q Change.echoed = All.more (fits-copy e s (connectionOf e) 17 (echo-forwarded e q)) All.none
+    fits-one : (kind : ℕ) (args : List Bytes) → kind < 2 ^ 32 → endsOpaque (rulesOf (responseShape kind)) ≡ false → All (Fits e s) (plain c kind args ∷ [])
+    fits-one kind args k q = All.more (fits-plain e s c kind args k q) All.none
 
-  fits-outcome : {a : Asked} {d : Decision} → asked e ≡ a → Outcome (connectionOf e) (s .table) a d → All (Fits e s) (d .packets)
-  fits-outcome q (Outcome.refused a m) = fits-refused e s (connectionOf e) m (s .table)
-  fits-outcome q (Outcome.opened a i l o) = fits-settled e s [] _ All.none
-  fits-outcome q (Outcome.done a ss u l o m) = fits-settled e s ss u (fits-change q m)
+    fits-change : {a : Request} {ss : List Send} {u : Table} → requestIn b ≡ a → Change c (s .table) a ss u → All (Fits e s) ss
+    unfolding rulesOf responseShape
+    fits-change q (Change.able f k r) = All.none
+    fits-change q (Change.unknown f r) = All.none
+    fits-change q (Change.disabled f k r) = All.none
+    fits-change q Change.cleared = All.none
+    fits-change q Change.slept = All.none
+    fits-change q (Change.noJobFor uniq r) = fits-one 10 [] (omega arith) refl
+    fits-change q (Change.grabbed uniq p r) = fits-grabbed uniq p r
+    fits-change q (Change.joins priority background f u size p r) = fits-one 8 _ (omega arith) refl
+    fits-change q (Change.accepts priority background f u size k p r₁ r₂ r₃ l) = fits-one 8 _ (omega arith) refl
+    fits-change q (Change.worker how kind j x y p r) = fits-copies e s kind (work-forwarded c b how kind j x y q) (filter (hears how (s .table)) (listenersOf (s .table) (jobAt (s .table) p .row)))
+    fits-change q (Change.status j o r) = fits-one 20 _ (omega arith) refl
+    fits-change q (Change.optioned name r) = fits-one 27 _ (omega arith) refl
+    fits-change q Change.echoed = All.more (fits-copy e s c 17 (echo-forwarded c b q)) All.none
 
-  pub sent-apt : All Apt (answer e s .sent)
-  unfolding answer decided
-  sent-apt = all-map (render e s) (λ x f. f) (fits-outcome refl (outcome (connectionOf e) (asked e) (s .table)))
+    fits-served : {a : Request} {d : Decision} → requestIn b ≡ a → Served c (s .table) a d → All (Fits e s) (d .packets)
+    fits-served q (Served.refused a m r) = fits-refused e s c m (s .table)
+    fits-served q (Served.done a ss u m) = fits-settled e s ss u (fits-change q m)
+
+  fits-outcome : (e : Event) {d : Decision} → Outcome (s .table) e d → All (Fits e s) (d .packets)
+  unfolding silence
+  fits-outcome e (Outcome.silenced f m r) = All.none
+  fits-outcome e (Outcome.opened c o) = fits-settled e s [] _ All.none
+  fits-outcome e (Outcome.closed c o) = fits-settled e s [] _ All.none
+  fits-outcome e (Outcome.serves c b d o r) = fits-served c b refl r
+
+pub sent-apt : (n : ℕ) (e : Event) (s : Server) → Running n s → All Apt (answer e s .sent)
+unfolding answer
+sent-apt n e s h = all-map (render e s) (λ x f. f) (fits-outcome n s h e (outcome e s))

@@ -15,7 +15,7 @@ use Rattle.server.specs.Server.{Sent}
 use Rattle.server.specs.Call.{Result, sentBytes}
 use Rattle.lists.proofs.Cases.{All, All2}
 use Rattle.lists.proofs.Rows.{clash}
-use Rattle.server_calls.specs.History.{Request}
+use Rattle.server_calls.specs.History.{Call}
 use Rattle.server_blind.proofs.Alike.{Like, like-before}
 use Rattle.server_blind.proofs.OpaqueParts.{packetOf, Apt}
 
@@ -101,7 +101,7 @@ bytes-same (All2.more {a = p} {b = q} {xs = ps} {ys = qs} a rest) i e =
 
 -- two calls with the same number, the same length and the same table after them. Each output begins with its packets, whole, and is
 -- unchanged beyond them; the packets differ in opaque bytes alone, and R says more of them
-pub record Match (R : Sent → Sent → Type 0) (x y : Request) (r q : Result) : Type 0 where
+pub record Match (R : Sent → Sent → Type 0) (x y : Call) (r q : Result) : Type 0 where
   pub number : r .number ≡ q .number
   pub length′ : r .length′ ≡ q .length′
   pub table : r .table ≡ q .table
@@ -114,11 +114,11 @@ pub record Match (R : Sent → Sent → Type 0) (x y : Request) (r q : Result) :
   pub related : All2 R first second
 
 -- so it is of each two calls of two histories
-pub data Both (M : Request → Request → Result → Result → Type 0) : List Request → List Request → List Result → List Result → Type 0 where
+pub data Both (M : Call → Call → Result → Result → Type 0) : List Call → List Call → List Result → List Result → Type 0 where
   none : Both M [] [] [] []
-  more : {x y : Request} {r q : Result} {xs ys : List Request} {rs qs : List Result} → M x y r q → Both M xs ys rs qs → Both M (x ∷ xs) (y ∷ ys) (r ∷ rs) (q ∷ qs)
+  more : {x y : Call} {r q : Result} {xs ys : List Call} {rs qs : List Result} → M x y r q → Both M xs ys rs qs → Both M (x ∷ xs) (y ∷ ys) (r ∷ rs) (q ∷ qs)
 
-module _ {R : Sent → Sent → Type 0} {x y : Request} {r q : Result} (m : Match R x y r q) where
+module _ {R : Sent → Sent → Type 0} {x y : Call} {r q : Result} (m : Match R x y r q) where
   -- a written byte outside the opaque parts is equal
   pub written-same : (i : ℕ) → getD (covered (m .first)) i true ≡ false → getD (r .output) i 0 ≡ getD (q .output) i 0
   written-same i e =

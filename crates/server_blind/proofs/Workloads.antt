@@ -15,12 +15,12 @@ use Rattle.packet.specs.Arguments.{join}
 use Rattle.lists.specs.Lists.{fit}
 use Rattle.server.specs.Sizes.{workloadSize}
 use Rattle.server.specs.Table.{Job, Table, noJob, jobAt}
-use Rattle.server.specs.Asked.{Event, Asked}
+use Rattle.server.specs.Requests.{Event}
 use Rattle.server.specs.Events.{Send, plain, copy, assign, Decision}
 use Rattle.server.specs.Server.{Server, Sent, Answer, opaqueOf, assignment, render, reworked, rework, decided, next, answer, answers}
 use Rattle.lists.proofs.Cases.{All2}
-use Rattle.server_laws.proofs.Serials.{Follows, kept, ended, began, Moves, stays, makes, moved}
-use Rattle.server_blind.proofs.Alike.{alike-same, Like, like-render}
+use Rattle.server_laws.proofs.Serials.{Follows, kept, ended, began, Moves, keeps, adds, moved}
+use Rattle.server_blind.proofs.Alike.{alike-same, Like, decided-alike, like-render}
 
 -- ---- workloads
 
@@ -96,6 +96,9 @@ pub record AgreeBut (k : ℕ) (a b : Answer) : Type 0 where
   pub sent : All2 (ButAssigned k) (a .sent) (b .sent)
 
 module _ (k : ℕ) (e : Event) (s r : Server) (a : Apart k s r) where
+  decided-both : decided e s ≡ decided e r
+  decided-both = decided-alike (alike-same e) s r (a .table)
+
   render-but : (x : Send) → ButAssigned k (render e s x) (render e r x)
   unfolding render join
   render-but (plain to kind as′) = ButAssigned.equal refl
@@ -112,20 +115,20 @@ module _ (k : ℕ) (e : Event) (s r : Server) (a : Apart k s r) where
   pub answer-but : AgreeBut k (answer e s) (answer e r)
   unfolding answer
   answer-but = record {
-    number = ap (λ (t : Table). decided e t .number) (a .table);
-    sent = rw (← (ap (decided e) (a .table))) (renders-but (decided e (s .table) .packets));
+    number = ap (λ (d : Decision). d .number) decided-both;
+    sent = rw (← decided-both) (renders-but (decided e s .packets));
   }
 
-  near-moved : {c : ℕ} {q : Asked} {d : Decision} (x : Bytes) → Moves c q (s .table) d
+  near-moved : {d : Decision} (x : Bytes) → Moves e (s .table) d
       → Near k (d .table .jobs) (rework (s .table .jobs) (d .table .jobs) x (s .workloads)) (rework (s .table .jobs) (d .table .jobs) x (r .workloads))
-  near-moved x (stays m) = rework-near x x (Harmless.equal refl) (m .jobs) (a .workloads)
-  near-moved x (makes i m) = rework-near x x (Harmless.equal refl) (m .jobs) (a .workloads)
+  near-moved x (keeps m) = rework-near x x (Harmless.equal refl) (m .jobs) (a .workloads)
+  near-moved x (adds c i m) = rework-near x x (Harmless.equal refl) (m .jobs) (a .workloads)
 
   pub next-apart : Apart k (next e s) (next e r)
   unfolding next
   next-apart = record {
-    table = ap (λ (t : Table). decided e t .table) (a .table);
-    workloads = rw (← (a .table)) (near-moved (opaqueOf e) (moved e (s .table)));
+    table = ap (λ (d : Decision). d .table) decided-both;
+    workloads = rw (← decided-both, ← (a .table)) (near-moved (opaqueOf e) (moved e s));
   }
 
 -- all that follows

@@ -12,7 +12,7 @@ use Rattle.octets.specs.Put.{over, put}
 use Rattle.octets.proofs.Laying.{length-put}
 use Rattle.lists.specs.Lists.{concat}
 use Rattle.server.specs.Sizes.{workloadsSize, outputSize}
-use Rattle.server.specs.Asked.{Event}
+use Rattle.server.specs.Requests.{Event}
 use Rattle.server.specs.Server.{Server, next, answer}
 use Rattle.server.specs.Layout.{tableSize, tableOf, bytesOf}
 use Rattle.server.specs.Call.{Result, serverIn, tooShort, isSound, sentBytes, refusedBy, performed, call}

@@ -14,7 +14,7 @@ use Rattle.lists.specs.Lists.{concat}
 use Rattle.server.specs.Sizes.{workloadsSize, outputSize}
 use Rattle.server.specs.Table.{Table}
 use Rattle.server.specs.Rules.{obeys}
-use Rattle.server.specs.Asked.{Event}
+use Rattle.server.specs.Requests.{Event}
 use Rattle.server.specs.Server.{Server, next, answer}
 use Rattle.server.specs.Layout.{tableSize, bytesOf}
 use Rattle.server.specs.Call.{Result, serverIn, tooShort, isSound, sentBytes, performed, call}
@@ -40,7 +40,7 @@ pub record Running (n : ℕ) (s : Server) : Type 0 where
 
 pub running-next : (n : ℕ) (e : Event) (s : Server) → Running n s → Running n (next e s)
 unfolding next
-running-next n e s h = record { shaped = shaped-kept n e s (h .shaped); rules = obeys-kept e (s .table) (h .rules) }
+running-next n e s h = record { shaped = shaped-kept n e s (h .shaped); rules = obeys-kept e s (h .rules) }
 
 module _ (n : ℕ) (few : n ≤ 256) where
   pub fitting : (s : Server) → Running n s → Fitting (s .table)

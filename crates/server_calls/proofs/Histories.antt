@@ -12,13 +12,13 @@ use Rattle.octets.proofs.Laying.{put-start}
 use Rattle.lists.specs.Lists.{concat}
 use Rattle.server.specs.Sizes.{connectionCount, workloadsSize, outputSize}
 use Rattle.server.specs.Table.{fresh}
-use Rattle.server.specs.Asked.{Event}
+use Rattle.server.specs.Requests.{Event}
 use Rattle.server.specs.Server.{Server, next, answer, start, after, answers}
 use Rattle.server.specs.Layout.{tableSize, bytesOf}
 use Rattle.server.specs.Call.{Result, Made, sentBytes, performed, call, make}
 use Rattle.lists.proofs.Cases.{All}
 use Rattle.server_laws.proofs.Kept.{obeys-after, shaped-after}
-use Rattle.server_calls.specs.History.{Request, events, calls, leaves, Says, Writes, Each}
+use Rattle.server_calls.specs.History.{Call, events, calls, leaves, Says, Writes, Each}
 use Rattle.server_calls.proofs.Workloads.{concat-zeros}
 use Rattle.server_calls.proofs.Refusals.{never-one}
 use Rattle.server_calls.proofs.Output.{output-fits}
@@ -53,11 +53,11 @@ make-start n t w lt lw =
 -- ---- histories
 
 -- every output is long enough
-abbrev pub LongOutputs : ℕ → List Request → Type 0
-LongOutputs n xs = All (λ (x : Request). outputSize n ≤ length (x .output)) xs
+abbrev pub LongOutputs : ℕ → List Call → Type 0
+LongOutputs n xs = All (λ (x : Call). outputSize n ≤ length (x .output)) xs
 
 -- calls on buffers that hold the server s
-pub record Follow (n : ℕ) (s : Server) (xs : List Request) (t w : Bytes) : Type 0 where
+pub record Follow (n : ℕ) (s : Server) (xs : List Call) (t w : Bytes) : Type 0 where
   pub says : Each Says xs (answers s (events xs)) (calls n xs (tableWith s t) (workloadsWith s w))
   pub table : leaves n xs (tableWith s t) (workloadsWith s w) .table ≡ tableWith (after s (events xs)) t
   pub workloads : leaves n xs (tableWith s t) (workloadsWith s w) .workloads ≡ workloadsWith (after s (events xs)) w
@@ -67,7 +67,7 @@ unfolding performed
 performed-says e s t w o = record { number = refl; length′ = refl; output = refl }
 
 module _ (n : ℕ) (few : n ≤ 256) (t w : Bytes) (longTable : tableSize n ≤ length t) (longWorkloads : workloadsSize ≤ length w) where
-  more-calls : (x : Request) (xs : List Request) (s : Server) → call n (x .event) (tableWith s t) (workloadsWith s w) (x .output) ≡ performed (x .event) s t w (x .output)
+  more-calls : (x : Call) (xs : List Call) (s : Server) → call n (x .event) (tableWith s t) (workloadsWith s w) (x .output) ≡ performed (x .event) s t w (x .output)
       → Follow n (next (x .event) s) xs t w → Follow n s (x ∷ xs) t w
   unfolding calls leaves answers after performed
   more-calls x xs s f h =
@@ -77,7 +77,7 @@ module _ (n : ℕ) (few : n ≤ 256) (t w : Bytes) (longTable : tableSize n ≤ 
         workloads = ap (λ (r : Result). leaves n xs (r .table) (r .workloads) .workloads) f ∙ h .workloads;
       }
 
-  pub calls-follow : (xs : List Request) (s : Server) → Running n s → LongOutputs n xs → Follow n s xs t w
+  pub calls-follow : (xs : List Call) (s : Server) → Running n s → LongOutputs n xs → Follow n s xs t w
   unfolding calls leaves answers after
   calls-follow [] s h All.none = record { says = Each.none; table = refl; workloads = refl }
   calls-follow (x ∷ xs) s h (All.more l ls) =
@@ -85,20 +85,20 @@ module _ (n : ℕ) (few : n ≤ 256) (t w : Bytes) (longTable : tableSize n ≤ 
 
 -- ---- no call answers 1
 
-none-one : (xs : List Request) (s : Server) {rs : List Result} → Each Says xs (answers s (events xs)) rs → All (λ (r : Result). ¬ (r .number ≡ 1)) rs
+none-one : (xs : List Call) (s : Server) {rs : List Result} → Each Says xs (answers s (events xs)) rs → All (λ (r : Result). ¬ (r .number ≡ 1)) rs
 unfolding answers
 none-one [] s Each.none = All.none
 none-one (x ∷ xs) s (Each.more a as′) = All.more (λ q. never-one (x .event) s (sym (a .number) ∙ q)) (none-one xs (next (x .event) s) as′)
 
 -- ---- every output holds its packets whole
 
-writes : (n : ℕ) → n ≤ 256 → (x : Request) (s : Server) (r : Result) → Running n s → outputSize n ≤ length (x .output) → Says x (answer (x .event) s) r → Writes x (answer (x .event) s) r
+writes : (n : ℕ) → n ≤ 256 → (x : Call) (s : Server) (r : Result) → Running n s → outputSize n ≤ length (x .output) → Says x (answer (x .event) s) r → Writes x (answer (x .event) s) r
 writes n few x s r h l a =
     let f = output-fits n few (x .event) s h in
     let p = sentBytes (answer (x .event) s .sent) in
     record { fits = omega (arith, a .length′); output = a .output ∙ rw (a .length′) (put-start p (x .output) (omega arith)) }
 
-all-write : (n : ℕ) → n ≤ 256 → (xs : List Request) (s : Server) {rs : List Result} → Running n s → LongOutputs n xs → Each Says xs (answers s (events xs)) rs → Each Writes xs (answers s (events xs)) rs
+all-write : (n : ℕ) → n ≤ 256 → (xs : List Call) (s : Server) {rs : List Result} → Running n s → LongOutputs n xs → Each Says xs (answers s (events xs)) rs → Each Writes xs (answers s (events xs)) rs
 unfolding answers
 all-write n few [] s h All.none Each.none = Each.none
 all-write n few (x ∷ xs) s h (All.more l ls) (Each.more a as′) =
@@ -107,14 +107,14 @@ all-write n few (x ∷ xs) s h (All.more l ls) (Each.more a as′) =
 -- ---- from a fresh table
 
 -- what is made of the buffers t and w, and the calls on it
-pub record History (n : ℕ) (t w : Bytes) (xs : List Request) : Type 0 where
+pub record History (n : ℕ) (t w : Bytes) (xs : List Call) : Type 0 where
   pub made : make n t w .number ≡ 0
   pub says : Each Says xs (answers (start n) (events xs)) (calls n xs (make n t w .table) (make n t w .workloads))
   pub neverOne : All (λ (r : Result). ¬ (r .number ≡ 1)) (calls n xs (make n t w .table) (make n t w .workloads))
   pub table : leaves n xs (make n t w .table) (make n t w .workloads) .table ≡ tableWith (after (start n) (events xs)) t
   pub workloads : leaves n xs (make n t w .table) (make n t w .workloads) .workloads ≡ workloadsWith (after (start n) (events xs)) w
 
-module _ (n : ℕ) (t w : Bytes) (longTable : tableSize n ≤ length t) (longWorkloads : workloadsSize ≤ length w) (xs : List Request) (long : LongOutputs n xs) where
+module _ (n : ℕ) (t w : Bytes) (longTable : tableSize n ≤ length t) (longWorkloads : workloadsSize ≤ length w) (xs : List Call) (long : LongOutputs n xs) where
   pub history : n ≤ 256 → History n t w xs
   history few =
       let h = calls-follow n few t w longTable longWorkloads xs (start n) (running-start n) long in
@@ -143,5 +143,5 @@ module _ (n : ℕ) (t w : Bytes) (longTable : tableSize n ≤ length t) (longWor
       ap (drop workloadsSize) (history few .workloads) ∙ drop-put workloadsSize (concat (s .workloads)) w (omega (arith, length-workloads n few s (running-after n (events xs))))
 
 -- 16 connections: a table of 3,796 bytes and workloads of 32,768
-pub sixteen-history : (t w : Bytes) → tableSize connectionCount ≤ length t → workloadsSize ≤ length w → (xs : List Request) → LongOutputs connectionCount xs → History connectionCount t w xs
+pub sixteen-history : (t w : Bytes) → tableSize connectionCount ≤ length t → workloadsSize ≤ length w → (xs : List Call) → LongOutputs connectionCount xs → History connectionCount t w xs
 sixteen-history t w lt lw xs l = history connectionCount t w lt lw xs l (omega arith)

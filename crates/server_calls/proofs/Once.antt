@@ -3,7 +3,7 @@
 use Prim.Native.Nat.{ℕ}
 use mathlib.Core.Path.{_≡_, sym, ap, _∙_}
 use Rattle.octets.specs.Bytes.{Bytes}
-use Rattle.server.specs.Asked.{Event}
+use Rattle.server.specs.Requests.{Event}
 use Rattle.server.specs.Call.{Result, Made, call, make}
 
 pub record Same (r q : Result) : Type 0 where

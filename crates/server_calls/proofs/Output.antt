@@ -18,16 +18,16 @@ use Rattle.packet.specs.Arguments.{join}
 use Rattle.sets.specs.Sets.{has, members}
 use Rattle.lists.specs.Lists.{find, filter, numbers}
 use Rattle.server.specs.Sizes.{outputSize}
-use Rattle.server.specs.Table.{Table, noJob, connectionAt, functionAt, jobAt, setJob, hasHandle}
+use Rattle.server.specs.Table.{Table, noJob, connectionAt, functionAt, jobAt, rowsOf, ablesOf, setJob, hasHandle}
 use Rattle.server.specs.Rules.{together}
 use Rattle.server.specs.Refusals.{refusalTexts, isTold}
-use Rattle.server.specs.Asked.{Event, Work, Asked, echo, work, getStatus, connectionOf, asked}
-use Rattle.server.specs.Events.{Send, plain, copy, assign, Decision, refuse, settle, dropped, wakes, toWake, noop, created, exceptionsName, flag, hears, listenersOf, worked, statusAt, served, admitted, decide}
+use Rattle.server.specs.Requests.{Event, sends, Work, Request, echo, work, getStatus, requestIn}
+use Rattle.server.specs.Events.{Send, plain, copy, assign, Decision, refuse, settle, dropped, wakes, toWake, noop, created, exceptionsName, flag, hears, listenersOf, worked, statusAt, silence, toWakeIn}
 use Rattle.server.specs.Server.{Server, shownBy, opaqueOf, render, decided, answer}
 use Rattle.server.specs.Call.{sentBytes}
 use Rattle.lists.proofs.Lists.{length-numbers, length-fit}
 use Rattle.lists.proofs.Cases.{cond-both}
-use Rattle.server_laws.proofs.Outcome.{Change, Outcome, outcome}
+use Rattle.server_laws.proofs.Outcome.{Change, Served, Outcome, outcome}
 use Rattle.lists.proofs.Searches.{found}
 use Rattle.lists.proofs.Rows.{all-at}
 use Rattle.server_laws.proofs.Lengths.{long-settle, long-decided}
@@ -55,8 +55,8 @@ length-members (suc n) s =
     (omega (arith, length-append (members n s) (n ∷ []))) (omega (arith, length-append (members n s) []))
 
 pub wake-most : (t : Table) → length (toWake t) ≤ length (t .connections)
-unfolding toWake
-wake-most t = omega (arith, length-filter (λ c. wakes (t .functions) (t .jobs) c (connectionAt t c)) (numbers 0 (length (t .connections))), length-numbers 0 (length (t .connections)))
+unfolding toWakeIn
+wake-most t = omega (arith, length-filter (λ c. wakes (ablesOf t) (rowsOf t) c (connectionAt t c)) (numbers 0 (length (t .connections))), length-numbers 0 (length (t .connections)))
 
 -- ---- how long each is
 
@@ -123,44 +123,44 @@ module _ (e : Event) (s : Server) where
       let l = short-at 9 refusalTexts n refl in
       cond-both (λ (ss : List Send). weighs e s ss ≤ 25) (isTold n) (rw (plain-weight c 19 _) (omega arith)) (rw (weigh-none e s) (omega arith))
 
--- ---- every event
+-- ---- each kind of answer
 
 module _ (n : ℕ) (few : n ≤ 256) (e : Event) (s : Server) (h : Running n s) where
   -- the end of an event adds at most one NOOP for each connection
-  settled-weight : (ss : List Send) (u : Table) → decided e (s .table) ≡ settle ss u → weighs e s ss ≤ 1063 → weighs e s (settle ss u .packets) ≤ outputSize n
+  settled-weight : (ss : List Send) (u : Table) → decided e s ≡ settle ss u → weighs e s ss ≤ 1063 → weighs e s (settle ss u .packets) ≤ outputSize n
   unfolding settle dropped
   settled-weight ss u q l =
       let a = long-settle ss u .connections in
-      let b = long-decided e (s .table) .connections in
+      let b = long-decided e s .connections in
       let c = ap (λ (d : Decision). length (d .table .connections)) q in
       let m = wake-most (dropped u) in
       let k = h .shaped .connections in
       rw (weigh-append e s ss (map noop (toWake (dropped u))), weigh-noops e s (toWake (dropped u))) (omega arith)
 
-  silent-weight : (u : Table) → decided e (s .table) ≡ settle [] u → weighs e s (settle [] u .packets) ≤ outputSize n
+  silent-weight : (u : Table) → decided e s ≡ settle [] u → weighs e s (settle [] u .packets) ≤ outputSize n
   silent-weight u q = settled-weight [] u q (rw (weigh-none e s) (omega arith))
 
-  one-weight : (x : Send) (u : Table) → decided e (s .table) ≡ settle (x ∷ []) u → weighs e s (x ∷ []) ≤ 1063 → weighs e s (settle (x ∷ []) u .packets) ≤ outputSize n
+  one-weight : (x : Send) (u : Table) → decided e s ≡ settle (x ∷ []) u → weighs e s (x ∷ []) ≤ 1063 → weighs e s (settle (x ∷ []) u .packets) ≤ outputSize n
   one-weight x u q l = settled-weight (x ∷ []) u q (omega arith)
 
   job-together : (p : ℕ) → p < length (s .table .jobs) → together (s .table) (jobAt (s .table) p) ≤ 1022
   job-together p i = leb-true _ 1022 (all-at (λ j. leb (together (s .table) j) 1022) (s .table .jobs) p noJob (obeyed (s .table) (h .rules) .sound .sizes) i)
 
   -- a worker packet: at most one copy for each connection, and no NOOP
-  worker-weight : (how : Work) (kind : ℕ) (j x y : Bytes) (p : ℕ) → asked e ≡ work how kind j x y
+  worker-weight : (how : Work) (kind : ℕ) (x y : Bytes) (p : ℕ) → length (shownBy e) + length (opaqueOf e) ≤ 1024
       → weighs e s (settle (map (λ l. copy l kind) (filter (hears how (s .table)) (listenersOf (s .table) (jobAt (s .table) p .row)))) (setJob (s .table) p (worked how x y (jobAt (s .table) p))) .packets) ≤ outputSize n
   unfolding settle
-  worker-weight how kind j x y p q =
+  worker-weight how kind x y p q =
       let t = s .table in
       let ls = listenersOf t (jobAt t p .row) in
       let a = length-filter (hears how t) ls in
       let b = length-members (length (t .connections)) (jobAt t p .row .listeners) in
-      let c = copies-weight e s kind (filter (hears how t) ls) (data-short e (work how kind j x y) q refl) in
+      let c = copies-weight e s kind (filter (hears how t) ls) q in
       let k = h .shaped .connections in
       rw (worker-wakes-nobody t p how x y (obeyed t (h .rules) .idle), weigh-append e s (map (λ l. copy l kind) (filter (hears how t) ls)) [], weigh-none e s) (omega arith)
 
   status-at-weight : (c : ℕ) (j : Bytes) (o : Option ℕ) → find (λ k. hasHandle j (k .row)) (s .table .jobs) ≡ o → length j ≤ 1024
-      → decided e (s .table) ≡ statusAt o c j (s .table) → weighs e s (statusAt o c j (s .table) .packets) ≤ outputSize n
+      → decided e s ≡ statusAt o c j (s .table) → weighs e s (statusAt o c j (s .table) .packets) ≤ outputSize n
   unfolding statusAt
   status-at-weight c j none f l q = one-weight _ (s .table) q (status-weight e s c j false false (flag false) (flag false) l (omega arith) (omega arith))
   status-at-weight c j (some p) f l q =
@@ -169,39 +169,35 @@ module _ (n : ℕ) (few : n ≤ 256) (e : Event) (s : Server) (h : Running n s) 
       let g = fitting n (omega arith) s h .jobs p (omega (arith, h .shaped .jobs)) in
       one-weight _ t q (status-weight e s c j true (not (eqb (jobAt t p .row .holder) 0)) (jobAt t p .numerator) (jobAt t p .denominator) l (g .numerator .within) (g .denominator .within))
 
-  -- asking for a status is refused, or answered with a status
-  admitted-status : (b o : Bool) (c : ℕ) (j : Bytes) → length j ≤ 1024 → decided e (s .table) ≡ admitted b o c (getStatus j) (s .table)
-      → weighs e s (admitted b o c (getStatus j) (s .table) .packets) ≤ outputSize n
-  unfolding admitted served
-  admitted-status false o c j l q = omega (arith, refusal-weight e s c 2 (s .table))
-  admitted-status true false c j l q = omega (arith, refusal-weight e s c 3 (s .table))
-  admitted-status true true c j l q = status-at-weight c j _ refl l q
+-- ---- every event
 
-  status-event : (j : Bytes) → asked e ≡ getStatus j → weighs e s (decided e (s .table) .packets) ≤ outputSize n
-  unfolding decided decide
-  status-event j q =
-      let d : decided e (s .table) ≡ decide (connectionOf e) (getStatus j) (s .table) = ap (λ (a : Asked). decide (connectionOf e) a (s .table)) q in
-      rw d (admitted-status _ _ (connectionOf e) j (handle-short e j q) d)
+module _ (n : ℕ) (few : n ≤ 256) (s : Server) (h : Running n s) where
+  served-weight : (c : ℕ) (b : Bytes) {a : Request} {d : Decision} → requestIn b ≡ a → decided (sends c b) s ≡ d → Served c (s .table) a d
+      → weighs (sends c b) s (d .packets) ≤ outputSize n
+  unfolding join statusAt
+  served-weight c b p q (Served.refused a m r) = omega (arith, refusal-weight (sends c b) s c m (s .table))
+  served-weight c b p q (Served.done a ss u (Change.able f k r)) = silent-weight n few (sends c b) s h _ q
+  served-weight c b p q (Served.done a ss u (Change.unknown f r)) = silent-weight n few (sends c b) s h _ q
+  served-weight c b p q (Served.done a ss u (Change.disabled f k r)) = silent-weight n few (sends c b) s h _ q
+  served-weight c b p q (Served.done a ss u Change.cleared) = silent-weight n few (sends c b) s h _ q
+  served-weight c b p q (Served.done a ss u Change.slept) = silent-weight n few (sends c b) s h _ q
+  served-weight c b p q (Served.done a ss u (Change.noJobFor uniq r)) = one-weight n few (sends c b) s h _ _ q (rw (plain-weight (sends c b) s c 10 []) (omega arith))
+  served-weight c b p q (Served.done a ss u (Change.grabbed uniq k r)) =
+      one-weight n few (sends c b) s h _ _ q (omega (arith, assign-weight (sends c b) s uniq c k (job-together n few (sends c b) s h k (best-found (s .table) c k r .0))))
+  served-weight c b p q (Served.done a ss u (Change.joins priority background f v size k r)) = one-weight n few (sends c b) s h _ _ q (created-weight (sends c b) s c _)
+  served-weight c b p q (Served.done a ss u (Change.accepts priority background f v size k m r₁ r₂ r₃ i)) = one-weight n few (sends c b) s h _ _ q (created-weight (sends c b) s c _)
+  served-weight c b p q (Served.done a ss u (Change.worker how kind j x y k r)) = worker-weight n few (sends c b) s h how kind x y k (data-short c b (work how kind j x y) p refl)
+  served-weight c b p q (Served.done a ss u (Change.status j o r)) = status-at-weight n few (sends c b) s h c j o r (handle-short b j p) q
+  served-weight c b p q (Served.done a ss u (Change.optioned name r)) = one-weight n few (sends c b) s h _ _ q (option-weight (sends c b) s c name r)
+  served-weight c b p q (Served.done a ss u Change.echoed) = one-weight n few (sends c b) s h _ _ q (omega (arith, copies-weight (sends c b) s 17 (c ∷ []) (data-short c b echo p refl)))
 
-  event-weight : {a : Asked} {d : Decision} → asked e ≡ a → decided e (s .table) ≡ d → Outcome (connectionOf e) (s .table) a d → weighs e s (decided e (s .table) .packets) ≤ outputSize n
-  unfolding join
-  event-weight p q (Outcome.refused a m) = rw q (omega (arith, refusal-weight e s (connectionOf e) m (s .table)))
-  event-weight p q (Outcome.opened a i l o) = rw q (silent-weight _ q)
-  event-weight p q (Outcome.done a ss u l o Change.closed) = rw q (silent-weight _ q)
-  event-weight p q (Outcome.done a ss u l o (Change.able f k r)) = rw q (silent-weight _ q)
-  event-weight p q (Outcome.done a ss u l o (Change.unknown f r)) = rw q (silent-weight _ q)
-  event-weight p q (Outcome.done a ss u l o (Change.disabled f k r)) = rw q (silent-weight _ q)
-  event-weight p q (Outcome.done a ss u l o Change.cleared) = rw q (silent-weight _ q)
-  event-weight p q (Outcome.done a ss u l o Change.slept) = rw q (silent-weight _ q)
-  event-weight p q (Outcome.done a ss u l o (Change.noJobFor uniq r)) = rw q (one-weight _ _ q (rw (plain-weight e s (connectionOf e) 10 []) (omega arith)))
-  event-weight p q (Outcome.done a ss u l o (Change.grabbed uniq k r)) = rw q (one-weight _ _ q (omega (arith, assign-weight e s uniq (connectionOf e) k (job-together k (best-found (s .table) (connectionOf e) k r .0)))))
-  event-weight p q (Outcome.done a ss u l o (Change.joins priority background f v size k r)) = rw q (one-weight _ _ q (created-weight e s (connectionOf e) _))
-  event-weight p q (Outcome.done a ss u l o (Change.accepts priority background f v size k m r₁ r₂ r₃ i)) = rw q (one-weight _ _ q (created-weight e s (connectionOf e) _))
-  event-weight p q (Outcome.done a ss u l o (Change.worker how kind j x y k r)) = rw q (worker-weight how kind j x y k p)
-  event-weight p q (Outcome.done a ss u l o (Change.status j args)) = status-event j p
-  event-weight p q (Outcome.done a ss u l o (Change.optioned name r)) = rw q (one-weight _ _ q (option-weight e s (connectionOf e) name r))
-  event-weight p q (Outcome.done a ss u l o Change.echoed) = rw q (one-weight _ _ q (omega (arith, copies-weight e s 17 (connectionOf e ∷ []) (data-short e echo p refl))))
+  event-weight : (e : Event) {d : Decision} → decided e s ≡ d → Outcome (s .table) e d → weighs e s (d .packets) ≤ outputSize n
+  unfolding silence
+  event-weight e q (Outcome.silenced f m r) = rw (weigh-none e s) (omega arith)
+  event-weight e q (Outcome.opened c o) = silent-weight n few e s h _ q
+  event-weight e q (Outcome.closed c o) = silent-weight n few e s h _ q
+  event-weight e q (Outcome.serves c b d o r) = served-weight c b refl q r
 
-  pub output-fits : length (sentBytes (answer e s .sent)) ≤ outputSize n
-  unfolding answer decided weighs
-  output-fits = event-weight refl refl (outcome (connectionOf e) (asked e) (s .table))
+pub output-fits : (n : ℕ) → n ≤ 256 → (e : Event) (s : Server) → Running n s → length (sentBytes (answer e s .sent)) ≤ outputSize n
+unfolding answer weighs
+output-fits n few e s h = event-weight n few s h e refl (outcome e s)

@@ -18,7 +18,7 @@ use Rattle.packet.specs.Opaque.{past, hides, seen, visible, opaque, masked}
 use Rattle.packet_laws.proofs.Packets.{Headed, header-good, Got, read-got}
 use Rattle.packet_laws.proofs.Splitting.{split-join}
 use Rattle.packet_laws.proofs.Blindness.{visible-opaque}
-use Rattle.server.specs.Asked.{Event, opens, closes, sends, Asked, toOpen, toClose, reset, preSleep, echo, bad, canDo, cantDo, grab, submit, work, getStatus, option, requested, fromReading, asked}
+use Rattle.server.specs.Requests.{Event, sends, Request, reset, preSleep, echo, bad, canDo, cantDo, grab, submit, work, getStatus, option, requested, fromReading, requestIn}
 use Rattle.server.specs.Events.{Send, noop}
 use Rattle.server.specs.Server.{Server, Sent, addressed, shownBy, opaqueOf, render}
 use Rattle.server.specs.Call.{sentBytes}
@@ -81,10 +81,8 @@ read-short s kind args e =
     let h : Headed (requests .magic) 1024 s = header-good (requests .magic) 1024 s (g .headed) in
     (h .long, omega (arith, h .whole, h .limited))
 
-abbrev pub isBad : Asked → Bool
+abbrev pub isBad : Request → Bool
 isBad (bad n) = true
-isBad toOpen = false
-isBad toClose = false
 isBad reset = false
 isBad preSleep = false
 isBad echo = false
@@ -106,11 +104,9 @@ sends-short c b (got kind args) e h =
     let a : length (visible requests b) + length (opaque requests b) ≡ length b = sym (length-append (visible requests b) (opaque requests b)) ∙ ap length (visible-opaque requests b) in
     omega (arith, l .1, length-drop 12 (visible requests b))
 
-pub data-short : (e : Event) (a : Asked) → asked e ≡ a → isBad a ≡ false → length (shownBy e) + length (opaqueOf e) ≤ 1024
-unfolding asked shownBy opaqueOf
-data-short (opens c) a q h = omega arith
-data-short (closes c) a q h = omega arith
-data-short (sends c b) a q h = sends-short c b (read requests (masked requests b)) refl (rw q h)
+pub data-short : (c : ℕ) (b : Bytes) (a : Request) → requestIn b ≡ a → isBad a ≡ false → length (shownBy (sends c b)) + length (opaqueOf (sends c b)) ≤ 1024
+unfolding requestIn
+data-short c b a q h = sends-short c b (read requests (masked requests b)) refl (rw q h)
 
 -- ---- the handle of which a status is asked
 
@@ -120,11 +116,9 @@ join-first [] = omega arith
 join-first (a ∷ []) = omega arith
 join-first (a ∷ (b ∷ bs)) = omega (arith, length-append a (0 ∷ join (b ∷ bs)))
 
-abbrev handleWithin : Asked → Bool
+abbrev handleWithin : Request → Bool
 handleWithin (getStatus h) = leb (length h) 1024
 handleWithin (bad n) = true
-handleWithin toOpen = true
-handleWithin toClose = true
 handleWithin reset = true
 handleWithin preSleep = true
 handleWithin echo = true
@@ -152,11 +146,8 @@ reading-within s (got kind args) e =
     let l = read-short s kind args e in
     requested-within kind (getD args 0 []) _ _ (le-leb (length (getD args 0 [])) 1024 (omega (arith, l .1, join-first args, ap length (j .0), length-drop 12 s)))
 
-pub handle-short : (e : Event) (h : Bytes) → asked e ≡ getStatus h → length h ≤ 1024
-unfolding asked
-handle-short e h q = leb-true (length h) 1024 (subst (λ (a : Asked). handleWithin a ≡ true) q (within e))
-  where
-    within : (e : Event) → handleWithin (asked e) ≡ true
-    within (opens c) = refl
-    within (closes c) = refl
-    within (sends c b) = reading-within (masked requests b) (read requests (masked requests b)) refl
+pub handle-short : (b h : Bytes) → requestIn b ≡ getStatus h → length h ≤ 1024
+unfolding requestIn
+handle-short b h q =
+    leb-true (length h) 1024
+    (subst (λ (a : Request). handleWithin a ≡ true) q (reading-within (masked requests b) (read requests (masked requests b)) refl))

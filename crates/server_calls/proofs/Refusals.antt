@@ -17,7 +17,7 @@ use Rattle.packet.specs.Packet.{packet}
 use Rattle.lists.specs.Lists.{all, concat}
 use Rattle.server.specs.Sizes.{workloadsSize, outputSize}
 use Rattle.server.specs.Rules.{obeys}
-use Rattle.server.specs.Asked.{Event, connectionOf}
+use Rattle.server.specs.Requests.{Event, sends}
 use Rattle.server.specs.Refusals.{refusalTexts, lastNumber, isTold}
 use Rattle.server.specs.Server.{Server, Sent, addressed, answer}
 use Rattle.server.specs.Layout.{tableSize, tableOf, bytesOf, isImage}
@@ -74,12 +74,20 @@ never-one e s q = by (fate e s)
 
 -- ---- what a refusal leaves
 
+-- the sender of a packet is told: the output begins with the ERROR packet, and is unchanged beyond it
+pub record ToldOf (e : Event) (o : Bytes) (r : Result) : Type 0 where
+  pub sender : ℕ
+  pub bytes : Bytes
+  pub is : e ≡ sends sender bytes
+  pub length′ : r .length′ ≡ length (addressed (errorPacket sender (r .number)))
+  pub output : r .output ≡ addressed (errorPacket sender (r .number)) ++ drop (length (addressed (errorPacket sender (r .number)))) o
+
 pub record Refused (e : Event) (t w o : Bytes) (r : Result) : Type 0 where
   pub table : r .table ≡ t
   pub workloads : r .workloads ≡ w
   pub most : r .number ≤ lastNumber
   pub silent : isTold (r .number) ≡ false → (r .length′ ≡ 0) × (r .output ≡ o)
-  pub tells : isTold (r .number) ≡ true → let p = addressed (errorPacket (connectionOf e) (r .number)) in (r .length′ ≡ length p) × (r .output ≡ p ++ drop (length p) o)
+  pub tells : isTold (r .number) ≡ true → ToldOf e o r
 
 module _ (n : ℕ) (e : Event) (t w o : Bytes) where
   -- the server read from the bytes, laid over them, changes nothing
@@ -101,10 +109,11 @@ module _ (n : ℕ) (e : Event) (t w o : Bytes) where
         most = r .most;
         silent = λ h. (ap (λ (ps : List Sent). length (sentBytes ps)) (r .silent h), ap (λ (ps : List Sent). put 0 (sentBytes ps) o) (r .silent h) ∙ put-none 0 o);
         tells = λ h.
-            let p = addressed (errorPacket (connectionOf e) (answer e s .number)) in
-            let q : sentBytes (answer e s .sent) ≡ p = ap sentBytes (r .tells h) ∙ append-nil p in
-            let l : length p ≤ length o = omega (arith, error-short (connectionOf e) (answer e s .number), k .longOutput) in
-            (ap length q, ap (λ (x : Bytes). put 0 x o) q ∙ put-start p o l);
+            let u = r .tells h in
+            let p = addressed (errorPacket (u .sender) (answer e s .number)) in
+            let q : sentBytes (answer e s .sent) ≡ p = ap sentBytes (u .sent) ∙ append-nil p in
+            let l : length p ≤ length o = omega (arith, error-short (u .sender) (answer e s .number), k .longOutput) in
+            record { sender = u .sender; bytes = u .bytes; is = u .is; length′ = ap length q; output = ap (λ (x : Bytes). put 0 x o) q ∙ put-start p o l };
       }
 
   refused-by-one : Refused e t w o (refusedBy 1 t w o)

@@ -6,7 +6,7 @@ use Rattle.octets.specs.Bytes.{text}
 use Rattle.packet.specs.Packet.{packet}
 use Rattle.server.specs.Sizes.{connectionCount}
 use Rattle.server.specs.Table.{fresh, withLastSerial}
-use Rattle.server.specs.Asked.{Event, opens}
+use Rattle.server.specs.Requests.{Event, opens}
 use Rattle.server.specs.Server.{Server, Answer, addressed, start}
 use Rattle.server.proofs.Histories.{request, response, answeredFrom}
 

@@ -3,7 +3,7 @@ use mathlib.Core.Path.{_≡_, refl}
 use mathlib.Core.List.{List, [], _∷_}
 use lib.ListN.{replicate}
 use Rattle.octets.specs.Bytes.{Bytes}
-use Rattle.server.specs.Asked.{Event, opens}
+use Rattle.server.specs.Requests.{Event, opens}
 use Rattle.server.proofs.Histories.{request, response, numbersOf, packetsOf}
 
 -- `reverse`, `test`, `tset`, `H:lap:1`

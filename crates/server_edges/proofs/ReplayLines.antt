@@ -8,7 +8,7 @@ use Rattle.octets.specs.Bytes.{Bytes, text}
 use Rattle.hex.specs.Hex.{unhex, hex}
 use Rattle.packet.specs.Packet.{packet}
 use Rattle.lists.specs.Lists.{concat}
-use Rattle.server.specs.Asked.{Event}
+use Rattle.server.specs.Requests.{Event}
 use Rattle.server.specs.Server.{Answer, addressed}
 use Rattle.server.specs.Replay.{frame, answerLines, noFrame}
 use Rattle.server.proofs.Histories.{answered}

@@ -9,7 +9,7 @@ use lib.Dec.{ltb, eqb}
 use Rattle.octets.specs.Bytes.{Bytes, same}
 use Rattle.packet.specs.Packet.{packet}
 use Rattle.lists.specs.Lists.{all, numbers}
-use Rattle.server.specs.Asked.{Event, connectionOf}
+use Rattle.server.specs.Requests.{Event, opens, closes, sends}
 use Rattle.server.specs.Server.{Answer, addressed}
 use Rattle.server.proofs.Histories.{response, answered}
 use Rattle.server_edges.proofs.Replay.{replay}
@@ -41,15 +41,21 @@ abbrev refusal : ℕ → ℕ → Bytes
 unfolding response
 refusal c n = response c 19 (((n / 10 + 48) ∷ (n % 10 + 48) ∷ []) ∷ errorText n ∷ [])
 
+-- the connection that an event comes from
+abbrev sender : Event → ℕ
+sender (opens c) = c
+sender (closes c) = c
+sender (sends c b) = c
+
 -- every event is refused by n, with its ERROR packet where it is told
 pub refusesAll : ℕ → Hub
 unfolding response
-refusesAll n h = map (λ e. said n (cond (isTold n) (refusal (connectionOf e) n ∷ []) [])) h
+refusesAll n h = map (λ e. said n (cond (isTold n) (refusal (sender e) n ∷ []) [])) h
 
 -- every event is done, and NO_JOB goes to its sender
 pub sendsNoJob : Hub
 unfolding response
-sendsNoJob h = map (λ e. said 0 (response (connectionOf e) 10 [] ∷ [])) h
+sendsNoJob h = map (λ e. said 0 (response (sender e) 10 [] ∷ [])) h
 
 -- every event is done, and nothing is sent
 pub doesNothing : Hub

@@ -12,9 +12,10 @@ use Rattle.octets.specs.Bytes.{same}
 use Rattle.octets.proofs.Strings.{and-left, and-right, same-is}
 use Rattle.sets.specs.Sets.{isEmpty}
 use Rattle.server.specs.declared.Connection.{Connection}
+use Rattle.server.specs.declared.JobRow.{JobRow}
 use Rattle.lists.specs.Lists.{any, all, filter, mapFrom, numbers, implies}
-use Rattle.server.specs.Table.{Function, Job, Table, closed, noFunction, connectionAt, queued, wanted, grabbable, withConnections, withFunctions, withJobs}
-use Rattle.server.specs.Events.{Send, Decision, settle, unlessLost, dropped, wakes, awake, woken, toWake, forgot}
+use Rattle.server.specs.Table.{Function, Job, Table, closed, noFunction, connectionAt, rowsOf, ablesOf, queued, wanted, grabbable, withConnections, withFunctions, withJobs}
+use Rattle.server.specs.Events.{Send, Decision, settle, unlessLost, dropped, wakes, awake, wokenIn, woken, toWakeIn, toWake, forgot}
 use Rattle.server.specs.Rules.{isKnown, asDefined, functionsAsDefined, queuedAwaited, sleeperIdle, sleepersIdleFrom, sleepersIdle, obeys}
 use Rattle.lists.proofs.Rows.{clash, or-false}
 use Rattle.server_laws.proofs.Obeyed.{obeyed}
@@ -43,18 +44,21 @@ idle-asleep : (a b : Bool) → implies a (not b) ≡ true → a && b ≡ false
 idle-asleep true b e = not-true b e
 idle-asleep false b e = refl
 
-not-woken : (t : Table) (c : ℕ) (x : Connection) → sleeperIdle t c x ≡ true → wakes (t .functions) (t .jobs) c x ≡ false
-not-woken t c x e = idle-asleep (x .asleep) (any (λ j. grabbable (t .functions) c (j .row)) (t .jobs)) e
+not-woken : (t : Table) (c : ℕ) (x : Connection) → sleeperIdle t c x ≡ true → wakes (ablesOf t) (rowsOf t) c x ≡ false
+not-woken t c x e = idle-asleep (x .asleep) (any (grabbable (ablesOf t) c) (rowsOf t)) e
 
-all-sleep-on : (t : Table) (i : ℕ) (cs : List Connection) → sleepersIdleFrom t i cs ≡ true → mapFrom (λ c x. cond (wakes (t .functions) (t .jobs) c x) (awake x) x) i cs ≡ cs
+all-sleep-on : (t : Table) (i : ℕ) (cs : List Connection) → sleepersIdleFrom t i cs ≡ true → mapFrom (λ c x. cond (wakes (ablesOf t) (rowsOf t) c x) (awake x) x) i cs ≡ cs
 all-sleep-on t i [] e = refl
 all-sleep-on t i (x ∷ cs) e =
     let w = not-woken t i x (and-left (sleeperIdle t i x) _ e) in
     ap₂ {C = List Connection} (λ (y : Connection) (l : List Connection). y ∷ l) (rw w) (all-sleep-on t (suc i) cs (and-right (sleeperIdle t i x) _ e))
 
+pub connections-stay : (t : Table) → sleepersIdle t ≡ true → wokenIn (ablesOf t) (rowsOf t) (t .connections) ≡ t .connections
+unfolding wokenIn
+connections-stay t e = all-sleep-on t 0 (t .connections) e
+
 pub wakes-nobody : (t : Table) → sleepersIdle t ≡ true → woken t ≡ t
-unfolding woken
-wakes-nobody t e = ap (λ (cs : List Connection). withConnections cs t) (all-sleep-on t 0 (t .connections) e)
+wakes-nobody t e = ap (λ (cs : List Connection). withConnections cs t) (connections-stay t e)
 
 -- a sleeper has no grabbable job, by its number
 idle-from-at : (t : Table) (i : ℕ) (cs : List Connection) (k : ℕ) → sleepersIdleFrom t i cs ≡ true → k < length cs → sleeperIdle t (i + k) (getD cs k closed) ≡ true
@@ -66,7 +70,7 @@ idle-from-at t i (x ∷ cs) (suc k) e l =
 pub idle-at : (t : Table) → sleepersIdle t ≡ true → (c : ℕ) → c < length (t .connections) → sleeperIdle t c (connectionAt t c) ≡ true
 idle-at t e c l = subst (λ (n : ℕ). sleeperIdle t n (connectionAt t c) ≡ true) (zero-add c) (idle-from-at t 0 (t .connections) c e l)
 
-pub sleeps-on : (t : Table) → sleepersIdle t ≡ true → (c : ℕ) → c < length (t .connections) → wakes (t .functions) (t .jobs) c (connectionAt t c) ≡ false
+pub sleeps-on : (t : Table) → sleepersIdle t ≡ true → (c : ℕ) → c < length (t .connections) → wakes (ablesOf t) (rowsOf t) c (connectionAt t c) ≡ false
 sleeps-on t e c l = not-woken t c (connectionAt t c) (idle-at t e c l)
 
 -- ---- the numbers that pass a test
@@ -87,36 +91,36 @@ choose-none i zero = refl
 choose-none i (suc n) = choose-none (suc i) n
 
 pub none-to-wake : (t : Table) → sleepersIdle t ≡ true → toWake t ≡ []
-unfolding toWake
+unfolding toWakeIn
 none-to-wake t e = choose-same _ (λ k. false) (length (t .connections)) (sleeps-on t e) ∙ choose-none 0 (length (t .connections))
 
 -- ---- no function is forgotten
 
 -- a place without a name that nobody wants is empty already
-unwanted : (js : List Job) (q : ℕ) (x : Function) → same (x .name) [] ≡ true → wanted js q x ≡ false → x ≡ noFunction
-unwanted js q x n w =
+unwanted : (rs : List JobRow) (q : ℕ) (x : Function) → same (x .name) [] ≡ true → wanted rs q (x .able) ≡ false → x ≡ noFunction
+unwanted rs q x n w =
     let a : x .name ≡ [] = same-is _ [] n in
     let b : x .able ≡ 0 = eqb-true _ 0 (not-false _ (or-false (not (isEmpty (x .able))) _ w .0)) in
     λ i. record { name = a i; able = b i }
 
-place-stays : (js : List Job) (q : ℕ) (x : Function) → cond (isKnown x) (wanted js q x) (not (wanted js q x)) ≡ true → cond (wanted js q x) x noFunction ≡ x
-place-stays js q x e = go (same (x .name) []) (wanted js q x) refl refl e
+place-stays : (rs : List JobRow) (q : ℕ) (x : Function) → cond (isKnown x) (wanted rs q (x .able)) (not (wanted rs q (x .able))) ≡ true → cond (wanted rs q (x .able)) x noFunction ≡ x
+place-stays rs q x e = go (same (x .name) []) (wanted rs q (x .able)) refl refl e
   where
-    go : (b w : Bool) → same (x .name) [] ≡ b → wanted js q x ≡ w → cond (not b) w (not w) ≡ true → cond w x noFunction ≡ x
+    go : (b w : Bool) → same (x .name) [] ≡ b → wanted rs q (x .able) ≡ w → cond (not b) w (not w) ≡ true → cond w x noFunction ≡ x
     go b true n v d = refl
-    go true false n v d = sym (unwanted js q x n v)
+    go true false n v d = sym (unwanted rs q x n v)
     go false false n v d = clash refl (sym d)
 
-places-stay : (js : List Job) (i : ℕ) (fs : List Function) → asDefined js i fs ≡ true → mapFrom (λ q x. cond (wanted js q x) x noFunction) i fs ≡ fs
-places-stay js i [] e = refl
-places-stay js i (x ∷ fs) e =
+places-stay : (rs : List JobRow) (i : ℕ) (fs : List Function) → asDefined rs i fs ≡ true → mapFrom (λ q x. cond (wanted rs q (x .able)) x noFunction) i fs ≡ fs
+places-stay rs i [] e = refl
+places-stay rs i (x ∷ fs) e =
     ap₂ {C = List Function} (λ (y : Function) (l : List Function). y ∷ l)
-    (place-stays js i x (and-left (cond (isKnown x) (wanted js i x) (not (wanted js i x))) _ e))
-    (places-stay js (suc i) fs (and-right (cond (isKnown x) (wanted js i x) (not (wanted js i x))) _ e))
+    (place-stays rs i x (and-left (cond (isKnown x) (wanted rs i (x .able)) (not (wanted rs i (x .able)))) _ e))
+    (places-stay rs (suc i) fs (and-right (cond (isKnown x) (wanted rs i (x .able)) (not (wanted rs i (x .able)))) _ e))
 
 pub forgets-none : (t : Table) → functionsAsDefined t ≡ true → forgot t ≡ t
 unfolding forgot
-forgets-none t e = ap (λ (fs : List Function). withFunctions fs t) (places-stay (t .jobs) 0 (t .functions) e)
+forgets-none t e = ap (λ (fs : List Function). withFunctions fs t) (places-stay (rowsOf t) 0 (t .functions) e)
 
 -- ---- all together
 

@@ -8,7 +8,7 @@ use lib.ListN.{length, length-set}
 use lib.Seq.{getD-set-same}
 use Rattle.server.specs.declared.Connection.{Connection}
 use Rattle.server.specs.Table.{Table, closed, noFunction, connectionAt, functionAt, jobAt}
-use Rattle.server.specs.Asked.{Asked}
+use Rattle.server.specs.Requests.{Request}
 use Rattle.server.specs.Events.{Send, opening, ableTo, unable, unableToAll, sleeping}
 use Rattle.server.specs.Rules.{onlyOpen}
 use Rattle.lists.proofs.Cases.{all2-set, all2-map}
@@ -20,7 +20,6 @@ use Rattle.server_laws.proofs.Sound.{Sound}
 use Rattle.server_laws.proofs.Jobs.{on}
 use Rattle.server_laws.proofs.Functions.{Less, less-same, less-unable, sound-less, room, sound-name}
 use Rattle.server_laws.proofs.Going.{sound-connection, sound-sleeping, sound-job, grabbed-live, joined-found, held-found, still-grabbed, still-submitted, goes-worked}
-use Rattle.server_laws.proofs.Closing.{sound-closing}
 use Rattle.server_laws.proofs.Accepting.{sound-accepted}
 
 pub sound-opening : (c : ℕ) (t : Table) → Sound t → Sound (opening c t)
@@ -40,9 +39,8 @@ same-jobs : (c : ℕ) (t : Table) (b : Bool) → sleeping b c t .jobs ≡ t .job
 unfolding sleeping
 same-jobs c t b = refl
 
-pub sound-change : (c : ℕ) (t : Table) {a : Asked} {ss : List Send} {u : Table} → c < length (t .connections) → connectionAt t c .opened ≡ true → Good a → Sound t → Change c t a ss u → Sound u
+pub sound-change : (c : ℕ) (t : Table) {a : Request} {ss : List Send} {u : Table} → c < length (t .connections) → connectionAt t c .opened ≡ true → Good a → Sound t → Change c t a ss u → Sound u
 unfolding sleeping unableToAll
-sound-change c t i o g h Change.closed = sound-closing c t h
 sound-change c t i o g h (Change.able f q e) =
     sound-name t f q (ableTo c f (functionAt t q)) (room t f q e) refl g
     (open-insert t (functionAt t q .able) c i o (all-row (λ x. onlyOpen t (x .able)) (t .functions) q noFunction (h .abilities) (none-open t))) h
@@ -58,6 +56,6 @@ sound-change c t i o g h (Change.grabbed uniq p e) =
 sound-change c t i o g h (Change.joins priority background f v size p e) = sound-job t p _ (on (still-submitted t c i o (jobAt t p) (joined-found t f v p e) background)) h
 sound-change c t i o g h (Change.accepts priority background f v size q p e₁ e₂ e₃ l) = sound-accepted c t i o priority background f v size q p g e₁ e₂ h l
 sound-change c t i o g h (Change.worker how kind k n d p e) = sound-job t p _ (goes-worked t c i o (jobAt t p) (held-found t c k p e) how n d g) h
-sound-change c t i o g h (Change.status k answer) = h
+sound-change c t i o g h (Change.status k p e) = h
 sound-change c t i o g h (Change.optioned name e) = sound-connection t c _ o h
 sound-change c t i o g h Change.echoed = h

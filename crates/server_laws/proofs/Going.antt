@@ -6,7 +6,7 @@ use mathlib.Core.Bool.{Bool, true, false, not, _&&_, _||_}
 use mathlib.Core.Option.{some}
 use mathlib.Core.List.{List, map}
 use borrow.Author.Tests.{le-leb, eqb-true, eqb-false, not-true}
-use lib.ListN.{length, set, length-set}
+use lib.ListN.{length, set, length-set, getD}
 use lib.Dec.{leb, ltb, eqb}
 use Rattle.octets.specs.Bytes.{Bytes}
 use Rattle.octets.proofs.Strings.{and-left, and-right, and-both}
@@ -16,13 +16,14 @@ use Rattle.sets.specs.Sets.{insert}
 use Rattle.server.specs.declared.Connection.{Connection}
 use Rattle.server.specs.declared.JobRow.{JobRow}
 use Rattle.lists.specs.Lists.{find}
-use Rattle.server.specs.Table.{Function, Job, Table, noJob, connectionAt, jobAt, setConnection, setJob, withRow, withTexts, withListeners, inBackground, withHolder, live, queued, heldBy, grabbable, rank, greatest, best, joins, joined}
-use Rattle.server.specs.Asked.{Work, tells, reports, ends, throws}
+use Rattle.server.specs.Table.{Function, Job, Table, noJob, connectionAt, jobAt, setConnection, setJob, withRow, withTexts, withListeners, inBackground, withHolder, rowsOf, ablesOf, noRow, live, queued, heldBy, grabbable, rank, greatest, bestRow, best, joins, joined}
+use Rattle.server.specs.Requests.{Work, tells, reports, ends, throws}
 use Rattle.server.specs.Events.{sleeping, submittedBy, holdsHandle, worked}
 use Rattle.server.specs.Rules.{storedNumber, rowHasMeaning, isOpen}
 use Rattle.lists.proofs.Cases.{all2-set}
 use Rattle.lists.proofs.Searches.{found}
 use Rattle.lists.proofs.Rows.{implies-by, all-imp, all-set}
+use Rattle.server_laws.proofs.Numbers.{row-at, rows-long}
 use Rattle.server_laws.proofs.Requests.{Told}
 use Rattle.server_laws.proofs.Openness.{open-insert, open-more, holder-more, still-open}
 use Rattle.server_laws.proofs.Sound.{Sound, rowMeans, sound-connections}
@@ -69,22 +70,22 @@ live-means t j k l s p f h e =
 
 -- ---- what the searches found
 
-ranked : (fs : List Function) (c : ℕ) (r : JobRow) → (rank fs c r ≡ 0 → ⊥) → grabbable fs c r ≡ true
+ranked : (ables : List ℕ) (c : ℕ) (r : JobRow) → (rank ables c r ≡ 0 → ⊥) → grabbable ables c r ≡ true
 unfolding rank
-ranked fs c r n = go (grabbable fs c r) refl
+ranked ables c r n = go (grabbable ables c r) refl
   where
-    go : (b : Bool) → grabbable fs c r ≡ b → b ≡ true
+    go : (b : Bool) → grabbable ables c r ≡ b → b ≡ true
     go true e = refl
     go false e = absurd (n (rw e))
 
-pub best-found : (t : Table) (c p : ℕ) → best t c ≡ some p → (p < length (t .jobs)) × (grabbable (t .functions) c (jobAt t p .row) ≡ true)
-unfolding best
+pub best-found : (t : Table) (c p : ℕ) → best t c ≡ some p → (p < length (t .jobs)) × (grabbable (ablesOf t) c (jobAt t p .row) ≡ true)
+unfolding bestRow
 best-found t c p e =
-    let m = greatest (map (λ j. rank (t .functions) c (j .row)) (t .jobs)) in
-    let w = found (λ j. not (eqb m 0) && eqb (rank (t .functions) c (j .row)) m) noJob (t .jobs) (some p) e in
+    let m = greatest (map (rank (ablesOf t) c) (rowsOf t)) in
+    let w = found (λ r. not (eqb m 0) && eqb (rank (ablesOf t) c r) m) noRow (rowsOf t) (some p) e in
     let n : m ≡ 0 → ⊥ = eqb-false m 0 (not-true _ (and-left (not (eqb m 0)) _ (w .passes))) in
-    let r : rank (t .functions) c (jobAt t p .row) ≡ m = eqb-true _ m (and-right (not (eqb m 0)) _ (w .passes)) in
-    (w .inside, ranked (t .functions) c (jobAt t p .row) (λ z. n (sym r ∙ z)))
+    let r : rank (ablesOf t) c (getD (rowsOf t) p noRow) ≡ m = eqb-true _ m (and-right (not (eqb m 0)) _ (w .passes)) in
+    (rw (rows-long t) at (w .inside), rw (row-at t p) at (ranked (ablesOf t) c (getD (rowsOf t) p noRow) (λ z. n (sym r ∙ z))))
 
 pub grabbed-live : (t : Table) (c p : ℕ) → best t c ≡ some p → live (jobAt t p .row) ≡ true
 grabbed-live t c p e = and-left (live (jobAt t p .row)) _ (and-left (queued (jobAt t p .row)) _ (best-found t c p e .1))

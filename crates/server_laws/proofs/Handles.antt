@@ -7,10 +7,10 @@ use mathlib.Core.List.{List, [], _∷_, map}
 use Rattle.handle.specs.Handle.{handle, lap}
 use Rattle.handle.proofs.Handles.{handle-one-to-one}
 use Rattle.packet.specs.Arguments.{join}
-use Rattle.server.specs.Asked.{Event, connectionOf}
+use Rattle.server.specs.Requests.{Event}
 use Rattle.server.specs.Events.{noop}
 use Rattle.server.specs.Server.{Server, Sent, render, answer, next, after}
-use Rattle.server_laws.proofs.Serials.{Creates, Numbered, Creation, nothing, one, creation, numbered, last-rises}
+use Rattle.server_laws.proofs.Serials.{Submits, Creates, Numbered, Creation, nothing, one, creation, numbered, last-rises}
 
 -- ---- one handle, one job
 
@@ -40,7 +40,9 @@ noops e s (c ∷ cs) = ap (λ (ps : List Sent). wakeUp c ∷ ps) (noops e s cs)
 -- "JOB_CREATED goes out first. For a new job, NOOP then goes to each sleeper able to do it."
 pub record Told (s : Server) (e : Event) (serial : ℕ) : Type 0 where
   pub sleepers : List ℕ
-  pub sent : answer e s .sent ≡ jobCreated (connectionOf e) serial ∷ map wakeUp sleepers
+  pub sender : ℕ
+  pub asks : Submits e sender
+  pub sent : answer e s .sent ≡ jobCreated sender serial ∷ map wakeUp sleepers
 
 pub told : {s : Server} {e : Event} {k : ℕ} → Creates s e k → Told s e k
 unfolding answer render join
@@ -48,7 +50,9 @@ told {s} {e} {k} c = by (creation s e)
   where
     by : Creation s e → Told s e k
     by (nothing m n) = absurd (n k c)
-    by (one m d f) = record {
+    by (one d i m x f) = record {
       sleepers = m .sleepers;
-      sent = rw (m .packets, f k c .is) (ap (λ (ps : List Sent). jobCreated (connectionOf e) (suc (s .table .last)) ∷ ps) (noops e s (m .sleepers)));
+      sender = d;
+      asks = i;
+      sent = rw (m .packets, f k c .is) (ap (λ (ps : List Sent). jobCreated d (suc (s .table .last)) ∷ ps) (noops e s (m .sleepers)));
     }

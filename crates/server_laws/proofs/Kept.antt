@@ -7,17 +7,18 @@ use mathlib.Core.List.{List, [], _∷_}
 use lib.ListN.{replicate, length-replicate}
 use Rattle.octets.specs.Bytes.{same, firstZero}
 use Rattle.server.specs.Table.{Table, closed, noFunction, noJob, fresh}
-use Rattle.server.specs.Asked.{Event, Asked, connectionOf, asked}
-use Rattle.server.specs.Events.{Send, Decision, refuse, settle, dropped, woken, forgot, opening}
+use Rattle.server.specs.Requests.{Event, Request}
+use Rattle.server.specs.Events.{Send, Decision, silence, refuse, settle, dropped, woken, forgot, opening, closing}
 use Rattle.server.specs.Rules.{onlyOpen, sleepersIdleFrom, queuedAwaited, obeys}
 use Rattle.server.specs.Server.{Server, decided, next, start, after}
 use Rattle.lists.proofs.Cases.{All}
-use Rattle.server_laws.proofs.Outcome.{Outcome, outcome}
+use Rattle.server_laws.proofs.Outcome.{Stands, Served, Outcome, outcome}
 use Rattle.lists.proofs.Rows.{all-replicate}
-use Rattle.server_laws.proofs.Requests.{Good, good-asked}
+use Rattle.server_laws.proofs.Requests.{Good, good-request}
 use Rattle.server_laws.proofs.Openness.{none-open}
 use Rattle.server_laws.proofs.Sound.{Sound}
 use Rattle.server_laws.proofs.Changes.{sound-opening, sound-change}
+use Rattle.server_laws.proofs.Closing.{sound-closing}
 use Rattle.server_laws.proofs.Settled.{sound-dropped, dropped-awaited, sound-woken, sound-forgot, forgot-defined, settled-idle}
 use Rattle.server_laws.proofs.Obeyed.{obeyed, obeys-by}
 use Rattle.server_laws.proofs.Lengths.{Whole, Shaped, shaped-kept}
@@ -26,7 +27,7 @@ use Rattle.server_laws.proofs.Lengths.{Whole, Shaped, shaped-kept}
 
 -- waking and forgetting leave the jobs alone
 settled-awaited : (t : Table) → queuedAwaited t ≡ true → queuedAwaited (forgot (woken t)) ≡ true
-unfolding forgot woken
+unfolding forgot
 settled-awaited t e = e
 
 pub settled-obeys : (ss : List Send) (t : Table) → Sound t → obeys (settle ss t .table) ≡ true
@@ -36,16 +37,21 @@ settled-obeys ss t h =
     obeys-by (settle ss t .table)
     (record { sound = sound-forgot (woken (dropped t)) s; defined = forgot-defined (woken (dropped t)) s; awaited = settled-awaited (dropped t) (dropped-awaited t); idle = settled-idle (dropped t) })
 
-outcome-obeys : (c : ℕ) (t : Table) {a : Asked} {d : Decision} → Good a → obeys t ≡ true → Outcome c t a d → obeys (d .table) ≡ true
+served-obeys : (c : ℕ) (t : Table) → Stands t c true → {a : Request} {d : Decision} → Good a → obeys t ≡ true → Served c t a d → obeys (d .table) ≡ true
 unfolding refuse
-outcome-obeys c t g h (Outcome.refused a n) = h
-outcome-obeys c t g h (Outcome.opened a e i o) = settled-obeys [] (opening c t) (sound-opening c t (obeyed t h .sound))
-outcome-obeys c t g h (Outcome.done a ss u i o m) = settled-obeys ss u (sound-change c t i o g (obeyed t h .sound) m)
+served-obeys c t o g h (Served.refused a n r) = h
+served-obeys c t o g h (Served.done a ss u m) = settled-obeys ss u (sound-change c t (o .inside) (o .state) g (obeyed t h .sound) m)
+
+outcome-obeys : (t : Table) {e : Event} {d : Decision} → obeys t ≡ true → Outcome t e d → obeys (d .table) ≡ true
+unfolding silence
+outcome-obeys t h (Outcome.silenced e n r) = h
+outcome-obeys t h (Outcome.opened c o) = settled-obeys [] (opening c t) (sound-opening c t (obeyed t h .sound))
+outcome-obeys t h (Outcome.closed c o) = settled-obeys [] (closing c t) (sound-closing c t (obeyed t h .sound))
+outcome-obeys t h (Outcome.serves c b d o r) = served-obeys c t o (good-request b) h r
 
 -- every event keeps the rules
-pub obeys-kept : (e : Event) (t : Table) → obeys t ≡ true → obeys (decided e t .table) ≡ true
-unfolding decided
-obeys-kept e t h = outcome-obeys (connectionOf e) t (good-asked e) h (outcome (connectionOf e) (asked e) t)
+pub obeys-kept : (e : Event) (s : Server) → obeys (s .table) ≡ true → obeys (decided e s .table) ≡ true
+obeys-kept e s h = outcome-obeys (s .table) h (outcome e s)
 
 -- ---- a fresh table
 
@@ -92,7 +98,7 @@ throughout P f s (e ∷ h) p = throughout P f (next e s) h (f e s p)
 
 next-obeys : (e : Event) (s : Server) → obeys (s .table) ≡ true → obeys (next e s .table) ≡ true
 unfolding next
-next-obeys e s h = obeys-kept e (s .table) h
+next-obeys e s h = obeys-kept e s h
 
 start-obeys : (n : ℕ) → obeys (start n .table) ≡ true
 unfolding start

@@ -7,12 +7,12 @@ use lib.Dec.{eqb}
 use Rattle.octets.specs.Bytes.{Bytes}
 use Rattle.server.specs.declared.JobRow.{JobRow}
 use Rattle.server.specs.Table.{Job, Table, closed, live}
-use Rattle.server.specs.Asked.{Event, Asked, connectionOf, asked}
-use Rattle.server.specs.Events.{Send, Decision, refuse, settle, dropped, woken, forgot, unlessLost, opening, closing, unable, leftBy, unableToAll, sleeping}
+use Rattle.server.specs.Requests.{Event, Request}
+use Rattle.server.specs.Events.{Send, Decision, silence, refuse, settle, dropped, wokenIn, forgot, unlessLost, opening, closing, unable, leftBy, unableToAll, sleeping}
 use Rattle.server.specs.Server.{Server, reworked, rework, decided, next, opaqueOf}
 use Rattle.lists.proofs.Lists.{length-fit}
 use Rattle.lists.proofs.Cases.{cond-both, All}
-use Rattle.server_laws.proofs.Outcome.{Change, Outcome, outcome}
+use Rattle.server_laws.proofs.Outcome.{Change, Served, Outcome, outcome}
 use Rattle.lists.proofs.Rows.{length-mapFrom}
 
 -- u has as many places as t
@@ -25,12 +25,11 @@ long-then : {t u v : Table} → AsLong t u → AsLong u v → AsLong t v
 long-then a b = record { connections = b .connections ∙ a .connections; functions = b .functions ∙ a .functions; jobs = b .jobs ∙ a .jobs }
 
 pub long-settle : (ss : List Send) (t : Table) → AsLong t (settle ss t .table)
-unfolding settle dropped woken forgot
+unfolding settle dropped wokenIn forgot
 long-settle ss t = record { connections = length-mapFrom _ 0 (t .connections); functions = length-mapFrom _ 0 (t .functions); jobs = length-map (t .jobs) unlessLost }
 
-long-change : (c : ℕ) (t : Table) {a : Asked} {ss : List Send} {u : Table} → Change c t a ss u → AsLong t u
-unfolding closing sleeping unableToAll
-long-change c t Change.closed = record { connections = length-set (t .connections) c closed; functions = length-map (t .functions) (unable c); jobs = length-map (t .jobs) (leftBy c) }
+long-change : (c : ℕ) (t : Table) {a : Request} {ss : List Send} {u : Table} → Change c t a ss u → AsLong t u
+unfolding sleeping unableToAll
 long-change c t (Change.able f q e) = record { connections = refl; functions = length-set (t .functions) q _; jobs = refl }
 long-change c t (Change.unknown f e) = record { connections = refl; functions = refl; jobs = refl }
 long-change c t (Change.disabled f q e) = record { connections = refl; functions = length-set (t .functions) q _; jobs = refl }
@@ -41,19 +40,26 @@ long-change c t (Change.grabbed uniq p e) = record { connections = length-set (t
 long-change c t (Change.joins priority background f v size p e) = record { connections = refl; functions = refl; jobs = length-set (t .jobs) p _ }
 long-change c t (Change.accepts priority background f v size q p e₁ e₂ e₃ l) = record { connections = refl; functions = length-set (t .functions) q _; jobs = length-set (t .jobs) p _ }
 long-change c t (Change.worker how kind h n d p e) = record { connections = refl; functions = refl; jobs = length-set (t .jobs) p _ }
-long-change c t (Change.status h answer) = record { connections = refl; functions = refl; jobs = refl }
+long-change c t (Change.status h o e) = record { connections = refl; functions = refl; jobs = refl }
 long-change c t (Change.optioned name e) = record { connections = length-set (t .connections) c _; functions = refl; jobs = refl }
 long-change c t Change.echoed = record { connections = refl; functions = refl; jobs = refl }
 
-long-outcome : (c : ℕ) (t : Table) {a : Asked} {d : Decision} → Outcome c t a d → AsLong t (d .table)
-unfolding refuse opening
-long-outcome c t (Outcome.refused a n) = record { connections = refl; functions = refl; jobs = refl }
-long-outcome c t (Outcome.opened a e i o) = long-then (record { connections = length-set (t .connections) c _; functions = refl; jobs = refl }) (long-settle [] (opening c t))
-long-outcome c t (Outcome.done a ss u i o m) = long-then (long-change c t m) (long-settle ss u)
+long-served : (c : ℕ) (t : Table) {a : Request} {d : Decision} → Served c t a d → AsLong t (d .table)
+unfolding refuse
+long-served c t (Served.refused a n r) = record { connections = refl; functions = refl; jobs = refl }
+long-served c t (Served.done a ss u m) = long-then (long-change c t m) (long-settle ss u)
 
-pub long-decided : (e : Event) (t : Table) → AsLong t (decided e t .table)
-unfolding decided
-long-decided e t = long-outcome (connectionOf e) t (outcome (connectionOf e) (asked e) t)
+long-outcome : (t : Table) {e : Event} {d : Decision} → Outcome t e d → AsLong t (d .table)
+unfolding silence opening closing
+long-outcome t (Outcome.silenced e n r) = record { connections = refl; functions = refl; jobs = refl }
+long-outcome t (Outcome.opened c o) = long-then (record { connections = length-set (t .connections) c _; functions = refl; jobs = refl }) (long-settle [] (opening c t))
+long-outcome t (Outcome.closed c o) =
+    long-then (record { connections = length-set (t .connections) c closed; functions = length-map (t .functions) (unable c); jobs = length-map (t .jobs) (leftBy c) })
+    (long-settle [] (closing c t))
+long-outcome t (Outcome.serves c b d o r) = long-served c t r
+
+pub long-decided : (e : Event) (s : Server) → AsLong (s .table) (decided e s .table)
+long-decided e s = long-outcome (s .table) (outcome e s)
 
 -- ---- workloads
 
@@ -89,7 +95,7 @@ pub record Shaped (n : ℕ) (s : Server) : Type 0 where
 pub shaped-kept : (n : ℕ) (e : Event) (s : Server) → Shaped n s → Shaped n (next e s)
 unfolding next
 shaped-kept n e s h =
-    let l = long-decided e (s .table) in
+    let l = long-decided e s in
     record {
       connections = l .connections ∙ h .connections;
       functions = l .functions ∙ h .functions;

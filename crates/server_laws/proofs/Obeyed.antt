@@ -11,7 +11,8 @@ use lib.ListN.{length, getD}
 use lib.Dec.{leb, ltb}
 use Rattle.octets.proofs.Strings.{and-left, and-right, and-both}
 use Rattle.sets.specs.Sets.{isEmpty}
-use Rattle.server.specs.Table.{Function, Job, Table, noFunction, noJob, functionAt, jobAt, live, wanted}
+use Rattle.server.specs.declared.JobRow.{JobRow}
+use Rattle.server.specs.Table.{Function, Job, Table, noFunction, noJob, functionAt, jobAt, rowsOf, live, wanted}
 use Rattle.lists.specs.Lists.{implies}
 use Rattle.server.specs.Rules.{nextSmall, serialsBelow, serialsDistinct, namesWithin, textsWithin, sizesWithin, rowsHaveMeaning, rowHasMeaning, isKnown, functionsDistinct, asDefined, functionsAsDefined, abilitiesOpen, listenersOpen, holdersOpen, closedClear, queuedAwaited, uniquesDistinct, sleepersIdle, obeys}
 use Rattle.lists.proofs.Rows.{clash, implies-by, or-left, all-at, all-by}
@@ -36,18 +37,18 @@ obeys-by t h =
 
 -- ---- functions as defined, by place
 
-defined-at : (js : List Job) (i : ℕ) (fs : List Function) (k : ℕ) → asDefined js i fs ≡ true → k < length fs → placeDefined js (i + k) (getD fs k noFunction) ≡ true
-defined-at js i [] k e l = absurd (not-suc-le-zero l)
-defined-at js i (x ∷ fs) zero e l = subst (λ (n : ℕ). placeDefined js n x ≡ true) (omega arith) (and-left (placeDefined js i x) _ e)
-defined-at js i (x ∷ fs) (suc k) e l =
-    subst (λ (n : ℕ). placeDefined js n (getD fs k noFunction) ≡ true) (omega arith) (defined-at js (suc i) fs k (and-right (placeDefined js i x) _ e) (le-of-suc-le-suc l))
+defined-at : (rs : List JobRow) (i : ℕ) (fs : List Function) (k : ℕ) → asDefined rs i fs ≡ true → k < length fs → placeDefined rs (i + k) (getD fs k noFunction) ≡ true
+defined-at rs i [] k e l = absurd (not-suc-le-zero l)
+defined-at rs i (x ∷ fs) zero e l = subst (λ (n : ℕ). placeDefined rs n x ≡ true) (omega arith) (and-left (placeDefined rs i x) _ e)
+defined-at rs i (x ∷ fs) (suc k) e l =
+    subst (λ (n : ℕ). placeDefined rs n (getD fs k noFunction) ≡ true) (omega arith) (defined-at rs (suc i) fs k (and-right (placeDefined rs i x) _ e) (le-of-suc-le-suc l))
 
 -- a wanted place has a name
-pub wanted-named : (t : Table) → functionsAsDefined t ≡ true → (q : ℕ) → q < length (t .functions) → wanted (t .jobs) q (functionAt t q) ≡ true → isKnown (functionAt t q) ≡ true
+pub wanted-named : (t : Table) → functionsAsDefined t ≡ true → (q : ℕ) → q < length (t .functions) → wanted (rowsOf t) q (functionAt t q .able) ≡ true → isKnown (functionAt t q) ≡ true
 wanted-named t e q l w =
-    go (isKnown (functionAt t q)) (subst (λ (n : ℕ). placeDefined (t .jobs) n (functionAt t q) ≡ true) (zero-add q) (defined-at (t .jobs) 0 (t .functions) q e l))
+    go (isKnown (functionAt t q)) (subst (λ (n : ℕ). placeDefined (rowsOf t) n (functionAt t q) ≡ true) (zero-add q) (defined-at (rowsOf t) 0 (t .functions) q e l))
   where
-    go : (b : Bool) → cond b (wanted (t .jobs) q (functionAt t q)) (not (wanted (t .jobs) q (functionAt t q))) ≡ true → b ≡ true
+    go : (b : Bool) → cond b (wanted (rowsOf t) q (functionAt t q .able)) (not (wanted (rowsOf t) q (functionAt t q .able))) ≡ true → b ≡ true
     go true d = refl
     go false d = clash d (ap not w)
 

@@ -10,15 +10,15 @@ use lib.Dec.{ltb}
 use borrow.Author.Tests.{ltb-true}
 use Rattle.octets.specs.Bytes.{Bytes, same}
 use Rattle.lists.specs.Lists.{find, filter}
-use Rattle.server.specs.Table.{Table, connectionAt, functionAt, jobAt, setConnection, setFunction, setJob, withRow, withHolder, known, roomFor, best, freePlace, joined}
-use Rattle.server.specs.Asked.{Work, Asked, toOpen, toClose, reset, preSleep, echo, bad, canDo, cantDo, grab, submit, work, getStatus, option}
-use Rattle.server.specs.Events.{Send, plain, copy, assign, Decision, refuse, settle, opening, closing, ableTo, unable, canDoAt, cantDoAt, unableToAll, sleeping, grabAt, submittedBy, created, newJob, accepted, submitNew, submitTo, holdsHandle, hears, worked, listenersOf, workAt, statusAt, exceptionsName, catching, optionIf, served, isOpening, admitted, decide}
 use Rattle.lists.proofs.Cases.{cond-cases}
+use Rattle.server.specs.Table.{Table, connectionAt, functionAt, jobAt, setConnection, setFunction, setJob, withRow, withHolder, hasHandle, known, roomFor, best, freePlace, joined}
+use Rattle.server.specs.Requests.{Event, opens, closes, sends, Work, Request, reset, preSleep, echo, bad, canDo, cantDo, grab, submit, work, getStatus, option, requestIn}
+use Rattle.server.specs.Events.{Send, plain, copy, assign, Decision, silence, refuse, settle, opening, closing, ableTo, unable, canDoAt, cantDoAt, unableToAll, sleeping, grabAt, submittedBy, created, newJob, accepted, submitNew, submitTo, holdsHandle, hears, worked, listenersOf, workAt, statusOf, statusAt, exceptionsName, catching, optionIf, served, isConnection, onlyIfOpen, onlyIfClosed}
+use Rattle.server.specs.Server.{Server, decided}
 
--- ---- what an event that is done changes and sends, before the table is settled
+-- ---- what a request that is done changes and sends, before the table is settled
 
-pub data Change (c : ℕ) (t : Table) : Asked → List Send → Table → Type 0 where
-  closed : Change c t toClose [] (closing c t)
+pub data Change (c : ℕ) (t : Table) : Request → List Send → Table → Type 0 where
   able : (f : Bytes) (q : ℕ) → roomFor (t .functions) f ≡ some q → Change c t (canDo f) [] (setFunction t q (ableTo c f (functionAt t q)))
   unknown : (f : Bytes) → known (t .functions) f ≡ none → Change c t (cantDo f) [] t
   disabled : (f : Bytes) (q : ℕ) → known (t .functions) f ≡ some q → Change c t (cantDo f) [] (setFunction t q (unable c (functionAt t q)))
@@ -33,89 +33,136 @@ pub data Change (c : ℕ) (t : Table) : Asked → List Send → Table → Type 0
       → Change c t (submit priority background f u size) (created c (suc (t .last)) ∷ []) (accepted q f p (newJob c priority background q u size (suc (t .last))) t)
   worker : (how : Work) (kind : ℕ) (h n d : Bytes) (p : ℕ) → find (λ j. holdsHandle c h (j .row)) (t .jobs) ≡ some p
       → Change c t (work how kind h n d) (map (λ l. copy l kind) (filter (hears how t) (listenersOf t (jobAt t p .row)))) (setJob t p (worked how n d (jobAt t p)))
-  status : (h : Bytes) (as′ : List Bytes) → Change c t (getStatus h) (plain c 20 as′ ∷ []) t
+  status : (h : Bytes) (o : Option ℕ) → find (λ j. hasHandle h (j .row)) (t .jobs) ≡ o → Change c t (getStatus h) (plain c 20 (statusOf o h t) ∷ []) t
   optioned : (name : Bytes) → same name exceptionsName ≡ true → Change c t (option name) (plain c 27 (name ∷ []) ∷ []) (setConnection t c (catching (connectionAt t c)))
   echoed : Change c t echo (copy c 17 ∷ []) t
 
-pub data Outcome (c : ℕ) (t : Table) : Asked → Decision → Type 0 where
-  refused : (a : Asked) (n : ℕ) → Outcome c t a (refuse c n t)
-  opened : (a : Asked) → isOpening a ≡ true → c < length (t .connections) → connectionAt t c .opened ≡ false → Outcome c t a (settle [] (opening c t))
-  done : (a : Asked) (ss : List Send) (u : Table) → c < length (t .connections) → connectionAt t c .opened ≡ true → Change c t a ss u → Outcome c t a (settle ss u)
+-- why a request is refused, and by which number
+pub data Refuses (c : ℕ) (t : Table) : Request → ℕ → Type 0 where
+  unread : (n : ℕ) → Refuses c t (bad n) n
+  noRoom : (f : Bytes) → roomFor (t .functions) f ≡ none → Refuses c t (canDo f) 11
+  noFunction : (priority : ℕ) (background : Bool) (f u : Bytes) (size : ℕ) → joined t f u ≡ none → roomFor (t .functions) f ≡ none
+      → Refuses c t (submit priority background f u size) 11
+  noPlace : (priority : ℕ) (background : Bool) (f u : Bytes) (size q : ℕ) → joined t f u ≡ none → roomFor (t .functions) f ≡ some q → freePlace t ≡ none
+      → Refuses c t (submit priority background f u size) 12
+  noSerial : (priority : ℕ) (background : Bool) (f u : Bytes) (size q p : ℕ) → joined t f u ≡ none → roomFor (t .functions) f ≡ some q → freePlace t ≡ some p
+      → ltb (t .last) 4294967295 ≡ false → Refuses c t (submit priority background f u size) 13
+  notHeld : (how : Work) (kind : ℕ) (h n d : Bytes) → find (λ j. holdsHandle c h (j .row)) (t .jobs) ≡ none → Refuses c t (work how kind h n d) 14
+  noOption : (name : Bytes) → same name exceptionsName ≡ false → Refuses c t (option name) 15
+
+-- a request on a connection that is open
+pub data Served (c : ℕ) (t : Table) : Request → Decision → Type 0 where
+  refused : (a : Request) (n : ℕ) → Refuses c t a n → Served c t a (refuse c n t)
+  done : (a : Request) (ss : List Send) (u : Table) → Change c t a ss u → Served c t a (settle ss u)
+
+-- connection c is one of this table's, and is open or not
+pub record Stands (t : Table) (c : ℕ) (isOpen : Bool) : Type 0 where
+  pub inside : c < length (t .connections)
+  pub state : connectionAt t c .opened ≡ isOpen
+
+-- the connection that an event comes from
+pub data From : Event → ℕ → Type 0 where
+  by-open : (c : ℕ) → From (opens c) c
+  by-close : (c : ℕ) → From (closes c) c
+  by-packet : (c : ℕ) (b : Bytes) → From (sends c b) c
+
+-- why an event is refused before anything is read, and by which number
+pub data Silences (t : Table) : Event → ℕ → Type 0 where
+  noConnection : {e : Event} {c : ℕ} → From e c → isConnection t c ≡ false → Silences t e 2
+  closesNone : (c : ℕ) → Stands t c false → Silences t (closes c) 3
+  sendsClosed : (c : ℕ) (b : Bytes) → Stands t c false → Silences t (sends c b) 3
+  opensTwice : (c : ℕ) → Stands t c true → Silences t (opens c) 4
+
+-- an event
+pub data Outcome (t : Table) : Event → Decision → Type 0 where
+  silenced : (e : Event) (n : ℕ) → Silences t e n → Outcome t e (silence n t)
+  opened : (c : ℕ) → Stands t c false → Outcome t (opens c) (settle [] (opening c t))
+  closed : (c : ℕ) → Stands t c true → Outcome t (closes c) (settle [] (closing c t))
+  serves : (c : ℕ) (b : Bytes) (d : Decision) → Stands t c true → Served c t (requestIn b) d → Outcome t (sends c b) d
 
 -- ---- the walk
 
-module _ (c : ℕ) (t : Table) (inside : c < length (t .connections)) (isOpen : connectionAt t c .opened ≡ true) where
-  ok : {a : Asked} {ss : List Send} {u : Table} → Change c t a ss u → Outcome c t a (settle ss u)
-  ok m = done _ _ _ inside isOpen m
+module _ (c : ℕ) (t : Table) where
+  ok : {a : Request} {ss : List Send} {u : Table} → Change c t a ss u → Served c t a (settle ss u)
+  ok m = done _ _ _ m
 
-  o-canDo : (f : Bytes) (o : Option ℕ) → roomFor (t .functions) f ≡ o → Outcome c t (canDo f) (canDoAt o c f t)
+  o-canDo : (f : Bytes) (o : Option ℕ) → roomFor (t .functions) f ≡ o → Served c t (canDo f) (canDoAt o c f t)
   unfolding canDoAt
-  o-canDo f none e = refused _ 11
+  o-canDo f none e = refused _ _ (noRoom f e)
   o-canDo f (some q) e = ok (able f q e)
 
-  o-cantDo : (f : Bytes) (o : Option ℕ) → known (t .functions) f ≡ o → Outcome c t (cantDo f) (cantDoAt o c t)
+  o-cantDo : (f : Bytes) (o : Option ℕ) → known (t .functions) f ≡ o → Served c t (cantDo f) (cantDoAt o c t)
   unfolding cantDoAt
   o-cantDo f none e = ok (unknown f e)
   o-cantDo f (some q) e = ok (disabled f q e)
 
-  o-grab : (uniq : Bool) (o : Option ℕ) → best t c ≡ o → Outcome c t (grab uniq) (grabAt o uniq c (sleeping false c t))
+  o-grab : (uniq : Bool) (o : Option ℕ) → best t c ≡ o → Served c t (grab uniq) (grabAt o uniq c (sleeping false c t))
   unfolding grabAt
   o-grab uniq none e = ok (noJobFor uniq e)
   o-grab uniq (some p) e = ok (grabbed uniq p e)
 
-  o-work : (how : Work) (kind : ℕ) (h n d : Bytes) (o : Option ℕ) → find (λ j. holdsHandle c h (j .row)) (t .jobs) ≡ o → Outcome c t (work how kind h n d) (workAt o how kind c n d t)
+  o-work : (how : Work) (kind : ℕ) (h n d : Bytes) (o : Option ℕ) → find (λ j. holdsHandle c h (j .row)) (t .jobs) ≡ o → Served c t (work how kind h n d) (workAt o how kind c n d t)
   unfolding workAt
-  o-work how kind h n d none e = refused _ 14
+  o-work how kind h n d none e = refused _ _ (notHeld how kind h n d e)
   o-work how kind h n d (some p) e = ok (worker how kind h n d p e)
 
-  o-status : (h : Bytes) (o : Option ℕ) → Outcome c t (getStatus h) (statusAt o c h t)
+  o-status : (h : Bytes) (o : Option ℕ) → find (λ j. hasHandle h (j .row)) (t .jobs) ≡ o → Served c t (getStatus h) (statusAt o c h t)
   unfolding statusAt
-  o-status h none = ok (status h _)
-  o-status h (some p) = ok (status h _)
+  o-status h o e = ok (status h o e)
 
-  o-option : (name : Bytes) (b : Bool) → same name exceptionsName ≡ b → Outcome c t (option name) (optionIf b c name t)
+  o-option : (name : Bytes) (b : Bool) → same name exceptionsName ≡ b → Served c t (option name) (optionIf b c name t)
   unfolding optionIf
-  o-option name false e = refused _ 15
+  o-option name false e = refused _ _ (noOption name e)
   o-option name true e = ok (optioned name e)
 
   o-new : (priority : ℕ) (background : Bool) (f u : Bytes) (size : ℕ) → joined t f u ≡ none → (o r : Option ℕ) → roomFor (t .functions) f ≡ o → freePlace t ≡ r
-      → Outcome c t (submit priority background f u size) (submitNew o r c priority background f u size t)
+      → Served c t (submit priority background f u size) (submitNew o r c priority background f u size t)
   unfolding submitNew
-  o-new priority background f u size j none r e g = refused _ 11
-  o-new priority background f u size j (some q) none e g = refused _ 12
+  o-new priority background f u size j none r e g = refused _ _ (noFunction priority background f u size j e)
+  o-new priority background f u size j (some q) none e g = refused _ _ (noPlace priority background f u size q j e g)
   o-new priority background f u size j (some q) (some p) e g =
-      cond-cases (Outcome c t (submit priority background f u size)) (ltb (t .last) 4294967295)
+      cond-cases (Served c t (submit priority background f u size)) (ltb (t .last) 4294967295)
       (λ h. ok (accepts priority background f u size q p j e g (ltb-true (t .last) 4294967295 h)))
-      (λ h. refused _ 13)
+      (λ h. refused _ _ (noSerial priority background f u size q p j e g h))
 
   o-submit : (priority : ℕ) (background : Bool) (f u : Bytes) (size : ℕ) (o : Option ℕ) → joined t f u ≡ o
-      → Outcome c t (submit priority background f u size) (submitTo o c priority background f u size t)
+      → Served c t (submit priority background f u size) (submitTo o c priority background f u size t)
   unfolding submitTo
   o-submit priority background f u size none e = o-new priority background f u size e (roomFor (t .functions) f) (freePlace t) refl refl
   o-submit priority background f u size (some p) e = ok (joins priority background f u size p e)
 
-  o-served : (a : Asked) → Outcome c t a (served c a t)
+  pub served-by : (a : Request) → Served c t a (served c a t)
   unfolding served
-  o-served toOpen = refused _ 4
-  o-served toClose = ok closed
-  o-served (bad n) = refused _ n
-  o-served (canDo f) = o-canDo f (roomFor (t .functions) f) refl
-  o-served (cantDo f) = o-cantDo f (known (t .functions) f) refl
-  o-served reset = ok cleared
-  o-served preSleep = ok slept
-  o-served (grab uniq) = o-grab uniq (best t c) refl
-  o-served (submit priority background f u size) = o-submit priority background f u size (joined t f u) refl
-  o-served (work how kind h n d) = o-work how kind h n d _ refl
-  o-served (getStatus h) = o-status h _
-  o-served (option name) = o-option name _ refl
-  o-served echo = ok echoed
+  served-by (bad n) = refused _ _ (unread n)
+  served-by (canDo f) = o-canDo f (roomFor (t .functions) f) refl
+  served-by (cantDo f) = o-cantDo f (known (t .functions) f) refl
+  served-by reset = ok cleared
+  served-by preSleep = ok slept
+  served-by (grab uniq) = o-grab uniq (best t c) refl
+  served-by (submit priority background f u size) = o-submit priority background f u size (joined t f u) refl
+  served-by (work how kind h n d) = o-work how kind h n d _ refl
+  served-by (getStatus h) = o-status h _ refl
+  served-by (option name) = o-option name _ refl
+  served-by echo = ok echoed
 
-o-admitted : (c : ℕ) (a : Asked) (t : Table) (b o : Bool) → ltb c (length (t .connections)) ≡ b → connectionAt t c .opened ≡ o → Outcome c t a (admitted b o c a t)
-unfolding admitted
-o-admitted c a t false o e g = refused a 2
-o-admitted c a t true false e g = cond-cases (Outcome c t a) (isOpening a) (λ h. opened a h (ltb-true c (length (t .connections)) e) g) (λ h. refused a 3)
-o-admitted c a t true true e g = o-served c t (ltb-true c (length (t .connections)) e) g a
+module _ (t : Table) (c : ℕ) where
+  -- what an event comes to that only an open connection may bring, or only a closed one
+  if-open : {e : Event} (d : Decision) → From e c → (Stands t c false → Silences t e 3) → (Stands t c true → Outcome t e d)
+      → (b o : Bool) → isConnection t c ≡ b → connectionAt t c .opened ≡ o → Outcome t e (onlyIfOpen b o t d)
+  unfolding onlyIfOpen
+  if-open d f bars lets false o i s = silenced _ 2 (noConnection f i)
+  if-open d f bars lets true false i s = silenced _ 3 (bars (record { inside = ltb-true c (length (t .connections)) i; state = s }))
+  if-open d f bars lets true true i s = lets (record { inside = ltb-true c (length (t .connections)) i; state = s })
 
-pub outcome : (c : ℕ) (a : Asked) (t : Table) → Outcome c t a (decide c a t)
-unfolding decide
-outcome c a t = o-admitted c a t _ _ refl refl
+  if-closed : {e : Event} (d : Decision) → From e c → (Stands t c true → Silences t e 4) → (Stands t c false → Outcome t e d)
+      → (b o : Bool) → isConnection t c ≡ b → connectionAt t c .opened ≡ o → Outcome t e (onlyIfClosed b o t d)
+  unfolding onlyIfClosed
+  if-closed d f bars lets false o i s = silenced _ 2 (noConnection f i)
+  if-closed d f bars lets true true i s = silenced _ 4 (bars (record { inside = ltb-true c (length (t .connections)) i; state = s }))
+  if-closed d f bars lets true false i s = lets (record { inside = ltb-true c (length (t .connections)) i; state = s })
+
+pub outcome : (e : Event) (s : Server) → Outcome (s .table) e (decided e s)
+unfolding decided
+outcome (opens c) s = if-closed (s .table) c _ (by-open c) (opensTwice c) (opened c) _ _ refl refl
+outcome (closes c) s = if-open (s .table) c _ (by-close c) (closesNone c) (closed c) _ _ refl refl
+outcome (sends c b) s = if-open (s .table) c _ (by-packet c b) (sendsClosed c b) (λ o. serves c b _ o (served-by c (s .table) (requestIn b))) _ _ refl refl

@@ -1,35 +1,35 @@
--- Demand 1, of the definitions: a refused event leaves table and workloads as they were; by 1 to 8 nothing is sent, by 9 to 15 one
--- ERROR packet to the sender, with the number's two digits and its text; and every number is 0 or 2 to 15. Assumes nothing.
-use Prim.Native.Nat.{ℕ, zero, suc, _+_, _-_, _/_, _%_, _≤_}
+-- Demand 1, of the definitions: a refused event leaves table and workloads as they were; by a number without a text nothing is sent, by
+-- one with a text one ERROR packet to the sender, with the number's two digits and its text; and every number is 0 or 2 to the last.
+-- Assumes nothing.
+use Prim.Native.Nat.{ℕ, zero, suc, _+_, _/_, _%_, _≤_}
 use native.Mathlib.Omega.{arith}
 use mathlib.Core.Path.{_≡_, refl, ap, subst}
 use mathlib.Core.Bool.{Bool, true, false, not}
-use mathlib.Core.Option.{Option, none, some}
 use mathlib.Core.List.{List, [], _∷_}
 use lib.ListN.{length, getD, replicate, List·getD-map}
 use lib.Dec.{ltb, leb, eqb}
-use borrow.Author.Tests.{eq-eqb, lt-ltb, le-ltb, leb-true}
-use Rattle.octets.specs.Bytes.{Bytes, within, startsWith, numberAt}
+use borrow.Author.Tests.{eq-eqb, leb-true}
+use Rattle.octets.specs.Bytes.{Bytes, same, within, startsWith, numberAt}
+use Rattle.octets.proofs.Strings.{and-left, and-right}
 use Rattle.packet.specs.declared.Shape.{Shape}
 use Rattle.packet.specs.Layout.{isOwn, rulesOf}
 use Rattle.packet.specs.Arguments.{Parts, bad, parts, split, join}
 use Rattle.packet.specs.Packet.{Reading, header, argued, body, afterHeader, read, requests}
 use Rattle.packet.specs.Opaque.{masked}
+use Rattle.lists.proofs.Cases.{cond-both}
+use Rattle.lists.proofs.Rows.{clash}
 use Rattle.server.specs.Table.{Job, Table}
-use Rattle.server.specs.Asked.{Event, opens, closes, sends, connectionOf, asked, requested, fromReading, Work, Asked, toOpen, toClose, reset, preSleep, echo, canDo, cantDo, grab, submit, work, getStatus, option}
-use Rattle.server.specs.Asked as A
-use Rattle.server.specs.Events.{Send, Decision, refuse, settle, canDoAt, cantDoAt, grabAt, submitNew, submitTo, workAt, statusAt, optionIf, served, isOpening, admitted, decide}
+use Rattle.server.specs.Requests.{Event, sends, Work, Request, reset, preSleep, echo, canDo, cantDo, grab, submit, work, getStatus, option, requested, fromReading, requestIn}
+use Rattle.server.specs.Requests as R
+use Rattle.server.specs.Events.{Send, Decision, silence, refuse, settle}
 use Rattle.server.specs.Server.{Server, Sent, render, rework, decided, answer, next}
 use Rattle.server.specs.Refusals.{errorText, isTold, lastNumber}
-use Rattle.octets.proofs.Strings.{and-left, and-right}
-use Rattle.lists.proofs.Cases.{cond-both}
+use Rattle.server_laws.proofs.Outcome.{Refuses, unread, noRoom, noFunction, noPlace, noSerial, notHeld, noOption, Served, Silences, noConnection, closesNone, sendsClosed, opensTwice, Outcome, outcome}
 
 -- ---- the numbers that reading gives
 
-abbrev badWithin : Asked → Bool
-badWithin (A.bad n) = within 5 10 n
-badWithin toOpen = true
-badWithin toClose = true
+abbrev badWithin : Request → Bool
+badWithin (R.bad n) = within 5 10 n
 badWithin reset = true
 badWithin preSleep = true
 badWithin echo = true
@@ -70,94 +70,44 @@ header-reads magic most s r h =
     (cond-both P (ltb most (numberAt s 8)) refl
     (cond-both P (eqb (length s) (12 + numberAt s 8)) h refl)))
 
-asked-reads : (e : Event) → badWithin (asked e) ≡ true
-unfolding asked read
-asked-reads (opens c) = refl
-asked-reads (closes c) = refl
-asked-reads (sends c b) = header-reads _ _ (masked requests b) _ (body-reads _ _ _)
+request-reads : (b : Bytes) → badWithin (requestIn b) ≡ true
+unfolding requestIn read
+request-reads b = header-reads _ _ (masked requests b) _ (body-reads _ _ _)
 
 -- a packet that cannot be read is refused by 5 to 10
-pub bad-within : (e : Event) (n : ℕ) → asked e ≡ A.bad n → (5 ≤ n) × (n ≤ 10)
-bad-within e n q =
-    let h : within 5 10 n ≡ true = subst (λ (a : Asked). badWithin a ≡ true) q (asked-reads e) in
+pub bad-within : (b : Bytes) (n : ℕ) → requestIn b ≡ R.bad n → (5 ≤ n) × (n ≤ 10)
+bad-within b n q =
+    let h : within 5 10 n ≡ true = subst (λ (a : Request). badWithin a ≡ true) q (request-reads b) in
     (leb-true 5 n (and-left (leb 5 n) (leb n 10) h), leb-true n 10 (and-right (leb 5 n) (leb n 10) h))
 
--- ---- done, or refused by 2 to 15
+-- ---- the numbers of all grounds
 
-data Answered (c : ℕ) (t : Table) : Decision → Type 0 where
-  settles : (ss : List Send) (u : Table) → Answered c t (settle ss u)
-  refuses : (n : ℕ) → 2 ≤ n → n ≤ lastNumber → Answered c t (refuse c n t)
+-- a refusal's number is 2 to the last
+abbrev Between : ℕ → Type 0
+Between n = (2 ≤ n) × (n ≤ lastNumber)
 
-module _ (c : ℕ) (t : Table) where
-  no : (n : ℕ) → within 2 lastNumber n ≡ true → Answered c t (refuse c n t)
-  no n h = refuses n (leb-true 2 n (and-left (leb 2 n) (leb n lastNumber) h)) (leb-true n lastNumber (and-right (leb 2 n) (leb n lastNumber) h))
+refuses-between : {c : ℕ} {t : Table} {a : Request} {n : ℕ} → ((k : ℕ) → a ≡ R.bad k → Between k) → Refuses c t a n → Between n
+refuses-between f (unread n) = f n refl
+refuses-between f (noRoom g e) = (omega arith, omega arith)
+refuses-between f (noFunction priority background g u size e₁ e₂) = (omega arith, omega arith)
+refuses-between f (noPlace priority background g u size q e₁ e₂ e₃) = (omega arith, omega arith)
+refuses-between f (noSerial priority background g u size q p e₁ e₂ e₃ m) = (omega arith, omega arith)
+refuses-between f (notHeld how kind h n d e) = (omega arith, omega arith)
+refuses-between f (noOption name e) = (omega arith, omega arith)
 
-  a-canDo : (o : Option ℕ) (f : Bytes) → Answered c t (canDoAt o c f t)
-  unfolding canDoAt
-  a-canDo none f = no 11 refl
-  a-canDo (some q) f = settles _ _
+silences-between : {t : Table} {e : Event} {n : ℕ} → Silences t e n → Between n
+silences-between (noConnection f e) = (omega arith, omega arith)
+silences-between (closesNone c o) = (omega arith, omega arith)
+silences-between (sendsClosed c b o) = (omega arith, omega arith)
+silences-between (opensTwice c o) = (omega arith, omega arith)
 
-  a-cantDo : (o : Option ℕ) → Answered c t (cantDoAt o c t)
-  unfolding cantDoAt
-  a-cantDo none = settles _ _
-  a-cantDo (some q) = settles _ _
-
-  a-grab : (o : Option ℕ) (uniq : Bool) (u : Table) → Answered c t (grabAt o uniq c u)
-  unfolding grabAt
-  a-grab none uniq u = settles _ _
-  a-grab (some p) uniq u = settles _ _
-
-  a-work : (o : Option ℕ) (how : Work) (kind : ℕ) (n d : Bytes) → Answered c t (workAt o how kind c n d t)
-  unfolding workAt
-  a-work none how kind n d = no 14 refl
-  a-work (some p) how kind n d = settles _ _
-
-  a-status : (o : Option ℕ) (h : Bytes) → Answered c t (statusAt o c h t)
-  unfolding statusAt
-  a-status none h = settles _ _
-  a-status (some p) h = settles _ _
-
-  a-option : (b : Bool) (name : Bytes) → Answered c t (optionIf b c name t)
-  unfolding optionIf
-  a-option false name = no 15 refl
-  a-option true name = settles _ _
-
-  a-new : (o r : Option ℕ) (priority : ℕ) (b : Bool) (f u : Bytes) (size : ℕ) → Answered c t (submitNew o r c priority b f u size t)
-  unfolding submitNew
-  a-new none r priority b f u size = no 11 refl
-  a-new (some q) none priority b f u size = no 12 refl
-  a-new (some q) (some p) priority b f u size = cond-both (Answered c t) (ltb (t .last) 4294967295) (settles _ _) (no 13 refl)
-
-  a-submit : (o : Option ℕ) (priority : ℕ) (b : Bool) (f u : Bytes) (size : ℕ) → Answered c t (submitTo o c priority b f u size t)
-  unfolding submitTo
-  a-submit none priority b f u size = a-new _ _ priority b f u size
-  a-submit (some p) priority b f u size = settles _ _
-
-  a-served : (a : Asked) → badWithin a ≡ true → Answered c t (served c a t)
-  unfolding served
-  a-served toOpen h = no 4 refl
-  a-served toClose h = settles _ _
-  a-served (A.bad n) h = refuses n (omega (arith, leb-true 5 n (and-left (leb 5 n) (leb n 10) h))) (omega (arith, leb-true n 10 (and-right (leb 5 n) (leb n 10) h)))
-  a-served (canDo f) h = a-canDo _ f
-  a-served (cantDo f) h = a-cantDo _
-  a-served reset h = settles _ _
-  a-served preSleep h = settles _ _
-  a-served (grab uniq) h = a-grab _ uniq _
-  a-served (submit priority b f u size) h = a-submit _ priority b f u size
-  a-served (work how kind j n d) h = a-work _ how kind n d
-  a-served (getStatus j) h = a-status _ j
-  a-served (option name) h = a-option _ name
-  a-served echo h = settles _ _
-
-  a-admitted : (b o : Bool) (a : Asked) → badWithin a ≡ true → Answered c t (admitted b o c a t)
-  unfolding admitted
-  a-admitted false o a h = no 2 refl
-  a-admitted true false a h = cond-both (Answered c t) (isOpening a) (settles _ _) (no 3 refl)
-  a-admitted true true a h = a-served a h
-
-answered : (e : Event) (t : Table) → Answered (connectionOf e) t (decided e t)
-unfolding decided decide
-answered e t = a-admitted (connectionOf e) t _ _ (asked e) (asked-reads e)
+-- what is refused before anything is read is not told
+silences-untold : {t : Table} {e : Event} {n : ℕ} → Silences t e n → isTold n ≡ false
+unfolding isTold same
+silences-untold (noConnection f e) = refl
+silences-untold (closesNone c o) = refl
+silences-untold (sendsClosed c b o) = refl
+silences-untold (opensTwice c o) = refl
 
 -- ---- what a refusal leaves and sends
 
@@ -170,33 +120,65 @@ rework-same (j ∷ js) o (w ∷ ws) = rw (eq-eqb (j .row .serial) (j .row .seria
 abbrev pub errorPacket : ℕ → ℕ → Sent
 errorPacket c n = record { to = c; kind = 19; shown = (n / 10 + 48) ∷ (n % 10 + 48) ∷ 0 ∷ errorText n; opaquePart = [] }
 
+-- only a packet's sender is told
+pub record TellsSender (e : Event) (s : Server) : Type 0 where
+  pub sender : ℕ
+  pub bytes : Bytes
+  pub is : e ≡ sends sender bytes
+  pub sent : answer e s .sent ≡ errorPacket sender (answer e s .number) ∷ []
+
 -- "All refusals keep table and workloads. 1 to 8 write nothing [..]. 9 to 15 write one ERROR packet to the sender"
 pub record Refusal (e : Event) (s : Server) : Type 0 where
   pub keeps : next e s ≡ s
   pub least : 2 ≤ answer e s .number
   pub most : answer e s .number ≤ lastNumber
   pub silent : isTold (answer e s .number) ≡ false → answer e s .sent ≡ []
-  pub tells : isTold (answer e s .number) ≡ true → answer e s .sent ≡ errorPacket (connectionOf e) (answer e s .number) ∷ []
+  pub tells : isTold (answer e s .number) ≡ true → TellsSender e s
 
 -- every event is done, which is number 0, or refused
 pub data Fate (e : Event) (s : Server) : Type 0 where
   is-done : answer e s .number ≡ 0 → Fate e s
   is-refused : Refusal e s → Fate e s
 
-fate-by : (e : Event) (s : Server) (d : Decision) → decided e (s .table) ≡ d → Answered (connectionOf e) (s .table) d → Fate e s
-unfolding answer next settle refuse render join
-fate-by e s d q (settles ss u) = is-done (ap (λ (x : Decision). x .number) q)
-fate-by e s d q (refuses n l m) =
+settled-fate : (e : Event) (s : Server) (ss : List Send) (u : Table) → decided e s ≡ settle ss u → Fate e s
+unfolding answer settle
+settled-fate e s ss u q = is-done (ap (λ (x : Decision). x .number) q)
+
+-- the table stays, so do the workloads
+kept-server : (e : Event) (s : Server) → decided e s .table ≡ s .table → next e s ≡ s
+unfolding next
+kept-server e s q = rw q (ap (λ (ws : List Bytes). record { table = s .table; workloads = ws }) (rework-same (s .table .jobs) _ (s .workloads)))
+
+served-fate : (c : ℕ) (b : Bytes) (s : Server) (d : Decision) → decided (sends c b) s ≡ d → Served c (s .table) (requestIn b) d → Fate (sends c b) s
+unfolding answer refuse render join
+served-fate c b s d q (Served.done a ss u m) = settled-fate (sends c b) s ss u q
+served-fate c b s d q (Served.refused a n r) =
+    let w = refuses-between (λ k e. let z = bad-within b k e in (omega (arith, z .0), omega (arith, z .1))) r in
     is-refused (record {
-      keeps = rw q (ap (λ (ws : List Bytes). record { table = s .table; workloads = ws }) (rework-same (s .table .jobs) _ (s .workloads)));
-      least = rw q l;
-      most = rw q m;
+      keeps = kept-server (sends c b) s (ap (λ (x : Decision). x .table) q);
+      least = rw q (w .0);
+      most = rw q (w .1);
       silent = λ h. let i : isTold n ≡ false = rw q at h in rw (q, i);
-      tells = λ h. let i : isTold n ≡ true = rw q at h in rw (q, i);
+      tells = λ h. let i : isTold n ≡ true = rw q at h in record { sender = c; bytes = b; is = refl; sent = rw (q, i) };
     })
 
+outcome-fate : (e : Event) (s : Server) (d : Decision) → decided e s ≡ d → Outcome (s .table) e d → Fate e s
+unfolding answer silence
+outcome-fate e s d q (Outcome.silenced f n r) =
+    let w = silences-between r in
+    is-refused (record {
+      keeps = kept-server e s (ap (λ (x : Decision). x .table) q);
+      least = rw q (w .0);
+      most = rw q (w .1);
+      silent = λ h. rw q;
+      tells = λ h. let i : isTold n ≡ true = rw q at h in clash i (silences-untold r);
+    })
+outcome-fate e s d q (Outcome.opened c o) = settled-fate e s _ _ q
+outcome-fate e s d q (Outcome.closed c o) = settled-fate e s _ _ q
+outcome-fate e s d q (Outcome.serves c b f o r) = served-fate c b s f q r
+
 pub fate : (e : Event) (s : Server) → Fate e s
-fate e s = fate-by e s _ refl (answered e (s .table))
+fate e s = outcome-fate e s _ refl (outcome e s)
 
 -- a number that is not 0 is a refusal's
 pub refusal : (e : Event) (s : Server) → ¬ (answer e s .number ≡ 0) → Refusal e s

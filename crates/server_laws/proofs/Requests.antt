@@ -19,7 +19,7 @@ use Rattle.packet.specs.Packet.{Reading, refused, got, read, requests}
 use Rattle.packet.specs.Opaque.{masked}
 use Rattle.packet_laws.proofs.Packets.{Headed, header-good, Got, read-got}
 use Rattle.packet_laws.proofs.Splitting.{split-join}
-use Rattle.server.specs.Asked.{Event, opens, closes, sends, Work, tells, reports, ends, throws, Asked, toOpen, toClose, reset, preSleep, echo, bad, canDo, cantDo, grab, submit, work, getStatus, option, requested, fromReading, asked}
+use Rattle.server.specs.Requests.{Work, tells, reports, ends, throws, Request, reset, preSleep, echo, bad, canDo, cantDo, grab, submit, work, getStatus, option, requested, fromReading, requestIn}
 use Rattle.lists.proofs.Cases.{cond-both}
 use Rattle.lists.proofs.Rows.{clash}
 
@@ -42,9 +42,7 @@ Told ends n d = Unit {0}
 Told throws n d = Unit {0}
 
 -- what is asked is within 01's sizes
-abbrev pub Good : Asked → Type 0
-Good toOpen = Unit {0}
-Good toClose = Unit {0}
+abbrev pub Good : Request → Type 0
 Good reset = Unit {0}
 Good preSleep = Unit {0}
 Good echo = Unit {0}
@@ -86,18 +84,18 @@ priority-low kind =
 -- ---- what is asked, by the type's number
 
 -- the table of shapes beside the table of what is asked; beyond the second table nothing is asked
-data Beside (R : Shape → Asked → Type 0) : List Shape → List Asked → Type 0 where
+data Beside (R : Shape → Request → Type 0) : List Shape → List Request → Type 0 where
   beyond : {shapes : List Shape} → Beside R shapes []
-  line : {s : Shape} {a : Asked} {shapes : List Shape} {asks : List Asked} → R s a → Beside R shapes asks → Beside R (s ∷ shapes) (a ∷ asks)
+  line : {s : Shape} {a : Request} {shapes : List Shape} {asks : List Request} → R s a → Beside R shapes asks → Beside R (s ∷ shapes) (a ∷ asks)
 
-beside-at : {R : Shape → Asked → Type 0} {shapes : List Shape} {asks : List Asked} → ((s : Shape) → R s (bad 9)) → Beside R shapes asks → (i : ℕ) → R (getD shapes i Foreign) (getD asks i (bad 9))
+beside-at : {R : Shape → Request → Type 0} {shapes : List Shape} {asks : List Request} → ((s : Shape) → R s (bad 9)) → Beside R shapes asks → (i : ℕ) → R (getD shapes i Foreign) (getD asks i (bad 9))
 beside-at f beyond i = f _
 beside-at f (line r rs) zero = r
 beside-at f (line r rs) (suc i) = beside-at f rs i
 
 module _ (kind : ℕ) (args : List Bytes) (small : length (join args) ≤ 1024) where
   -- a request of this shape asks something good
-  abbrev Asks : Shape → Asked → Type 0
+  abbrev Asks : Shape → Request → Type 0
   Asks shape a = fitAll (rulesOf shape) args ≡ true → Good a
 
   submission : Asks Submission (submit (priorityOf kind) (backgroundOf kind) (getD args 0 []) (getD args 1 []) (length (getD args 2 [])))
@@ -131,7 +129,7 @@ module _ (kind : ℕ) (args : List Bytes) (small : length (join args) ≤ 1024) 
       (line submission (line submission (line {shapes = Foreign ∷ Foreign ∷ []} submission beyond)))))))))))))))))))))))))))))))))))
       kind
 
--- ---- what an event asks
+-- ---- what a packet asks
 
 pub good-reading : (s : Bytes) (r : Reading) → read requests s ≡ r → Good (fromReading r)
 good-reading s (refused n) e = tt
@@ -141,8 +139,6 @@ good-reading s (got kind args) e =
     let h : Headed (requests .magic) 1024 s = header-good (requests .magic) 1024 s (g .headed) in
     good-requested kind args (omega (arith, ap length (j .0), length-drop 12 s, h .whole, h .limited)) (j .1)
 
-pub good-asked : (e : Event) → Good (asked e)
-unfolding asked
-good-asked (opens c) = tt
-good-asked (closes c) = tt
-good-asked (sends c b) = good-reading (masked requests b) _ refl
+pub good-request : (b : Bytes) → Good (requestIn b)
+unfolding requestIn
+good-request b = good-reading (masked requests b) _ refl

@@ -16,13 +16,14 @@ use Rattle.octets.specs.Bytes.{Bytes}
 use Rattle.sets.specs.Sets.{has, insert}
 use Rattle.server.specs.declared.Connection.{Connection}
 use Rattle.server.specs.declared.JobRow.{JobRow}
-use Rattle.server.specs.Table.{Function, Job, Table, fresh, noJob, jobAt, live, heldBy, freePlace, withConnections, withFunctions, setJob}
-use Rattle.server.specs.Asked.{Work, tells, reports, ends, throws, Event, connectionOf, asked, Asked, submit}
-use Rattle.server.specs.Events.{Send, Decision, lost, unlessLost, refuse, dropped, toWake, woken, forgot, settle, opening, closing, leftBy, unableToAll, sleeping, submittedBy, newJob, created, accepted, worked, noop}
+use Rattle.server.specs.Table.{Function, Job, Table, fresh, noRow, noJob, jobAt, rowsOf, live, heldBy, freeRow, freePlace, withConnections, withFunctions, setJob}
+use Rattle.server.specs.Requests.{Work, tells, reports, ends, throws, Event, sends, requestIn, Request, submit}
+use Rattle.server.specs.Events.{Send, Decision, lost, unlessLost, silence, refuse, dropped, toWake, woken, forgot, settle, opening, closing, leftBy, unableToAll, sleeping, submittedBy, newJob, created, accepted, worked, noop}
 use Rattle.server.specs.Server.{Server, next, decided, start, after}
 use Rattle.lists.proofs.Searches.{found}
 use Rattle.lists.proofs.Cases.{All2, cond-both, all2-same, all2-set, all2-map, all2-trans, all2-at}
-use Rattle.server_laws.proofs.Outcome.{Change, closed, able, unknown, disabled, cleared, slept, noJobFor, grabbed, joins, accepts, worker, status, optioned, echoed, Outcome, refused, opened, done, outcome}
+use Rattle.server_laws.proofs.Numbers.{row-at, rows-long}
+use Rattle.server_laws.proofs.Outcome.{Change, able, unknown, disabled, cleared, slept, noJobFor, grabbed, joins, accepts, worker, status, optioned, echoed, Served, refused, done, Outcome, silenced, opened, closed, serves, outcome}
 
 -- ---- places before and after
 
@@ -49,13 +50,21 @@ pub record Makes (c : ℕ) (t : Table) (d : Decision) : Type 0 where
   pub sleepers : List ℕ
   pub packets : d .packets ≡ created c (suc (t .last)) ∷ map noop sleepers
 
-pub data IsSubmit : Asked → Type 0 where
+pub data IsSubmit : Request → Type 0 where
   is-submit : {priority : ℕ} {background : Bool} {f u : Bytes} {size : ℕ} → IsSubmit (submit priority background f u size)
 
--- what was asked, and what is done: only a submission makes a job
-pub data Moves (c : ℕ) (a : Asked) (t : Table) (d : Decision) : Type 0 where
-  stays : Stays t (d .table) → Moves c a t d
-  makes : IsSubmit a → Makes c t d → Moves c a t d
+-- the event is a submission of connection c
+pub data Submits : Event → ℕ → Type 0 where
+  submits : (c : ℕ) (b : Bytes) → IsSubmit (requestIn b) → Submits (sends c b) c
+
+-- only a submission makes a job
+data Shifts (c : ℕ) (a : Request) (t : Table) (d : Decision) : Type 0 where
+  stays : Stays t (d .table) → Shifts c a t d
+  makes : IsSubmit a → Makes c t d → Shifts c a t d
+
+pub data Moves (e : Event) (t : Table) (d : Decision) : Type 0 where
+  keeps : Stays t (d .table) → Moves e t d
+  adds : (c : ℕ) → Submits e c → Makes c t d → Moves e t d
 
 then-keep : {n : ℕ} (j k l : Job) → Follows n j k → Follows 0 k l → Follows n j l
 then-keep j k l (kept p) (kept q) = kept (q ∙ p)
@@ -73,7 +82,7 @@ dropped-follows : (j : Job) → Follows 0 j (unlessLost j)
 dropped-follows j = cond-both (Follows 0 j) (lost (j .row)) (ended refl) (kept refl)
 
 settled : (ss : List Send) (t : Table) → Stays t (settle ss t .table)
-unfolding settle dropped forgot woken
+unfolding settle dropped forgot
 settled ss t = record { jobs = all2-map (Follows 0) unlessLost dropped-follows (t .jobs); last = refl }
 
 then-settled : {t u : Table} (ss : List Send) → Stays t u → Stays t (settle ss u .table)
@@ -103,10 +112,11 @@ worked-follows throws n d j = ended refl
 -- ---- a new job
 
 free-place : (t : Table) (p : ℕ) → freePlace t ≡ some p → (jobAt t p .row .serial ≡ 0) × (p < length (t .jobs))
-unfolding freePlace
+unfolding freeRow
 free-place t p e =
-    let h = found (λ j. not (live (j .row))) noJob (t .jobs) (some p) e in
-    (eqb-true _ 0 (not-false _ (not-true _ (h .passes))), h .inside)
+    let h = found (λ r. not (live r)) noRow (rowsOf t) (some p) e in
+    let n : not (live (jobAt t p .row)) ≡ true = rw (row-at t p) at (h .passes) in
+    (eqb-true _ 0 (not-false _ (not-true _ n)), rw (rows-long t) at (h .inside))
 
 -- a set with a connection put in is not empty
 insert-some : (c : ℕ) → insert 0 c ≡ 0 → ⊥
@@ -120,7 +130,7 @@ new-stays c priority false q u size n = rw (ne-eqb (insert 0 c) 0 (insert-some c
 
 made : (c : ℕ) (t : Table) (priority : ℕ) (b : Bool) (f u : Bytes) (size q p : ℕ) → freePlace t ≡ some p → t .last < 4294967295
     → Makes c t (settle (created c (suc (t .last)) ∷ []) (accepted q f p (newJob c priority b q u size (suc (t .last))) t))
-unfolding settle dropped forgot woken
+unfolding settle dropped forgot
 made c t priority b f u size q p e m =
     let h = free-place t p e in
     let j : Job = newJob c priority b q u size (suc (t .last)) in
@@ -139,11 +149,13 @@ made c t priority b f u size q p e m =
 
 -- ---- every event
 
-changes : {c : ℕ} {t : Table} {a : Asked} {ss : List Send} {u : Table} → Change c t a ss u → Moves c a t (settle ss u)
-unfolding closing unableToAll sleeping
-changes {c} {t} closed =
-    let js = all2-map (Follows 0) (leftBy c) (λ j. kept (cond-both (λ (k : Job). k .row .serial ≡ j .row .serial) (heldBy c (j .row)) refl refl)) (t .jobs) in
-    stays (then-settled [] (record { jobs = js; last = refl }))
+left-stays : (c : ℕ) (t : Table) → Stays t (closing c t)
+unfolding closing
+left-stays c t =
+    record { jobs = all2-map (Follows 0) (leftBy c) (λ j. kept (cond-both (λ (k : Job). k .row .serial ≡ j .row .serial) (heldBy c (j .row)) refl refl)) (t .jobs); last = refl }
+
+changes : {c : ℕ} {t : Table} {a : Request} {ss : List Send} {u : Table} → Change c t a ss u → Shifts c a t (settle ss u)
+unfolding unableToAll sleeping
 changes {t} (able f q e) = stays (then-settled _ (idle t _ _))
 changes {t} (unknown f e) = stays (then-settled _ (idle t _ _))
 changes {t} (disabled f q e) = stays (then-settled _ (idle t _ _))
@@ -154,19 +166,28 @@ changes {t} (grabbed uniq p e) = stays (then-settled _ (one-job t _ p _ (kept re
 changes {c} {t} (joins priority b f u size p e) = stays (then-settled _ (one-job t _ p _ (kept (submitted-serial c b _))))
 changes {c} {t} (accepts priority b f u size q p e₁ e₂ e₃ m) = makes is-submit (made c t priority b f u size q p e₃ m)
 changes {t} (worker how kind h n d p e) = stays (then-settled _ (one-job t _ p _ (worked-follows how n d _)))
-changes {t} (status h as′) = stays (then-settled _ (idle t _ _))
+changes {t} (status h o e) = stays (then-settled _ (idle t _ _))
 changes {t} (optioned name e) = stays (then-settled _ (idle t _ _))
 changes {t} echoed = stays (then-settled _ (idle t _ _))
 
-outcome-moves : {c : ℕ} {t : Table} {a : Asked} {d : Decision} → Outcome c t a d → Moves c a t d
-unfolding opening refuse
-outcome-moves {t} (refused a n) = stays (idle t _ _)
-outcome-moves {t} (opened a h i e) = stays (then-settled [] (idle t _ _))
-outcome-moves (done a ss u i o m) = changes m
+served-shifts : {c : ℕ} {t : Table} {a : Request} {d : Decision} → Served c t a d → Shifts c a t d
+unfolding refuse
+served-shifts {t} (refused a n r) = stays (idle t _ _)
+served-shifts (done a ss u m) = changes m
 
-pub moved : (e : Event) (t : Table) → Moves (connectionOf e) (asked e) t (decided e t)
-unfolding decided
-moved e t = outcome-moves (outcome (connectionOf e) (asked e) t)
+outcome-moves : {t : Table} {e : Event} {d : Decision} → Outcome t e d → Moves e t d
+unfolding opening silence
+outcome-moves {t} (silenced e n r) = keeps (idle t _ _)
+outcome-moves {t} (opened c o) = keeps (then-settled [] (idle t _ _))
+outcome-moves {t} (closed c o) = keeps (then-settled [] (left-stays c t))
+outcome-moves {t} (serves c b d o r) = by (served-shifts r)
+  where
+    by : Shifts c (requestIn b) t d → Moves (sends c b) t d
+    by (stays m) = keeps m
+    by (makes i m) = adds c (submits c b i) m
+
+pub moved : (e : Event) (s : Server) → Moves e (s .table) (decided e s)
+moved e s = outcome-moves (outcome e s)
 
 -- ---- jobs that an event creates, and the last serial
 
@@ -179,7 +200,8 @@ pub record Creates (s : Server) (e : Event) (serial : ℕ) : Type 0 where
 
 -- it is a submission that did, the serial is the next one, and it fits into four bytes
 pub record Numbered (s : Server) (e : Event) (serial : ℕ) : Type 0 where
-  pub asks : IsSubmit (asked e)
+  pub sender : ℕ
+  pub asks : Submits e sender
   pub is : serial ≡ suc (s .table .last)
   pub last : next e s .table .last ≡ serial
   pub room : serial < 2 ^ 32
@@ -189,12 +211,12 @@ began-is n k j l p z m (kept q) = absurd (m (sym q ∙ p))
 began-is n k j l p z m (ended q) = absurd (z (sym p ∙ q))
 began-is n k j l p z m (began q) = sym p ∙ q
 
-creates-is : {s : Server} {e : Event} {k : ℕ} (n : ℕ) → Creates s e k → All2 (Follows n) (s .table .jobs) (decided e (s .table) .table .jobs) → k ≡ n
+creates-is : {s : Server} {e : Event} {k : ℕ} (n : ℕ) → Creates s e k → All2 (Follows n) (s .table .jobs) (decided e s .table .jobs) → k ≡ n
 unfolding next
 creates-is {k = k} n c js = began-is n k _ _ (c .is) (c .some) (c .new) (all2-at js (c .place) noJob noJob (same-job noJob))
 
 -- where nothing new may stand but at one place, what is created stands there
-here : {s : Server} {e : Event} {k : ℕ} (p : ℕ) → ((i : ℕ) → ¬ (i ≡ p) → Follows 0 (jobAt (s .table) i) (jobAt (decided e (s .table) .table) i)) → (c : Creates s e k) → c .place ≡ p
+here : {s : Server} {e : Event} {k : ℕ} (p : ℕ) → ((i : ℕ) → ¬ (i ≡ p) → Follows 0 (jobAt (s .table) i) (jobAt (decided e s .table) i)) → (c : Creates s e k) → c .place ≡ p
 unfolding next
 here {k = k} p only c = elim (ℕ-discrete (c .place) p) [
   | yes q ↦ q
@@ -204,18 +226,18 @@ here {k = k} p only c = elim (ℕ-discrete (c .place) p) [
 -- an event makes no job and creates nothing, or makes one, and the job with the next serial is created
 pub data Creation (s : Server) (e : Event) : Type 0 where
   nothing : Stays (s .table) (next e s .table) → ((k : ℕ) → ¬ Creates s e k) → Creation s e
-  one : Makes (connectionOf e) (s .table) (decided e (s .table)) → Creates s e (suc (s .table .last)) → ((k : ℕ) → Creates s e k → Numbered s e k) → Creation s e
+  one : (c : ℕ) → Submits e c → Makes c (s .table) (decided e s) → Creates s e (suc (s .table .last)) → ((k : ℕ) → Creates s e k → Numbered s e k) → Creation s e
 
-creation-by : (s : Server) (e : Event) → Moves (connectionOf e) (asked e) (s .table) (decided e (s .table)) → Creation s e
+creation-by : (s : Server) (e : Event) → Moves e (s .table) (decided e s) → Creation s e
 unfolding next
-creation-by s e (stays m) = nothing m (λ k c. c .some (creates-is 0 c (m .jobs)))
-creation-by s e (makes i m) =
-    one m
+creation-by s e (keeps m) = nothing m (λ k c. c .some (creates-is 0 c (m .jobs)))
+creation-by s e (adds d i m) =
+    one d i m
     (record { place = m .place; is = m .new; some = λ z. omega arith; new = λ z. omega (arith, m .free) })
-    (λ k c. let q : k ≡ suc (s .table .last) = creates-is _ c (m .jobs) in record { asks = i; is = q; last = m .last ∙ sym q; room = omega (arith, m .room) })
+    (λ k c. let q : k ≡ suc (s .table .last) = creates-is _ c (m .jobs) in record { sender = d; asks = i; is = q; last = m .last ∙ sym q; room = omega (arith, m .room) })
 
 pub creation : (s : Server) (e : Event) → Creation s e
-creation s e = creation-by s e (moved e (s .table))
+creation s e = creation-by s e (moved e s)
 
 -- "Serials are never used again": what is created is numbered by the next serial
 pub numbered : {s : Server} {e : Event} {k : ℕ} → Creates s e k → Numbered s e k
@@ -223,7 +245,7 @@ numbered {s} {e} {k} c = numbered-by (creation s e)
   where
     numbered-by : Creation s e → Numbered s e k
     numbered-by (nothing m n) = absurd (n k c)
-    numbered-by (one m d f) = f k c
+    numbered-by (one d i m x f) = f k c
 
 -- an event creates a job at one place only
 pub one-place : {s : Server} {e : Event} {k m : ℕ} (c : Creates s e k) (d : Creates s e m) → c .place ≡ d .place
@@ -232,7 +254,7 @@ one-place {s} {e} {k} {m} c d = by (creation s e)
   where
     by : Creation s e → c .place ≡ d .place
     by (nothing w n) = absurd (n k c)
-    by (one w x f) = here (w .place) (w .only) c ∙ sym (here (w .place) (w .only) d)
+    by (one c₁ i w x f) = here (w .place) (w .only) c ∙ sym (here (w .place) (w .only) d)
 
 -- the last serial grows by one exactly if a job is created
 pub grown-creates : (s : Server) (e : Event) → next e s .table .last ≡ suc (s .table .last) → Creates s e (suc (s .table .last))
@@ -240,7 +262,7 @@ grown-creates s e g = by (creation s e)
   where
     by : Creation s e → Creates s e (suc (s .table .last))
     by (nothing m n) = absurd (omega (arith, m .last))
-    by (one m d f) = d
+    by (one c i m d f) = d
 
 pub creates-grown : {s : Server} {e : Event} {k : ℕ} → Creates s e k → next e s .table .last ≡ suc (s .table .last)
 creates-grown c = let x = numbered c in x .last ∙ x .is
@@ -251,7 +273,7 @@ last-kept s e = by (creation s e)
   where
     by : Creation s e → s .table .last ≤ next e s .table .last
     by (nothing m n) = omega (arith, m .last)
-    by (one m d f) = omega (arith, f _ d .last)
+    by (one c i m d f) = omega (arith, f _ d .last)
 
 pub last-rises : (es : List Event) (s : Server) → s .table .last ≤ after s es .table .last
 unfolding after
@@ -264,7 +286,7 @@ last-small s e h = by (creation s e)
   where
     by : Creation s e → next e s .table .last < 2 ^ 32
     by (nothing m n) = omega (arith, m .last)
-    by (one m d f) = omega (arith, f _ d .last, f _ d .room)
+    by (one c i m d f) = omega (arith, f _ d .last, f _ d .room)
 
 small-after : (es : List Event) (s : Server) → s .table .last < 2 ^ 32 → after s es .table .last < 2 ^ 32
 unfolding after

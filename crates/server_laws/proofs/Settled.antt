@@ -12,13 +12,15 @@ use Rattle.octets.proofs.Strings.{and-left, and-right, and-both}
 use Rattle.sets.specs.Sets.{has, isEmpty}
 use Rattle.sets.proofs.Laws.{zero-has}
 use Rattle.server.specs.declared.Connection.{Connection}
+use Rattle.server.specs.declared.JobRow.{JobRow}
 use Rattle.lists.specs.Lists.{any, implies}
 use Rattle.server.specs.Sizes.{nameSize}
-use Rattle.server.specs.Table.{Function, Job, Table, closed, noFunction, noJob, connectionAt, functionAt, jobAt, live, queued, able, names, wanted, grabbable}
-use Rattle.server.specs.Events.{lost, unlessLost, dropped, wakes, awake, woken, forgot}
+use Rattle.server.specs.Table.{Function, Job, Table, closed, noFunction, noJob, connectionAt, functionAt, jobAt, rowsOf, ablesOf, noRow, live, queued, able, names, wanted, grabbable}
+use Rattle.server.specs.Events.{lost, unlessLost, dropped, wakes, awake, wokenIn, woken, forgot}
 use Rattle.server.specs.Rules.{textWithin, isKnown, namesApart, asDefined, functionsAsDefined, isOpen, onlyOpen, queuedAwaited, sleeperIdle, sleepersIdleFrom, sleepersIdle}
 use Rattle.lists.proofs.Cases.{cond-both, cond-cases, All2, all2-map, all2-at}
 use Rattle.lists.proofs.Rows.{clash, never, implies-by, implies-use, or-right, or-false, all-row, all-imp, all-made, all-kept, pairwise-kept, any-at, any-imp, any-where, length-mapFrom, mapFrom-at, all2-mapFrom}
+use Rattle.server_laws.proofs.Numbers.{row-at, able-at, rows-long}
 use Rattle.server_laws.proofs.Openness.{none-open, open-more, holder-more}
 use Rattle.server_laws.proofs.Sound.{Sound, sound-connections, sound-functions}
 use Rattle.server_laws.proofs.Jobs.{Goes, over, on, sound-jobs, either}
@@ -51,16 +53,16 @@ record Woke (x y : Connection) : Type 0 where
   clear : implies (x .asleep || x .exceptions) (x .opened) ≡ true → implies (y .asleep || y .exceptions) (y .opened) ≡ true
 
 abbrev pub rouse : Table → ℕ → Connection → Connection
-rouse t c x = cond (wakes (t .functions) (t .jobs) c x) (awake x) x
+rouse t c x = cond (wakes (ablesOf t) (rowsOf t) c x) (awake x) x
 
 rouse-woke : (t : Table) (c : ℕ) (x : Connection) → Woke x (rouse t c x)
 rouse-woke t c x =
-    cond-both (Woke x) (wakes (t .functions) (t .jobs) c x)
+    cond-both (Woke x) (wakes (ablesOf t) (rowsOf t) c x)
     (record { opened = refl; clear = λ e. implies-by (x .exceptions) (x .opened) (λ q. implies-use (x .asleep || x .exceptions) (x .opened) e (or-right (x .asleep) (x .exceptions) q)) })
     (record { opened = refl; clear = λ e. e })
 
 pub sound-woken : (t : Table) → Sound t → Sound (woken t)
-unfolding woken
+unfolding wokenIn
 sound-woken t h =
     let u = woken t in
     let g : All2 Woke (t .connections) (u .connections) = all2-mapFrom Woke (rouse t) (rouse-woke t) 0 (t .connections) in
@@ -74,7 +76,7 @@ sound-woken t h =
     h
 
 pub woken-at : (t : Table) (c : ℕ) → connectionAt (woken t) c ≡ rouse t c (connectionAt t c)
-unfolding woken
+unfolding wokenIn
 woken-at t c = mapFrom-at (rouse t) closed (λ i. refl) (t .connections) c
 
 -- ---- functions that nobody wants are forgotten
@@ -84,20 +86,20 @@ data Forgets (x : Function) : Function → Type 0 where
   gone : Forgets x noFunction
 
 abbrev forget : Table → ℕ → Function → Function
-forget t q x = cond (wanted (t .jobs) q x) x noFunction
+forget t q x = cond (wanted (rowsOf t) q (x .able)) x noFunction
 
 pub forgot-at : (t : Table) (q : ℕ) → functionAt (forgot t) q ≡ forget t q (functionAt t q)
 unfolding forgot
-forgot-at t q = mapFrom-at (forget t) noFunction (λ i. cond-both (λ (x : Function). x ≡ noFunction) (wanted (t .jobs) i noFunction) refl refl) (t .functions) q
+forgot-at t q = mapFrom-at (forget t) noFunction (λ i. cond-both (λ (x : Function). x ≡ noFunction) (wanted (rowsOf t) i (noFunction .able)) refl refl) (t .functions) q
 
-stays : (t : Table) (q : ℕ) → wanted (t .jobs) q (functionAt t q) ≡ true → functionAt (forgot t) q ≡ functionAt t q
+stays : (t : Table) (q : ℕ) → wanted (rowsOf t) q (functionAt t q .able) ≡ true → functionAt (forgot t) q ≡ functionAt t q
 stays t q e = forgot-at t q ∙ rw e
 
 -- an unfinished job wants its function
-pub job-wants : (t : Table) (i : ℕ) (x : Function) → i < length (t .jobs) → live (jobAt t i .row) ≡ true → wanted (t .jobs) (jobAt t i .row .function) x ≡ true
+pub job-wants : (t : Table) (i : ℕ) (x : Function) → i < length (t .jobs) → live (jobAt t i .row) ≡ true → wanted (rowsOf t) (jobAt t i .row .function) (x .able) ≡ true
 job-wants t i x l e =
     or-right (not (isEmpty (x .able))) _
-    (any-at (λ j. names (jobAt t i .row .function) (j .row)) (t .jobs) i noJob l (and-both (live (jobAt t i .row)) _ e (eq-eqb (jobAt t i .row .function) _ refl)))
+    (any-at (names (jobAt t i .row .function)) (rowsOf t) i noRow (rw (rows-long t) l) (rw (row-at t i) (and-both (live (jobAt t i .row)) _ e (eq-eqb (jobAt t i .row .function) _ refl))))
 
 names-forgot : (x y a b : Function) → Forgets x a → Forgets y b → namesApart x y ≡ true → namesApart a b ≡ true
 unfolding same
@@ -108,7 +110,7 @@ names-forgot x y a b kept kept e = e
 pub sound-forgot : (t : Table) → Sound t → Sound (forgot t)
 unfolding forgot firstZero
 sound-forgot t h =
-    let g : All2 Forgets (t .functions) (forgot t .functions) = all2-mapFrom Forgets (forget t) (λ q x. cond-both (Forgets x) (wanted (t .jobs) q x) kept gone) 0 (t .functions) in
+    let g : All2 Forgets (t .functions) (forgot t .functions) = all2-mapFrom Forgets (forget t) (λ q x. cond-both (Forgets x) (wanted (rowsOf t) q (x .able)) kept gone) 0 (t .functions) in
     sound-functions t (forgot t .functions) (length-mapFrom (forget t) 0 (t .functions))
     (λ i l e. ap (λ (x : Function). x .name) (stays t (jobAt t i .row .function) (job-wants t i (functionAt t (jobAt t i .row .function)) l e)))
     (all-kept _ _ (λ x y r. forgets-all (λ (z : Function). textWithin nameSize (z .name) ≡ true) r refl) g (h .names))
@@ -122,49 +124,53 @@ sound-forgot t h =
     forgets-all P gone n p = n
 
 -- a wanted place has a name
-wanted-known : (t : Table) → Sound t → (q : ℕ) → wanted (t .jobs) q (functionAt t q) ≡ true → isKnown (functionAt t q) ≡ true
+wanted-known : (t : Table) → Sound t → (q : ℕ) → wanted (rowsOf t) q (functionAt t q .able) ≡ true → isKnown (functionAt t q) ≡ true
 wanted-known t h q e = go (isEmpty (functionAt t q .able)) refl e
   where
     named : not (isEmpty (functionAt t q .able)) ≡ true → isKnown (functionAt t q) ≡ true
     named w = implies-use (not (isEmpty (functionAt t q .able))) _ (all-row (λ x. implies (not (isEmpty (x .able))) (isKnown x)) (t .functions) q noFunction (h .ablesKnown) refl) w
 
-    go : (b : Bool) → isEmpty (functionAt t q .able) ≡ b → not b || any (λ j. names q (j .row)) (t .jobs) ≡ true → isKnown (functionAt t q) ≡ true
+    go : (b : Bool) → isEmpty (functionAt t q .able) ≡ b → not b || any (names q) (rowsOf t) ≡ true → isKnown (functionAt t q) ≡ true
     go false r w = named (ap not r)
     go true r w =
-        let (i, l, n) = any-where (λ j. names q (j .row)) (t .jobs) noJob w in
+        let (i, k, m) = any-where (names q) (rowsOf t) noRow w in
+        let n : names q (jobAt t i .row) ≡ true = rw (row-at t i) at m in
+        let l : i < length (t .jobs) = rw (rows-long t) at k in
         let f : jobAt t i .row .function ≡ q = eqb-true _ q (and-right (live (jobAt t i .row)) _ n) in
         rw f at (job-known t h i l (and-left (live (jobAt t i .row)) _ n))
 
 -- the place is as defined
-abbrev pub placeDefined : List Job → ℕ → Function → Bool
-placeDefined js q x = cond (isKnown x) (wanted js q x) (not (wanted js q x))
+abbrev pub placeDefined : List JobRow → ℕ → Function → Bool
+placeDefined rs q x = cond (isKnown x) (wanted rs q (x .able)) (not (wanted rs q (x .able)))
 
-defined-from : (js : List Job) (i : ℕ) (fs : List Function) → ((k : ℕ) → k < length fs → placeDefined js (i + k) (getD fs k noFunction) ≡ true) → asDefined js i fs ≡ true
-defined-from js i [] f = refl
-defined-from js i (x ∷ fs) f =
-    and-both (placeDefined js i x) _ (subst (λ (n : ℕ). placeDefined js n x ≡ true) (omega arith) (f 0 (suc-le-suc zero-le)))
-    (defined-from js (suc i) fs (λ k l. subst (λ (n : ℕ). placeDefined js n (getD fs k noFunction) ≡ true) (omega arith) (f (suc k) (suc-le-suc l))))
+defined-from : (rs : List JobRow) (i : ℕ) (fs : List Function) → ((k : ℕ) → k < length fs → placeDefined rs (i + k) (getD fs k noFunction) ≡ true) → asDefined rs i fs ≡ true
+defined-from rs i [] f = refl
+defined-from rs i (x ∷ fs) f =
+    and-both (placeDefined rs i x) _ (subst (λ (n : ℕ). placeDefined rs n x ≡ true) (omega arith) (f 0 (suc-le-suc zero-le)))
+    (defined-from rs (suc i) fs (λ k l. subst (λ (n : ℕ). placeDefined rs n (getD fs k noFunction) ≡ true) (omega arith) (f (suc k) (suc-le-suc l))))
 
-forget-defined : (t : Table) → Sound t → (q : ℕ) → placeDefined (t .jobs) q (forget t q (functionAt t q)) ≡ true
+forget-defined : (t : Table) → Sound t → (q : ℕ) → placeDefined (rowsOf t) q (forget t q (functionAt t q)) ≡ true
 unfolding same
 forget-defined t h q =
-    cond-cases (λ (x : Function). placeDefined (t .jobs) q x ≡ true) (wanted (t .jobs) q (functionAt t q))
+    cond-cases (λ (x : Function). placeDefined (rowsOf t) q x ≡ true) (wanted (rowsOf t) q (functionAt t q .able))
     (λ e. rw (wanted-known t h q e) e)
     (λ e. ap not (or-false (not (isEmpty (functionAt t q .able))) _ e .1))
 
 pub forgot-defined : (t : Table) → Sound t → functionsAsDefined (forgot t) ≡ true
 unfolding forgot
 forgot-defined t h =
-    defined-from (t .jobs) 0 (forgot t .functions) (λ k l. subst (λ (n : ℕ). placeDefined (t .jobs) n (functionAt (forgot t) k) ≡ true) (sym (zero-add k))
+    defined-from (rowsOf t) 0 (forgot t .functions) (λ k l. subst (λ (n : ℕ). placeDefined (rowsOf t) n (functionAt (forgot t) k) ≡ true) (sym (zero-add k))
     (rw (forgot-at t k) (forget-defined t h k)))
 
 -- ---- no sleeper has a grabbable job
 
 -- forgetting makes nobody able
-forgot-able : (t : Table) (q c : ℕ) → able (forgot t .functions) q c ≡ true → able (t .functions) q c ≡ true
+forgot-able : (t : Table) (q c : ℕ) → able (ablesOf (forgot t)) q c ≡ true → able (ablesOf t) q c ≡ true
 forgot-able t q c e =
-    cond-both (λ (x : Function). has (x .able) c ≡ true → able (t .functions) q c ≡ true) (wanted (t .jobs) q (functionAt t q)) (λ g. g) (λ g. clash g (zero-has c))
-    (subst (λ (x : Function). has (x .able) c ≡ true) (forgot-at t q) e)
+    let a : has (functionAt (forgot t) q .able) c ≡ true = rw (able-at (forgot t) q) at e in
+    rw (able-at t q)
+    (cond-both (λ (x : Function). has (x .able) c ≡ true → has (functionAt t q .able) c ≡ true) (wanted (rowsOf t) q (functionAt t q .able)) (λ g. g) (λ g. clash g (zero-has c))
+    (subst (λ (x : Function). has (x .able) c ≡ true) (forgot-at t q) a))
 
 idle-from : (t : Table) (i : ℕ) (cs : List Connection) → ((k : ℕ) → k < length cs → sleeperIdle t (i + k) (getD cs k closed) ≡ true) → sleepersIdleFrom t i cs ≡ true
 idle-from t i [] f = refl
@@ -177,17 +183,15 @@ idle-by t f = idle-from t 0 (t .connections) (λ k l. subst (λ (n : ℕ). sleep
 
 -- after waking, a connection that sleeps had no grabbable job
 rouse-idle : (t : Table) (c : ℕ) (x : Connection) → sleeperIdle (forgot (woken t)) c (rouse t c x) ≡ true
-unfolding forgot woken
+unfolding forgot wokenIn
 rouse-idle t c x =
-    cond-cases (λ (y : Connection). sleeperIdle (forgot (woken t)) c y ≡ true) (wakes (t .functions) (t .jobs) c x)
+    cond-cases (λ (y : Connection). sleeperIdle (forgot (woken t)) c y ≡ true) (wakes (ablesOf t) (rowsOf t) c x)
     (λ e. refl)
     (λ e. implies-by (x .asleep) _ (λ s. ap not (never _ (λ a. clash (and-both (x .asleep) _ s
-    (any-imp (λ j. grabbable (forgot (woken t) .functions) c (j .row)) (λ j. grabbable (t .functions) c (j .row)) still (t .jobs) a)) e))))
+    (any-imp (grabbable (ablesOf (forgot (woken t))) c) (grabbable (ablesOf t) c) still (rowsOf t) a)) e))))
   where
-    still : (j : Job) → grabbable (forgot (woken t) .functions) c (j .row) ≡ true → grabbable (t .functions) c (j .row) ≡ true
-    still j g =
-        and-both (queued (j .row)) _ (and-left (queued (j .row)) _ g)
-        (forgot-able (woken t) (j .row .function) c (and-right (queued (j .row)) _ g))
+    still : (r : JobRow) → grabbable (ablesOf (forgot (woken t))) c r ≡ true → grabbable (ablesOf t) c r ≡ true
+    still r g = and-both (queued r) _ (and-left (queued r) _ g) (forgot-able (woken t) (r .function) c (and-right (queued r) _ g))
 
 pub settled-idle : (t : Table) → sleepersIdle (forgot (woken t)) ≡ true
 unfolding forgot

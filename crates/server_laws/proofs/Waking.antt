@@ -7,7 +7,7 @@ use mathlib.Core.Option.{none, some}
 use mathlib.Core.List.{List, _∷_, map}
 use native.Mathlib.Decide.{ℕ-discrete}
 use borrow.Author.Tests.{lt-ltb}
-use lib.ListN.{length, length-set, length-map, List·getD-map}
+use lib.ListN.{length, getD, length-set, length-map, List·getD-map}
 use lib.Seq.{getD-set-same, getD-set-other}
 use lib.Dec.{eqb·suc-zero}
 use Rattle.octets.specs.Bytes.{Bytes}
@@ -16,13 +16,14 @@ use Rattle.sets.specs.Sets.{has, insert}
 use Rattle.sets.proofs.Laws.{has-insert-same, nonempty}
 use Rattle.server.specs.declared.JobRow.{JobRow}
 use Rattle.lists.specs.Lists.{any, filter, numbers}
-use Rattle.server.specs.Table.{Function, Job, Table, noFunction, noJob, connectionAt, functionAt, jobAt, live, queued, able, grabbable, roomFor, freePlace, joined, withName, freshRow}
-use Rattle.server.specs.Asked.{submit}
-use Rattle.server.specs.Events.{settle, lost, unlessLost, dropped, wakes, toWake, noop, submittedBy, created, newJob, accepted, submitNew, submitTo, served}
+use Rattle.server.specs.Table.{Function, Job, Table, noFunction, noJob, connectionAt, functionAt, jobAt, rowsOf, ablesOf, noRow, freeRow, live, queued, able, grabbable, roomFor, freePlace, joined, withName, freshRow}
+use Rattle.server.specs.Requests.{submit}
+use Rattle.server.specs.Events.{settle, lost, unlessLost, dropped, wakes, toWakeIn, toWake, noop, submittedBy, created, newJob, accepted, submitNew, submitTo, served}
 use Rattle.server.specs.Rules.{obeys}
 use Rattle.lists.proofs.Cases.{cond-cases}
 use Rattle.lists.proofs.Searches.{found}
 use Rattle.lists.proofs.Rows.{clash, never, iff, any-at, any-where}
+use Rattle.server_laws.proofs.Numbers.{row-at, able-at, rows-long}
 use Rattle.server_laws.proofs.Functions.{room}
 use Rattle.server_laws.proofs.Accepting.{Kept, submitted-keeps}
 use Rattle.server_laws.proofs.Obeyed.{obeyed}
@@ -43,8 +44,8 @@ module _ (c : ℕ) (t : Table) (priority : ℕ) (background : Bool) (f u : Bytes
   keeps = submitted-keeps c background bare
 
   place-inside : p < length (t .jobs)
-  unfolding freePlace
-  place-inside = found (λ j. not (live (j .row))) noJob (t .jobs) (some p) free .inside
+  unfolding freeRow
+  place-inside = rw (rows-long t) at (found (λ r. not (live r)) noRow (rowsOf t) (some p) free .inside)
 
   -- a new job is awaited: its submitter listens, or it is background
   new-kept : (b : Bool) → lost (submittedBy c b bare) ≡ false
@@ -55,61 +56,66 @@ module _ (c : ℕ) (t : Table) (priority : ℕ) (background : Bool) (f u : Bytes
   new-queued = rw (keeps .serial, keeps .holder, eqb·suc-zero (t .last))
 
   -- naming a function makes nobody able
-  able-same : (k x : ℕ) → able (after .functions) k x ≡ able (t .functions) k x
-  able-same k x = ap (λ (s : ℕ). has s x) (go (ℕ-discrete k q))
+  able-same : (k x : ℕ) → able (ablesOf after) k x ≡ able (ablesOf t) k x
+  able-same k x = ap (λ (s : ℕ). has s x) (able-at after k ∙ go (ℕ-discrete k q) ∙ sym (able-at t k))
     where
       go : Dec (k ≡ q) → functionAt after k .able ≡ functionAt t k .able
       go (yes e) = rw e (ap (λ (y : Function). y .able) (getD-set-same (t .functions) q (withName f (functionAt t q)) noFunction (room t f q here .inside)))
       go (no d) = ap (λ (y : Function). y .able) (getD-set-other (t .functions) q k (withName f (functionAt t q)) noFunction d)
 
-  row-after : (i : ℕ) → jobAt (dropped after) i ≡ unlessLost (jobAt after i)
+  row-after : (i : ℕ) → getD (rowsOf (dropped after)) i noRow ≡ unlessLost (jobAt after i) .row
   unfolding dropped
-  row-after i = List·getD-map unlessLost (after .jobs) i noJob
+  row-after i = row-at (dropped after) i ∙ ap (λ (j : Job). j .row) (List·getD-map unlessLost (after .jobs) i noJob)
 
-  new-row : jobAt (dropped after) p ≡ new
-  new-row = row-after p ∙ ap unlessLost (getD-set-same (t .jobs) p new noJob place-inside) ∙ ap (λ (b : Bool). cond b noJob new) (new-kept background)
+  new-row : getD (rowsOf (dropped after)) p noRow ≡ new .row
+  new-row =
+      row-after p ∙ ap (λ (j : Job). unlessLost j .row) (getD-set-same (t .jobs) p new noJob place-inside)
+      ∙ ap (λ (b : Bool). (cond b noJob new) .row) (new-kept background)
 
   -- what can be grabbed after dropping could be before
-  kept-grabbable : (fs : List Function) (x : ℕ) (j : Job) → grabbable fs x (unlessLost j .row) ≡ true → grabbable fs x (j .row) ≡ true
-  kept-grabbable fs x j e = cond-cases (λ (k : Job). grabbable fs x (k .row) ≡ true → grabbable fs x (j .row) ≡ true) (lost (j .row)) (λ l g. clash g refl) (λ l g. g) e
+  kept-grabbable : (ables : List ℕ) (x : ℕ) (j : Job) → grabbable ables x (unlessLost j .row) ≡ true → grabbable ables x (j .row) ≡ true
+  kept-grabbable ables x j e = cond-cases (λ (k : Job). grabbable ables x (k .row) ≡ true → grabbable ables x (j .row) ≡ true) (lost (j .row)) (λ l g. clash g refl) (λ l g. g) e
+
+  rows-after : length (rowsOf (dropped after)) ≡ length (t .jobs)
+  unfolding dropped
+  rows-after = rows-long (dropped after) ∙ length-map (after .jobs) unlessLost ∙ length-set (t .jobs) p new
 
   module _ (x : ℕ) (inside : x < length (t .connections)) (asleep : connectionAt t x .asleep ≡ true) where
     -- an earlier job was not grabbable, so only the new one can be
-    only-new : (i : ℕ) → i < length (t .jobs) → Dec (i ≡ p) → grabbable (after .functions) x (jobAt after i .row) ≡ true → able (t .functions) q x ≡ true
+    only-new : (i : ℕ) → i < length (t .jobs) → Dec (i ≡ p) → grabbable (ablesOf after) x (jobAt after i .row) ≡ true → able (ablesOf t) q x ≡ true
     only-new i l (yes e) g =
         let n : jobAt after i ≡ new = rw e (getD-set-same (t .jobs) p new noJob place-inside) in
-        let a : able (after .functions) (new .row .function) x ≡ true = and-right (queued (new .row)) _ (rw n at g) in
+        let a : able (ablesOf after) (new .row .function) x ≡ true = and-right (queued (new .row)) _ (rw n at g) in
         sym (able-same q x) ∙ (rw (keeps .function) at a)
     only-new i l (no d) g =
         let n : jobAt after i ≡ jobAt t i = getD-set-other (t .jobs) p i new noJob d in
-        let k : grabbable (after .functions) x (jobAt t i .row) ≡ true = rw n at g in
-        let a : grabbable (t .functions) x (jobAt t i .row) ≡ true
+        let k : grabbable (ablesOf after) x (jobAt t i .row) ≡ true = rw n at g in
+        let a : grabbable (ablesOf t) x (jobAt t i .row) ≡ true
         = and-both (queued (jobAt t i .row)) _ (and-left (queued (jobAt t i .row)) _ k) (sym (able-same (jobAt t i .row .function) x) ∙ and-right (queued (jobAt t i .row)) _ k) in
-        clash (and-both (connectionAt t x .asleep) _ asleep (any-at (λ j. grabbable (t .functions) x (j .row)) (t .jobs) i noJob l a)) (sleeps-on t (obeyed t h .idle) x inside)
+        clash (and-both (connectionAt t x .asleep) _ asleep (any-at (grabbable (ablesOf t) x) (rowsOf t) i noRow (rw (rows-long t) l) (rw (row-at t i) a))) (sleeps-on t (obeyed t h .idle) x inside)
 
-    work-is-new : any (λ j. grabbable (after .functions) x (j .row)) (dropped after .jobs) ≡ able (t .functions) q x
-    unfolding dropped
+    work-is-new : any (grabbable (ablesOf after) x) (rowsOf (dropped after)) ≡ able (ablesOf t) q x
     work-is-new = iff _ _ there back
       where
-        there : any (λ j. grabbable (after .functions) x (j .row)) (dropped after .jobs) ≡ true → able (t .functions) q x ≡ true
+        there : any (grabbable (ablesOf after) x) (rowsOf (dropped after)) ≡ true → able (ablesOf t) q x ≡ true
         there e =
-            let (i, l, g) = any-where (λ j. grabbable (after .functions) x (j .row)) (dropped after .jobs) noJob e in
-            only-new i (rw (length-map, length-set) at l) (ℕ-discrete i p) (kept-grabbable (after .functions) x (jobAt after i) (rw (row-after i) at g))
+            let (i, l, g) = any-where (grabbable (ablesOf after) x) (rowsOf (dropped after)) noRow e in
+            only-new i (rw rows-after at l) (ℕ-discrete i p) (kept-grabbable (ablesOf after) x (jobAt after i) (rw (row-after i) at g))
 
-        back : able (t .functions) q x ≡ true → any (λ j. grabbable (after .functions) x (j .row)) (dropped after .jobs) ≡ true
-        back a = any-at (λ j. grabbable (after .functions) x (j .row)) (dropped after .jobs) p noJob (rw (length-map, length-set) place-inside)
+        back : able (ablesOf t) q x ≡ true → any (grabbable (ablesOf after) x) (rowsOf (dropped after)) ≡ true
+        back a = any-at (grabbable (ablesOf after) x) (rowsOf (dropped after)) p noRow (rw rows-after place-inside)
             (rw new-row (and-both (queued (new .row)) _ new-queued (rw (keeps .function) (able-same q x ∙ a))))
 
   -- a sleeper able to do the new job's function
   abbrev pub sleeperAble : ℕ → Bool
-  sleeperAble x = connectionAt t x .asleep && able (t .functions) q x
+  sleeperAble x = connectionAt t x .asleep && able (ablesOf t) q x
 
   pub new-job-wakes : toWake (dropped after) ≡ filter sleeperAble (numbers 0 (length (t .connections)))
-  unfolding toWake dropped
+  unfolding toWakeIn dropped
   new-job-wakes = choose-same _ sleeperAble (length (t .connections)) (λ x l. go x l (connectionAt t x .asleep) refl)
     where
       go : (x : ℕ) → x < length (t .connections) → (b : Bool) → connectionAt t x .asleep ≡ b
-          → wakes (after .functions) (dropped after .jobs) x (connectionAt t x) ≡ connectionAt t x .asleep && able (t .functions) q x
+          → wakes (ablesOf after) (rowsOf (dropped after)) x (connectionAt t x) ≡ connectionAt t x .asleep && able (ablesOf t) q x
       go x l true e = rw e (work-is-new x l e)
       go x l false e = rw e
 

@@ -16,9 +16,9 @@ use Rattle.sets.specs.Sets.{isEmpty, remove}
 use Rattle.server.specs.declared.Connection.{Connection}
 use Rattle.server.specs.declared.JobRow.{JobRow}
 use Rattle.lists.specs.Lists.{any, filter, numbers}
-use Rattle.server.specs.Table.{Job, Table, closed, noJob, connectionAt, jobAt, live, queued, heldBy, grabbable, withConnections, withAsleep}
-use Rattle.server.specs.Asked.{preSleep, toClose}
-use Rattle.server.specs.Events.{settle, lost, unlessLost, dropped, wakes, woken, toWake, forgot, noop, closing, leftBy, sleeping, served}
+use Rattle.server.specs.Table.{Job, Table, closed, noJob, connectionAt, jobAt, rowsOf, ablesOf, live, queued, heldBy, grabbable, withConnections, withAsleep}
+use Rattle.server.specs.Requests.{preSleep}
+use Rattle.server.specs.Events.{settle, lost, unlessLost, dropped, wakes, wokenIn, woken, toWakeIn, toWake, forgot, noop, closing, leftBy, sleeping, served}
 use Rattle.server.specs.Rules.{sleeperIdle, obeys}
 use Rattle.lists.proofs.Cases.{cond-cases}
 use Rattle.lists.proofs.Rows.{clash, never, or-right, length-mapFrom}
@@ -29,7 +29,7 @@ use Rattle.server_laws.proofs.AtRest.{drops-none, sleeps-on, idle-at, c
 
 -- connection c has a grabbable job
 abbrev pub hasWork : Table → ℕ → Bool
-hasWork t c = any (λ j. grabbable (t .functions) c (j .row)) (t .jobs)
+hasWork t c = any (grabbable (ablesOf t) c) (rowsOf t)
 
 -- ---- PRE_SLEEP
 
@@ -76,12 +76,12 @@ module _ (t : Table) (c : ℕ) (inside : c < length (t .connections)) (h : obeys
     was-awake : connectionAt t c .asleep ≡ false
     was-awake = never _ (λ e. clash (and-both (connectionAt t c .asleep) _ e w) (sleeps-on t (obeyed t h .idle) c inside))
 
-    only-asker : (k : ℕ) → k < length (t .connections) → Dec (k ≡ c) → wakes (t .functions) (t .jobs) k (connectionAt asked k) ≡ eqb k c
+    only-asker : (k : ℕ) → k < length (t .connections) → Dec (k ≡ c) → wakes (ablesOf t) (rowsOf t) k (connectionAt asked k) ≡ eqb k c
     only-asker k l (yes i) = rw (i, at-asker) (w ∙ sym (eq-eqb c c refl))
     only-asker k l (no d) = rw (at-other k d, ne-eqb k c d) (sleeps-on t (obeyed t h .idle) k l)
 
     wakes-asker : toWake asked ≡ c ∷ []
-    unfolding toWake sleeping
+    unfolding toWakeIn sleeping
     wakes-asker =
         choose-same _ (λ k. eqb k c) (length (set (t .connections) c sleeper)) (λ k l. only-asker k (rw length-set at l) (ℕ-discrete k c))
         ∙ choose-one c 0 (length (set (t .connections) c sleeper)) (omega arith) (rw length-set (omega arith))
@@ -92,7 +92,7 @@ module _ (t : Table) (c : ℕ) (inside : c < length (t .connections)) (h : obeys
     row-again k l (no d) = rw (at-other k d, sleeps-on t (obeyed t h .idle) k l)
 
     as-before : woken asked ≡ t
-    unfolding woken sleeping
+    unfolding wokenIn sleeping
     as-before =
         ap (λ (cs : List Connection). withConnections cs t)
         (ext-getD closed (woken asked .connections) (t .connections) long (λ k l. woken-at asked k ∙ row-again k (rw long at l) (ℕ-discrete k c)))
@@ -125,12 +125,11 @@ left-lost c j =
     (λ e. ap (λ (b : Bool). b && unheard c (j .row)) (or-none (queued (j .row)) (heldBy c (j .row)) e))
 
 closing-jobs : (c : ℕ) (t : Table) → settle [] (closing c t) .table .jobs ≡ map unlessLost (map (leftBy c) (t .jobs))
-unfolding settle closing dropped woken forgot
+unfolding settle closing dropped forgot
 closing-jobs c t = refl
 
 -- dropped is exactly a job that would wait with no listener left and not in the background; any other stays, without connection c
-pub close-drops : (c : ℕ) (t : Table) (i : ℕ) → jobAt (served c toClose t .table) i ≡ cond (waitsAfter c (jobAt t i .row) && unheard c (jobAt t i .row)) noJob (leftBy c (jobAt t i))
-unfolding served
+pub close-drops : (c : ℕ) (t : Table) (i : ℕ) → jobAt (settle [] (closing c t) .table) i ≡ cond (waitsAfter c (jobAt t i .row) && unheard c (jobAt t i .row)) noJob (leftBy c (jobAt t i))
 close-drops c t i =
     ap (λ (js : List Job). getD js i noJob) (closing-jobs c t)
     ∙ List·getD-map unlessLost (map (leftBy c) (t .jobs)) i noJob

@@ -17,12 +17,13 @@ use Rattle.octets.proofs.Strings.{and-left, and-right, and-both}
 use Rattle.sets.specs.Sets.{has}
 use Rattle.sets.proofs.Laws.{has-insert-same, has-insert-other, has-remove-same, has-remove-other}
 use Rattle.lists.specs.Lists.{any}
-use Rattle.server.specs.Table.{Function, Table, noFunction, noJob, connectionAt, functionAt, jobAt, setFunction, queued, able, grabbable, known, roomFor, withFunctions}
-use Rattle.server.specs.Asked.{canDo, cantDo, reset}
-use Rattle.server.specs.Events.{settle, wakes, toWake, forgot, noop, ableTo, unable, canDoAt, cantDoAt, unableToAll, served}
+use Rattle.server.specs.Table.{Function, Table, noFunction, connectionAt, functionAt, jobAt, rowsOf, ablesOf, setFunction, queued, able, grabbable, known, roomFor, withFunctions}
+use Rattle.server.specs.Requests.{canDo, cantDo, reset}
+use Rattle.server.specs.Events.{settle, wakes, toWakeIn, toWake, forgot, noop, ableTo, unable, canDoAt, cantDoAt, unableToAll, served}
 use Rattle.server.specs.Rules.{sleeperIdle, obeys}
 use Rattle.lists.proofs.Cases.{All2, all2-set, all2-map, all2-at}
-use Rattle.lists.proofs.Rows.{clash, implies-by, never, iff, any-at, any-where}
+use Rattle.lists.proofs.Rows.{clash, implies-by, never, iff}
+use Rattle.server_laws.proofs.Numbers.{able-at, row-passes, row-where}
 use Rattle.server_laws.proofs.Functions.{room}
 use Rattle.server_laws.proofs.Settled.{woken-at, idle-by}
 use Rattle.server_laws.proofs.Obeyed.{obeyed}
@@ -45,9 +46,9 @@ module _ (t : Table) (c : ℕ) (inside : c < length (t .connections)) (f : Bytes
   at-other x d = getD-set-other (t .functions) q x (ableTo c f (functionAt t q)) noFunction d
 
   -- of the others nobody can do more
-  others-able : (k x : ℕ) → k ≢ c → Dec (x ≡ q) → able (enabled .functions) x k ≡ able (t .functions) x k
-  others-able k x d (yes e) = rw (e, at-place) (has-insert-other (functionAt t q .able) c k d)
-  others-able k x d (no n) = ap (λ (y : Function). has (y .able) k) (at-other x n)
+  others-able : (k x : ℕ) → k ≢ c → Dec (x ≡ q) → able (ablesOf enabled) x k ≡ able (ablesOf t) x k
+  others-able k x d (yes e) = rw (able-at enabled x, able-at t x, e, at-place) (has-insert-other (functionAt t q .able) c k d)
+  others-able k x d (no n) = rw (able-at enabled x, able-at t x) (ap (λ (y : Function). has (y .able) k) (at-other x n))
 
   others-work : (k : ℕ) → k ≢ c → hasWork enabled k ≡ true → hasWork t k ≡ true
   others-work k d =
@@ -55,7 +56,7 @@ module _ (t : Table) (c : ℕ) (inside : c < length (t .connections)) (f : Bytes
       (λ i e. and-both (queued (jobAt t i .row)) _ (and-left (queued (jobAt t i .row)) _ e)
       (sym (others-able k (jobAt t i .row .function) d (ℕ-discrete (jobAt t i .row .function) q)) ∙ and-right (queued (jobAt t i .row)) _ e))
 
-  others-sleep : (k : ℕ) → k < length (t .connections) → k ≢ c → wakes (enabled .functions) (t .jobs) k (connectionAt t k) ≡ false
+  others-sleep : (k : ℕ) → k < length (t .connections) → k ≢ c → wakes (ablesOf enabled) (rowsOf t) k (connectionAt t k) ≡ false
   others-sleep k l d =
       never _ (λ e. clash (and-both (connectionAt t k .asleep) _ (and-left (connectionAt t k .asleep) _ e) (others-work k d (and-right (connectionAt t k .asleep) _ e))) (sleeps-on t (obeyed t h .idle) k l))
 
@@ -83,10 +84,10 @@ module _ (t : Table) (c : ℕ) (inside : c < length (t .connections)) (f : Bytes
   -- a sleeper with a grabbable job: NOOP goes to it, and it is awake
   module _ (asleep : connectionAt t c .asleep ≡ true) (w : hasWork enabled c ≡ true) where
     wakes-it : toWake enabled ≡ c ∷ []
-    unfolding toWake
+    unfolding toWakeIn
     wakes-it = choose-same _ (λ k. eqb k c) (length (t .connections)) (λ k l. only k l (ℕ-discrete k c)) ∙ choose-one c 0 (length (t .connections)) (omega arith) (omega arith)
       where
-        only : (k : ℕ) → k < length (t .connections) → Dec (k ≡ c) → wakes (enabled .functions) (t .jobs) k (connectionAt t k) ≡ eqb k c
+        only : (k : ℕ) → k < length (t .connections) → Dec (k ≡ c) → wakes (ablesOf enabled) (rowsOf t) k (connectionAt t k) ≡ eqb k c
         only k l (yes i) = rw (i, asleep) (w ∙ sym (eq-eqb c c refl))
         only k l (no d) = others-sleep k l d ∙ sym (ne-eqb k c d)
 
@@ -100,28 +101,28 @@ module _ (t : Table) (c : ℕ) (inside : c < length (t .connections)) (f : Bytes
         rw (can-do-is, drops-none enabled (obeyed t h .awaited), woken-at enabled c, asleep, w)
 
   -- which jobs a sleeper has then: the queued ones of that function
-  pub sleeper-work : connectionAt t c .asleep ≡ true → hasWork enabled c ≡ any (λ j. queued (j .row) && eqb (j .row .function) q) (t .jobs)
+  pub sleeper-work : connectionAt t c .asleep ≡ true → hasWork enabled c ≡ any (λ r. queued r && eqb (r .function) q) (rowsOf t)
   sleeper-work asleep = iff _ _ there back
     where
-      named : (i : ℕ) → i < length (t .jobs) → Dec (jobAt t i .row .function ≡ q) → grabbable (enabled .functions) c (jobAt t i .row) ≡ true → eqb (jobAt t i .row .function) q ≡ true
+      named : (i : ℕ) → i < length (t .jobs) → Dec (jobAt t i .row .function ≡ q) → grabbable (ablesOf enabled) c (jobAt t i .row) ≡ true → eqb (jobAt t i .row .function) q ≡ true
       named i l (yes e) g = eq-eqb _ q e
       named i l (no d) g =
-          let a : able (t .functions) (jobAt t i .row .function) c ≡ true = sym (ap (λ (y : Function). has (y .able) c) (at-other _ d)) ∙ and-right (queued (jobAt t i .row)) _ g in
-          let b = any-at (λ j. grabbable (t .functions) c (j .row)) (t .jobs) i noJob l (and-both (queued (jobAt t i .row)) _ (and-left (queued (jobAt t i .row)) _ g) a) in
+          let a : able (ablesOf t) (jobAt t i .row .function) c ≡ true = rw (able-at t (jobAt t i .row .function), ← (at-other _ d), ← (able-at enabled (jobAt t i .row .function))) (and-right (queued (jobAt t i .row)) _ g) in
+          let b = row-passes t (grabbable (ablesOf t) c) i l (and-both (queued (jobAt t i .row)) _ (and-left (queued (jobAt t i .row)) _ g) a) in
           clash (and-both (connectionAt t c .asleep) _ asleep b) (sleeps-on t (obeyed t h .idle) c inside)
 
-      there : hasWork enabled c ≡ true → any (λ j. queued (j .row) && eqb (j .row .function) q) (t .jobs) ≡ true
+      there : hasWork enabled c ≡ true → any (λ r. queued r && eqb (r .function) q) (rowsOf t) ≡ true
       there e =
-          let (i, l, g) = any-where (λ j. grabbable (enabled .functions) c (j .row)) (t .jobs) noJob e in
-          any-at (λ j. queued (j .row) && eqb (j .row .function) q) (t .jobs) i noJob l
+          let (i, l, g) = row-where t (grabbable (ablesOf enabled) c) e in
+          row-passes t (λ r. queued r && eqb (r .function) q) i l
           (and-both (queued (jobAt t i .row)) _ (and-left (queued (jobAt t i .row)) _ g) (named i l (ℕ-discrete _ q) g))
 
-      back : any (λ j. queued (j .row) && eqb (j .row .function) q) (t .jobs) ≡ true → hasWork enabled c ≡ true
+      back : any (λ r. queued r && eqb (r .function) q) (rowsOf t) ≡ true → hasWork enabled c ≡ true
       back e =
-          let (i, l, g) = any-where (λ j. queued (j .row) && eqb (j .row .function) q) (t .jobs) noJob e in
+          let (i, l, g) = row-where t (λ r. queued r && eqb (r .function) q) e in
           let z : jobAt t i .row .function ≡ q = eqb-true _ q (and-right (queued (jobAt t i .row)) _ g) in
-          any-at (λ j. grabbable (enabled .functions) c (j .row)) (t .jobs) i noJob l
-          (and-both (queued (jobAt t i .row)) _ (and-left (queued (jobAt t i .row)) _ g) (rw (z, at-place) (has-insert-same (functionAt t q .able) c)))
+          row-passes t (grabbable (ablesOf enabled) c) i l
+          (and-both (queued (jobAt t i .row)) _ (and-left (queued (jobAt t i .row)) _ g) (rw (z, able-at enabled q, at-place) (has-insert-same (functionAt t q .able) c)))
 
 -- ---- CANT_DO, RESET_ABILITIES
 
@@ -146,7 +147,8 @@ module _ (t : Table) (c : ℕ) (h : obeys t ≡ true) where
         long = refl;
         asleep = λ k e. e;
         grabs = λ k. work-from t u k refl (λ i e. and-both (queued (jobAt t i .row)) _ (and-left (queued (jobAt t i .row)) _ e)
-            (all2-at {R = Weaker} r (jobAt t i .row .function) noFunction noFunction (λ x z. z) k (and-right (queued (jobAt t i .row)) _ e)));
+            (rw (able-at t (jobAt t i .row .function)) (all2-at {R = Weaker} r (jobAt t i .row .function) noFunction noFunction (λ x z. z) k
+            (rw (able-at u (jobAt t i .row .function)) at (and-right (queued (jobAt t i .row)) _ e)))));
       } in
       let z = quiet [] u (obeyed t h .awaited) (idle-kept t u m (obeyed t h .idle)) in
       record { number = z .number; packets = z .packets; connections = z .connections; jobs = z .jobs; last = z .last }

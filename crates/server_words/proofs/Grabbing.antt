@@ -15,12 +15,13 @@ use Rattle.octets.proofs.Strings.{and-left, and-right, and-both}
 use Rattle.server.specs.declared.Connection.{Connection}
 use Rattle.server.specs.declared.JobRow.{JobRow}
 use Rattle.lists.specs.Lists.{any, all}
-use Rattle.server.specs.Table.{Function, Job, Table, closed, noJob, connectionAt, jobAt, setJob, withRow, withHolder, live, queued, grabbable, rank, greatest, best}
-use Rattle.server.specs.Asked.{grab}
+use Rattle.server.specs.Table.{Function, Job, Table, closed, noRow, noJob, connectionAt, jobAt, rowsOf, ablesOf, setJob, withRow, withHolder, live, queued, grabbable, rank, greatest, bestRow, best}
+use Rattle.server.specs.Requests.{grab}
 use Rattle.server.specs.Events.{plain, assign, Decision, settle, sleeping, grabAt, served}
 use Rattle.server.specs.Rules.{queuedAwaited, sleepersIdle, obeys}
 use Rattle.lists.proofs.Searches.{found}
-use Rattle.lists.proofs.Rows.{clash, implies-by, never, or-false, all-at, any-at, any-where, row-set}
+use Rattle.lists.proofs.Rows.{clash, implies-by, never, or-false, all-at, any-where, row-set}
+use Rattle.server_laws.proofs.Numbers.{row-at, rows-long, row-passes, row-where}
 use Rattle.server_laws.proofs.Going.{best-found}
 use Rattle.server_laws.proofs.Obeyed.{obeyed}
 use Rattle.server_laws.proofs.Words.{hasWork}
@@ -36,8 +37,8 @@ pub data Before (r q : JobRow) : Type 0 where
 -- the job at place p can be grabbed by connection c, and is grabbed before every other that can
 pub record First (t : Table) (c p : ℕ) : Type 0 where
   pub inside : p < length (t .jobs)
-  pub can : grabbable (t .functions) c (jobAt t p .row) ≡ true
-  pub first : (i : ℕ) → i < length (t .jobs) → grabbable (t .functions) c (jobAt t i .row) ≡ true → Before (jobAt t p .row) (jobAt t i .row)
+  pub can : grabbable (ablesOf t) c (jobAt t p .row) ≡ true
+  pub first : (i : ℕ) → i < length (t .jobs) → grabbable (ablesOf t) c (jobAt t i .row) ≡ true → Before (jobAt t p .row) (jobAt t i .row)
 
 module _ {A : Type 0} (f : A → ℕ) where
   greatest-at : (l : List A) (i : ℕ) (d : A) → i < length l → f (getD l i d) ≤ greatest (map f l)
@@ -53,9 +54,9 @@ module _ {A : Type 0} (f : A → ℕ) where
       let z : f x ≡ m → ⊥ = eqb-false (f x) m p in
       greatest-reached m l q (omega arith)
 
-rank-is : (fs : List Function) (c : ℕ) (r : JobRow) → grabbable fs c r ≡ true → rank fs c r ≡ r .priority * 4294967296 + (4294967296 - r .serial)
+rank-is : (ables : List ℕ) (c : ℕ) (r : JobRow) → grabbable ables c r ≡ true → rank ables c r ≡ r .priority * 4294967296 + (4294967296 - r .serial)
 unfolding rank
-rank-is fs c r g = rw g
+rank-is ables c r g = rw g
 
 -- ranks are ordered as the jobs are
 ordered : (r q : JobRow) → r .serial < 4294967296 → q .serial < 4294967296
@@ -72,41 +73,44 @@ module _ (t : Table) (c : ℕ) (h : obeys t ≡ true) where
       let o = obeyed t h .sound in
       omega (arith, leb-true (jobAt t i .row .serial) (t .last) (all-at (λ j. leb (j .row .serial) (t .last)) (t .jobs) i noJob (o .below) l), ltb-true (t .last) 4294967296 (o .small))
 
-  abbrev rankAt : Job → ℕ
-  rankAt j = rank (t .functions) c (j .row)
+  abbrev rankAt : JobRow → ℕ
+  rankAt r = rank (ablesOf t) c r
+
+  best-rank : (i : ℕ) → i < length (t .jobs) → rankAt (jobAt t i .row) ≤ greatest (map rankAt (rowsOf t))
+  best-rank i l = rw (row-at t i) at (greatest-at rankAt (rowsOf t) i noRow (rw (rows-long t) l))
 
   -- the place that a search for the greatest rank finds
   pub best-first : (p : ℕ) → best t c ≡ some p → First t c p
-  unfolding best
+  unfolding bestRow
   best-first p e =
       let (i, g) = best-found t c p e in
-      let m = greatest (map rankAt (t .jobs)) in
-      let w = found (λ j. not (eqb m 0) && eqb (rankAt j) m) noJob (t .jobs) (some p) e in
-      let r : rankAt (jobAt t p) ≡ m = eqb-true _ m (and-right (not (eqb m 0)) _ (w .passes)) in
+      let m = greatest (map rankAt (rowsOf t)) in
+      let w = found (λ r. not (eqb m 0) && eqb (rankAt r) m) noRow (rowsOf t) (some p) e in
+      let r : rankAt (jobAt t p .row) ≡ m = rw (row-at t p) at (eqb-true _ m (and-right (not (eqb m 0)) _ (w .passes))) in
       record {
         inside = i;
         can = g;
         first = λ k l q.
             ordered (jobAt t p .row) (jobAt t k .row) (serial-small p i) (serial-small k l)
-            (omega (arith, greatest-at rankAt (t .jobs) k noJob l, r, rank-is (t .functions) c (jobAt t p .row) g, rank-is (t .functions) c (jobAt t k .row) q));
+            (omega (arith, best-rank k l, r, rank-is (ablesOf t) c (jobAt t p .row) g, rank-is (ablesOf t) c (jobAt t k .row) q));
       }
 
   -- there is a job to give exactly if there is one that can be grabbed
   best-some : (p : ℕ) → best t c ≡ some p → hasWork t c ≡ true
-  best-some p e = let (i, g) = best-found t c p e in any-at (λ j. grabbable (t .functions) c (j .row)) (t .jobs) p noJob i g
+  best-some p e = let (i, g) = best-found t c p e in row-passes t (grabbable (ablesOf t) c) p i g
 
   best-none : best t c ≡ none → hasWork t c ≡ false
-  unfolding best
+  unfolding bestRow
   best-none e = never _ (λ w.
-      let (i, l, g) = any-where (λ j. grabbable (t .functions) c (j .row)) (t .jobs) noJob w in
-      let m = greatest (map rankAt (t .jobs)) in
+      let (i, l, g) = row-where t (grabbable (ablesOf t) c) w in
+      let m = greatest (map rankAt (rowsOf t)) in
       let s = serial-small i l in
-      let big : 1 ≤ m = omega (arith, greatest-at rankAt (t .jobs) i noJob l, rank-is (t .functions) c (jobAt t i .row) g) in
+      let big : 1 ≤ m = omega (arith, best-rank i l, rank-is (ablesOf t) c (jobAt t i .row) g) in
       let z : m ≡ 0 → ⊥ = λ q. absurd (omega arith) in
-      let n : all (λ j. not (not (eqb m 0) && eqb (rankAt j) m)) (t .jobs) ≡ true = found (λ j. not (eqb m 0) && eqb (rankAt j) m) noJob (t .jobs) none e in
-      z (greatest-reached rankAt m (t .jobs) (never _ (λ a.
-      let (k, b, q) = any-where (λ j. eqb (rankAt j) m) (t .jobs) noJob a in
-      clash (and-both (not (eqb m 0)) _ (ap not (ne-eqb m 0 z)) q) (not-true _ (all-at (λ j. not (not (eqb m 0) && eqb (rankAt j) m)) (t .jobs) k noJob n b)))) refl))
+      let n : all (λ r. not (not (eqb m 0) && eqb (rankAt r) m)) (rowsOf t) ≡ true = found (λ r. not (eqb m 0) && eqb (rankAt r) m) noRow (rowsOf t) none e in
+      z (greatest-reached rankAt m (rowsOf t) (never _ (λ a.
+      let (k, b, q) = any-where (λ r. eqb (rankAt r) m) (rowsOf t) noRow a in
+      clash (and-both (not (eqb m 0)) _ (ap not (ne-eqb m 0 z)) q) (not-true _ (all-at (λ r. not (not (eqb m 0) && eqb (rankAt r) m)) (rowsOf t) k noRow n b)))) refl))
 
 -- ---- what a grab answers and leaves
 

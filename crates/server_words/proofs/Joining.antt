@@ -14,13 +14,14 @@ use Rattle.octets.specs.Bytes.{Bytes}
 use Rattle.sets.specs.Sets.{insert}
 use Rattle.sets.proofs.Laws.{has-insert-same, nonempty}
 use Rattle.server.specs.Table.{Function, Job, Table, noJob, connectionAt, jobAt, setJob, withRow, queued, grabbable, joins, joined}
-use Rattle.server.specs.Asked.{Event, connectionOf, asked, submit}
-use Rattle.server.specs.Events.{Decision, created, submittedBy, submitTo, served, admitted, decide}
+use Rattle.server.specs.Requests.{sends, requestIn, submit}
+use Rattle.server.specs.Events.{Decision, created, submittedBy, submitTo, served, onlyIfOpen}
 use Rattle.server.specs.Server.{Server, opaqueOf, rework, decided, next}
 use Rattle.server.specs.Rules.{obeys}
 use Rattle.lists.proofs.Cases.{All2, all2-set}
 use Rattle.lists.proofs.Searches.{found}
 use Rattle.lists.proofs.Rows.{implies-by, or-right}
+use Rattle.server_laws.proofs.Outcome.{Stands}
 use Rattle.server_laws.proofs.Accepting.{Kept, submitted-keeps}
 use Rattle.server_laws.proofs.Obeyed.{obeyed}
 use Rattle.server_words.proofs.Quiet.{Quiet, awaited, one-job-quiet}
@@ -30,9 +31,9 @@ joined-awaited : (c : ℕ) (background : Bool) (j : Job) → awaited (submittedB
 joined-awaited c true j = implies-by (queued (submittedBy c true (j .row))) _ (λ e. refl)
 joined-awaited c false j = implies-by (queued (submittedBy c false (j .row))) _ (λ e. or-right (j .row .background) _ (ap not (nonempty (insert (j .row .listeners) c) c (has-insert-same (j .row .listeners) c))))
 
-joined-grabbable : (c : ℕ) (background : Bool) (j : Job) (fs : List Function) (k : ℕ) → grabbable fs k (submittedBy c background (j .row)) ≡ true → grabbable fs k (j .row) ≡ true
-joined-grabbable c true j fs k e = e
-joined-grabbable c false j fs k e = e
+joined-grabbable : (c : ℕ) (background : Bool) (j : Job) (ables : List ℕ) (k : ℕ) → grabbable ables k (submittedBy c background (j .row)) ≡ true → grabbable ables k (j .row) ≡ true
+joined-grabbable c true j ables k e = e
+joined-grabbable c false j ables k e = e
 
 module _ (t : Table) (c priority : ℕ) (background : Bool) (f u : Bytes) (size p : ℕ) (here : joined t f u ≡ some p) (h : obeys t ≡ true) where
   abbrev answered : Decision
@@ -74,13 +75,12 @@ kept-workloads All2.none o ws = refl
 kept-workloads (All2.more e es) o [] = refl
 kept-workloads (All2.more {a = j} {b = k} e es) o (w ∷ ws) = rw (eq-eqb (j .row .serial) (k .row .serial) (sym e)) (ap {B = List Bytes} (λ (vs : List Bytes). w ∷ vs) (kept-workloads es o ws))
 
-pub join-workloads : (e : Event) (s : Server) (priority : ℕ) (background : Bool) (f u : Bytes) (size p : ℕ) → asked e ≡ submit priority background f u size → joined (s .table) f u ≡ some p
-    → connectionOf e < length (s .table .connections) → connectionAt (s .table) (connectionOf e) .opened ≡ true → obeys (s .table) ≡ true → next e s .workloads ≡ s .workloads
-unfolding next decided decide admitted
-join-workloads e s priority background f u size p q here l o h =
-    let c = connectionOf e in
+pub join-workloads : (c : ℕ) (b : Bytes) (s : Server) (priority : ℕ) (background : Bool) (f u : Bytes) (size p : ℕ) → requestIn b ≡ submit priority background f u size
+    → joined (s .table) f u ≡ some p → Stands (s .table) c true → obeys (s .table) ≡ true → next (sends c b) s .workloads ≡ s .workloads
+unfolding next decided onlyIfOpen
+join-workloads c b s priority background f u size p q here o h =
     let t = s .table in
     let j = withRow (submittedBy c background (jobAt t p .row)) (jobAt t p) in
-    let z : decided e t .table .jobs ≡ set (t .jobs) p j = rw (lt-ltb c (length (t .connections)) l, o, q) (join-quiet t c priority background f u size p here h .jobs) in
-    ap (λ (ks : List Job). rework (t .jobs) ks (opaqueOf e) (s .workloads)) z
-    ∙ kept-workloads (all2-set (λ (j k : Job). k .row .serial ≡ j .row .serial) (λ j. refl) (t .jobs) p noJob j (submitted-keeps c background (jobAt t p .row) .serial)) (opaqueOf e) (s .workloads)
+    let z : decided (sends c b) s .table .jobs ≡ set (t .jobs) p j = rw (lt-ltb c (length (t .connections)) (o .inside), o .state, q) (join-quiet t c priority background f u size p here h .jobs) in
+    ap (λ (ks : List Job). rework (t .jobs) ks (opaqueOf (sends c b)) (s .workloads)) z
+    ∙ kept-workloads (all2-set (λ (j k : Job). k .row .serial ≡ j .row .serial) (λ j. refl) (t .jobs) p noJob j (submitted-keeps c background (jobAt t p .row) .serial)) (opaqueOf (sends c b)) (s .workloads)

@@ -10,13 +10,14 @@ use lib.Seq.{getD-set-same, getD-set-other}
 use Rattle.octets.proofs.Strings.{and-both}
 use Rattle.sets.specs.Sets.{isEmpty}
 use Rattle.server.specs.declared.JobRow.{JobRow}
-use Rattle.server.specs.Table.{Function, Job, Table, noJob, connectionAt, jobAt, setJob, queued, grabbable}
+use Rattle.server.specs.Table.{Function, Job, Table, noJob, connectionAt, jobAt, ablesOf, setJob, queued, grabbable}
 use Rattle.server.specs.Events.{Send, Decision, settle, forgot}
 use Rattle.lists.specs.Lists.{implies}
 use Rattle.server.specs.Rules.{queuedAwaited, sleepersIdle}
 use Rattle.lists.proofs.Rows.{clash, never, implies-by, all-set, any-at, any-where}
+use Rattle.server_laws.proofs.Numbers.{row-passes, row-where}
 use Rattle.server_laws.proofs.Settled.{idle-by}
-use Rattle.server_laws.proofs.AtRest.{drops-none, sleeps-on, none-to-wake, wakes-nobody}
+use Rattle.server_laws.proofs.AtRest.{drops-none, sleeps-on, none-to-wake, connections-stay}
 use Rattle.server_laws.proofs.Words.{hasWork}
 
 pub and-off : (b : Bool) → b && false ≡ false
@@ -37,9 +38,9 @@ quiet ss u a i =
     record {
       number = refl;
       packets = rw (drops-none u a, none-to-wake u i) (append-nil ss);
-      connections = rw (drops-none u a, wakes-nobody u i);
-      jobs = rw (drops-none u a, wakes-nobody u i);
-      last = rw (drops-none u a, wakes-nobody u i);
+      connections = rw (drops-none u a) (connections-stay u i);
+      jobs = rw (drops-none u a);
+      last = rw (drops-none u a);
     }
 
 -- ---- nobody has more to grab
@@ -57,10 +58,10 @@ idle-kept t u m i =
 
 -- a job that can be grabbed in u stands at a place where one could be grabbed in t
 pub work-from : (t u : Table) (k : ℕ) → length (u .jobs) ≡ length (t .jobs)
-    → ((i : ℕ) → grabbable (u .functions) k (jobAt u i .row) ≡ true → grabbable (t .functions) k (jobAt t i .row) ≡ true) → hasWork u k ≡ true → hasWork t k ≡ true
+    → ((i : ℕ) → grabbable (ablesOf u) k (jobAt u i .row) ≡ true → grabbable (ablesOf t) k (jobAt t i .row) ≡ true) → hasWork u k ≡ true → hasWork t k ≡ true
 work-from t u k long f w =
-    let (i, l, g) = any-where (λ j. grabbable (u .functions) k (j .row)) (u .jobs) noJob w in
-    any-at (λ j. grabbable (t .functions) k (j .row)) (t .jobs) i noJob (rw long at l) (f i g)
+    let (i, l, g) = row-where u (grabbable (ablesOf u) k) w in
+    row-passes t (grabbable (ablesOf t) k) i (rw long at l) (f i g)
 
 -- ---- one job anew
 
@@ -69,11 +70,11 @@ abbrev pub awaited : JobRow → Bool
 awaited r = implies (queued r) (r .background || not (isEmpty (r .listeners)))
 
 module _ (t : Table) (w : queuedAwaited t ≡ true) (s : sleepersIdle t ≡ true) (p : ℕ) (x : Job) (inside : p < length (t .jobs)) (a : awaited (x .row) ≡ true)
-    (g : (fs : List Function) (k : ℕ) → grabbable fs k (x .row) ≡ true → grabbable fs k (jobAt t p .row) ≡ true) where
-  job-before : (k i : ℕ) → Dec (i ≡ p) → grabbable (t .functions) k (jobAt (setJob t p x) i .row) ≡ true → grabbable (t .functions) k (jobAt t i .row) ≡ true
+    (g : (ables : List ℕ) (k : ℕ) → grabbable ables k (x .row) ≡ true → grabbable ables k (jobAt t p .row) ≡ true) where
+  job-before : (k i : ℕ) → Dec (i ≡ p) → grabbable (ablesOf t) k (jobAt (setJob t p x) i .row) ≡ true → grabbable (ablesOf t) k (jobAt t i .row) ≡ true
   job-before k i (yes e) q =
       let z : jobAt (setJob t p x) i ≡ x = rw e (getD-set-same (t .jobs) p x noJob inside) in
-      rw e (g (t .functions) k (rw z at q))
+      rw e (g (ablesOf t) k (rw z at q))
   job-before k i (no d) q = let z : jobAt (setJob t p x) i ≡ jobAt t i = getD-set-other (t .jobs) p i x noJob d in rw z at q
 
   pub one-job-quiet : (ss : List Send) → Quiet ss (setJob t p x) (settle ss (setJob t p x))

@@ -17,7 +17,7 @@ use Rattle.octets.proofs.Strings.{and-left, and-right, and-both}
 use Rattle.sets.specs.Sets.{has, members}
 use Rattle.lists.specs.Lists.{any, all, pairwise, find, filter}
 use Rattle.server.specs.Table.{Function, Job, Table, noJob, jobAt, setJob, grabbable}
-use Rattle.server.specs.Asked.{Work, tells, reports, ends, throws, work}
+use Rattle.server.specs.Requests.{Work, tells, reports, ends, throws, work}
 use Rattle.server.specs.Events.{Decision, copy, holdsHandle, hears, listenersOf, worked, workAt, served}
 use Rattle.server.specs.Rules.{obeys}
 use Rattle.lists.proofs.Cases.{cond-both}
@@ -129,11 +129,11 @@ worked-awaited reports n d j e = e
 worked-awaited ends n d j e = refl
 worked-awaited throws n d j e = refl
 
-worked-grabbable : (how : Work) (n d : Bytes) (j : Job) (fs : List Function) (k : ℕ) → grabbable fs k (worked how n d j .row) ≡ true → grabbable fs k (j .row) ≡ true
-worked-grabbable tells n d j fs k e = e
-worked-grabbable reports n d j fs k e = e
-worked-grabbable ends n d j fs k e = clash e refl
-worked-grabbable throws n d j fs k e = clash e refl
+worked-grabbable : (how : Work) (n d : Bytes) (j : Job) (ables : List ℕ) (k : ℕ) → grabbable ables k (worked how n d j .row) ≡ true → grabbable ables k (j .row) ≡ true
+worked-grabbable tells n d j ables k e = e
+worked-grabbable reports n d j ables k e = e
+worked-grabbable ends n d j ables k e = clash e refl
+worked-grabbable throws n d j ables k e = clash e refl
 
 module _ (t : Table) (c : ℕ) (how : Work) (kind : ℕ) (job n d : Bytes) (p : ℕ) (here : find (λ j. holdsHandle c job (j .row)) (t .jobs) ≡ some p) (h : obeys t ≡ true) where
   abbrev heard : List ℕ

@@ -10,7 +10,7 @@ use Rattle.packet.specs.Opaque.{hides, masked, opaque, visible, withOpaque}
 use Rattle.packet.specs.Packet.{Reading, refused, got, read, requests}
 use Rattle.packet_laws.proofs.Packets.{requests-well}
 use Rattle.packet_laws.proofs.Blindness.{read-alike, read-masked}
-use Rattle.server.specs.Asked.{Event}
+use Rattle.server.specs.Requests.{Event}
 use Rattle.server_blind.proofs.Alike.{Alike, opening, closing, sending}
 use Rattle.show_packet.proofs.Blind.{same-header, same-packet}
 use Rattle.show_parts.specs.Parts.{digitsText, frameDigits, headerIn, headerSeen}

@@ -9,7 +9,7 @@ use Rattle.handle.specs.declared.Serial as S
 use Rattle.server.specs.declared.JobRow.{JobRow}
 use Rattle.server.specs.Sizes.{connectionCount}
 use Rattle.server.specs.Table.{Table}
-use Rattle.server.specs.Asked.{Event}
+use Rattle.server.specs.Requests.{Event}
 use Rattle.server.specs.Server.{Server, Sent, addressed, next, answer}
 use Rattle.lists.proofs.Cases.{All2}
 use Rattle.server_calls.proofs.Follows.{Running}

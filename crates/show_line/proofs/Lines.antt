@@ -9,7 +9,7 @@ use Rattle.octets.specs.Bytes.{Bytes}
 use Rattle.octets.specs.Put.{put}
 use Rattle.octets.proofs.Laying.{length-put}
 use Rattle.server.specs.Sizes.{connectionCount}
-use Rattle.server.specs.Asked.{Event}
+use Rattle.server.specs.Requests.{Event}
 use Rattle.server.specs.Layout.{tableOf, tableSize}
 use Rattle.server.specs.Call.{Result, serverIn, tooShort, isSound, refusedBy, performed, call, left}
 use Rattle.server.specs.Replay.{frame}

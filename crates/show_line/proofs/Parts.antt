@@ -11,7 +11,7 @@ use Rattle.octets.specs.Put.{put}
 use Rattle.octets.proofs.Laying.{length-put}
 use Rattle.server.specs.Sizes.{connectionCount, outputSize}
 use Rattle.server.specs.Table.{Table}
-use Rattle.server.specs.Asked.{Event}
+use Rattle.server.specs.Requests.{Event}
 use Rattle.capture.specs.Packets.{Packed, packetsIn}
 use Rattle.capture.proofs.Cutting.{packets-in}
 use Rattle.octets.proofs.Runs.{laid-then, laid-third, room-first, room-second, room-then, room-third}

@@ -18,7 +18,7 @@ use Rattle.server.specs.declared.JobRow.{JobRow}
 use Rattle.lists.specs.Lists.{concat}
 use Rattle.server.specs.Sizes.{connectionCount}
 use Rattle.server.specs.Table.{Table}
-use Rattle.server.specs.Asked.{Event, opens, closes, sends}
+use Rattle.server.specs.Requests.{Event, opens, closes, sends}
 use Rattle.plan.specs.Values.{rowsOf}
 use Rattle.capture.specs.Packets.{Addressed, packetLines}
 use Rattle.capture.proofs.Lines.{lines-short}

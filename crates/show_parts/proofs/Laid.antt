@@ -21,7 +21,7 @@ use Rattle.handle.specs.Handle.{decimal}
 use Rattle.server.specs.declared.JobRow.{JobRow}
 use Rattle.server.specs.Sizes.{connectionCount}
 use Rattle.server.specs.Table.{Table}
-use Rattle.server.specs.Asked.{Event}
+use Rattle.server.specs.Requests.{Event}
 use Rattle.plan.specs.declared.Values as V′
 use Rattle.plan.specs.Values.{valuesOf}
 use Rattle.capture.specs.declared.Frame as F

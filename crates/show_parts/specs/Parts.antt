@@ -15,7 +15,7 @@ use Rattle.handle.specs.Handle.{decimal}
 use Rattle.server.specs.declared.JobRow.{JobRow}
 use Rattle.server.specs.Sizes.{connectionCount}
 use Rattle.server.specs.Table.{Table}
-use Rattle.server.specs.Asked.{Event, opens, closes, sends}
+use Rattle.server.specs.Requests.{Event, opens, closes, sends}
 use Rattle.plan.specs.Values.{rowsOf}
 use Rattle.capture.specs.Packets.{packetLines}
 use Rattle.show_names.specs.Names.{space}

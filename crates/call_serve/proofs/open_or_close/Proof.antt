@@ -2,7 +2,7 @@
 use mathlib.Core.Bool.{cond}
 use mathlib.Core.Path.{_∙_}
 use borrow.Author.Needs.{needs}
-use Rattle.server.specs.Asked.{opens, closes}
+use Rattle.server.specs.Requests.{opens, closes}
 use Rattle.call_laws.proofs.Admitted.{is-admitted, refused-call}
 use Rattle.call_laws.proofs.Conclusion.{sound}
 use Rattle.call_serve.proofs.Leaning.{event-of, event-asks, event-concludes, event-inside, event-leans}

@@ -2,7 +2,7 @@
 use mathlib.Core.Path.{refl, sym, _∙_}
 use mathlib.Core.Bool.{false}
 use borrow.Author.Needs.{needs}
-use Rattle.server.specs.Asked.{sends}
+use Rattle.server.specs.Requests.{sends}
 use Rattle.call_laws.proofs.Admitted.{is-admitted, refused-call}
 use Rattle.call_laws.proofs.Events.{never-opens, unread-small, unread-call}
 use Rattle.call_serve.proofs.Read.{unread-left}

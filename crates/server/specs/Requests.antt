@@ -1,5 +1,5 @@
--- What an event asks of the server, before it is known whether the server will do it. A packet is read with its opaque bytes set
--- to zero, so that nothing asked can depend on them. Assumes nothing.
+-- Events, and what a packet asks of the server before it is known whether the server will do it. A packet is read with its opaque
+-- bytes set to zero, so that nothing asked can depend on them. Assumes nothing.
 use Prim.Native.Nat.{ℕ}
 use mathlib.Core.Bool.{Bool, true, false}
 use mathlib.Core.List.{[], _∷_}
@@ -18,18 +18,19 @@ pub data Event : Type 0 where
 pub data Work : Type 0 where
   tells reports ends throws : Work
 
-pub data Asked : Type 0 where
-  toOpen toClose reset preSleep echo : Asked
-  bad : (number : ℕ) → Asked
-  canDo cantDo : (function : Bytes) → Asked
-  grab : (uniq : Bool) → Asked
-  submit : (priority : ℕ) (background : Bool) (function unique : Bytes) (size : ℕ) → Asked
-  work : (how : Work) (kind : ℕ) (job numerator denominator : Bytes) → Asked
-  getStatus : (job : Bytes) → Asked
-  option : (name : Bytes) → Asked
+-- what a packet asks; a bad one asks nothing and is refused by its number
+pub data Request : Type 0 where
+  reset preSleep echo : Request
+  bad : (number : ℕ) → Request
+  canDo cantDo : (function : Bytes) → Request
+  grab : (uniq : Bool) → Request
+  submit : (priority : ℕ) (background : Bool) (function unique : Bytes) (size : ℕ) → Request
+  work : (how : Work) (kind : ℕ) (job numerator denominator : Bytes) → Request
+  getStatus : (job : Bytes) → Request
+  option : (name : Bytes) → Request
 
 -- what a request of each type asks, from its arguments, by number from 0. Reading has refused every number that is not served.
-unfoldable pub requested : ℕ → Bytes → Bytes → Bytes → Asked
+unfoldable pub requested : ℕ → Bytes → Bytes → Bytes → Request
 requested kind a b c =
     getD
     (bad 9
@@ -65,18 +66,10 @@ requested kind a b c =
     ∷ [])
     kind (bad 9)
 
-abbrev pub fromReading : Reading → Asked
+abbrev pub fromReading : Reading → Request
 fromReading (refused n) = bad n
 fromReading (got kind as′) = requested kind (getD as′ 0 []) (getD as′ 1 []) (getD as′ 2 [])
 
--- ---- of an event
-
-abbrev pub connectionOf : Event → ℕ
-connectionOf (opens c) = c
-connectionOf (closes c) = c
-connectionOf (sends c b) = c
-
-unfoldable pub asked : Event → Asked
-asked (opens c) = toOpen
-asked (closes c) = toClose
-asked (sends c b) = fromReading (read requests (masked requests b))
+-- what these bytes ask
+unfoldable pub requestIn : Bytes → Request
+requestIn b = fromReading (read requests (masked requests b))
