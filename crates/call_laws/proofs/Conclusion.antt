@@ -17,9 +17,9 @@ use Rattle.packet.specs.Answers.{argumentAt}
 use Rattle.server.specs.declared.JobRow.{JobRow}
 use Rattle.lists.specs.Lists.{concat, numbers}
 use Rattle.server.specs.Sizes.{connectionCount, jobCount}
-use Rattle.server.specs.Table.{Table}
+use Rattle.server.specs.Table.{Table, rowsOf}
 use Rattle.server.specs.Requests.{Event}
-use Rattle.server.specs.Events.{Send, Decision, error, refuse, noop}
+use Rattle.server.specs.Events.{Send, Decision, error, refuse, noop, toWakeIn}
 use Rattle.server.specs.Server.{Server, render, rework, opaqueOf, decided, next, answer}
 use Rattle.server.specs.Layout.{connectionIn, tableOf, bytesOf, isImage}
 use Rattle.server.specs.Call.{placeOf, sentBytes, serverIn, isSound, performed, left}
@@ -31,9 +31,9 @@ use Rattle.server_calls.proofs.EveryCall.{taken-running}
 use Rattle.server_calls.proofs.Output.{output-fits}
 use Rattle.plan.specs.declared.Plan.{Plan}
 use Rattle.plan.specs.declared.Values.{Values}
-use Rattle.plan.specs.Values.{rowsOf, valuesOf}
-use Rattle.plan.specs.Settling.{droppedRows, toWakeIn, settledValues}
-use Rattle.plan.specs.Plans.{changed, finalTable, ordered}
+use Rattle.plan.specs.Values.{valuesOf}
+use Rattle.plan.specs.Settling.{droppedRows, settledValues}
+use Rattle.plan.specs.Parts.{changed, finalTable, ordered}
 use Rattle.plan_laws.proofs.Decides.{Words, Planned, refused, carries, carried}
 use Rattle.carry_packet.specs.Messages.{errorArguments, message}
 use Rattle.carry_packet.proofs.Rendered.{none-rendered, error-rendered}

@@ -23,7 +23,7 @@ use Rattle.packet_kinds.proofs.Tests.{bools, range-arm}
 use Rattle.packet_kinds.proofs.Shapes.{at-most-five}
 use Rattle.server.specs.Sizes.{connectionCount}
 use Rattle.server.specs.Requests.{Event, opens, closes, sends, Request, bad, requested, fromReading, requestIn}
-use Rattle.server.specs.Events.{refuse, isOpening, served, admitted, decide}
+use Rattle.server.specs.Events.{refuse, isOpening, served, admitted, decide, toWakeIn}
 use Rattle.server.specs.Server.{opaqueOf, decided}
 use Rattle.server.specs.Layout.{tableOf}
 use Rattle.server.specs.Call.{serverIn, call, left}
@@ -33,8 +33,9 @@ use Rattle.plan.specs.declared.Plan.{Plan}
 use Rattle.plan.specs.declared.Change.the-variants as CV
 use Rattle.plan.specs.declared.Order.the-variants as OV
 use Rattle.plan.specs.Values.{valuesOf}
-use Rattle.plan.specs.Settling.{droppedRows, toWakeIn}
-use Rattle.plan.specs.Plans.{closedIn, done, openedIn, ordered, planFor, planServed}
+use Rattle.plan.specs.Settling.{droppedRows}
+use Rattle.plan.specs.Plans.{done, planServed}
+use Rattle.plan.specs.Parts.{closedIn, ordered}
 use Rattle.plan_laws.proofs.Decides.{Words, Suits, for-open, for-close, planned}
 use Rattle.carry_packet.proofs.Rendered.{data-whole, noops-rendered}
 use Rattle.packet_laws.proofs.Answers.{read-answer}

@@ -4,7 +4,7 @@
 use carry_event::Answer;
 use packet::Ends;
 use packet::Read;
-use plan::Brief;
+use plan::Plan;
 ghost use mathlib.Core.Path.{_≡_};
 ghost use mathlib.Core.Bool.{cond, false};
 ghost use Rattle.packet.specs.declared.Read.the-variants as RV;
@@ -17,7 +17,7 @@ ghost use Rattle.server.specs.Call.{call, left};
 ghost use Rattle.plan.specs.declared.Change.the-variants as CV;
 ghost use Rattle.plan.specs.declared.Order.the-variants as OV;
 ghost use Rattle.plan.specs.declared.Step.the-variants as SV;
-ghost use Rattle.plan.specs.Briefs.{done};
+ghost use Rattle.plan.specs.Plans.{done};
 ghost use Rattle.call_admit.specs.Admission.{admission};
 
 // The ends of no arguments.
@@ -41,7 +41,7 @@ fn refused(number: u8) -> Answer
 }
 
 // The brief plan of an open, or of a close.
-fn plan_open_or_close(c: usize, to_open: bool) -> Brief
+fn plan_open_or_close(c: usize, to_open: bool) -> Plan
     ensures { λ r. ⌜ r ≡ cond to_open (done (SV.Flags c justOpened) CV.Nothing OV.Nothing) (done (SV.Leave c) (CV.Left c) OV.Nothing) ⌝ }
 {
     if to_open {

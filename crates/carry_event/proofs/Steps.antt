@@ -20,19 +20,19 @@ use Rattle.sets.specs.Sets.{has, members}
 use Rattle.server.specs.declared.JobRow.{JobRow}
 use Rattle.lists.specs.Lists.{concat, numbers}
 use Rattle.server.specs.Sizes.{connectionCount, jobCount, outputSize}
-use Rattle.server.specs.Table.{Table}
+use Rattle.server.specs.Table.{Table, rowsOf}
 use Rattle.server.specs.Refusals.{refusalTexts, isTold}
 use Rattle.server.specs.Layout.{bytesOf, tableOf}
 use Rattle.server.specs.Call.{placeOf, left}
 use Rattle.plan.specs.declared.Values.{Values}
-use Rattle.plan.specs.Values.{rowsOf, valuesOf}
-use Rattle.plan.specs.Settling.{droppedRows, toWakeIn}
-use Rattle.plan.specs.Plans.{changed}
+use Rattle.plan.specs.Values.{valuesOf}
+use Rattle.plan.specs.Settling.{droppedRows}
+use Rattle.server.specs.Events.{toWakeIn}
+use Rattle.plan.specs.Parts.{changed}
 use Rattle.carry_workloads.specs.Reworked.{reworkedRows}
-use Rattle.plan.specs.declared.Brief.{Brief}
+use Rattle.plan.specs.declared.Plan.{Plan}
 use Rattle.plan.specs.declared.Ending.{Ending}
 use Rattle.plan.specs.Steps.{meant, stepped, ending, Lean}
-use Rattle.plan.specs.declared.Plan.{Plan}
 use Rattle.carry_packet.specs.Messages.{errorArguments, message, messages}
 use Rattle.server_calls.proofs.Refusals.{short-at}
 use Rattle.carry_event.specs.Concluded.{concluded, opaqueIn, opaquePlace, packetsSent, refusalBytes, tableLeft, workloadsLeft}
@@ -98,7 +98,7 @@ rows-are v t e = ap (λ (x : Values). x .rows) e
 
 -- ---- a lean step
 
-module _ (brief : Brief) (t w p : Bytes) (c kind : ℕ) (ends : Ends) where
+module _ (brief : Plan) (t w p : Bytes) (c kind : ℕ) (ends : Ends) where
   abbrev before : Table
   before = tableOf connectionCount t
 

@@ -15,14 +15,14 @@ use Rattle.packet.specs.Answers.{argumentAt}
 use Rattle.packet.specs.Opaque.{endsOpaque}
 use Rattle.lists.specs.Lists.{concat, numbers}
 use Rattle.server.specs.Sizes.{connectionCount, jobCount, workloadSize}
-use Rattle.server.specs.Table.{Table}
+use Rattle.server.specs.Table.{Table, rowsOf}
 use Rattle.server.specs.Layout.{bytesOf, tableOf}
 use Rattle.server.specs.Call.{Result, placeOf, left}
 use Rattle.server.specs.Refusals.{isTold}
 use Rattle.plan.specs.declared.Plan.{Plan}
-use Rattle.plan.specs.Values.{rowsOf, valuesOf}
+use Rattle.plan.specs.Values.{valuesOf}
 use Rattle.plan.specs.Settling.{droppedRows, settledValues}
-use Rattle.plan.specs.Plans.{changed, finalTable}
+use Rattle.plan.specs.Parts.{changed, finalTable}
 use Rattle.carry_packet.specs.Messages.{errorArguments, message}
 use Rattle.carry_workloads.specs.Reworked.{reworkedRows}
 use Rattle.carry_texts.specs.Fitting.{Fitting, Sized}

@@ -2,7 +2,7 @@
 // refusal. An inner crate: its callers lend a table that obeys the rules, and a plan that is ready for it; what is refused is the plan's.
 use packet::Ends;
 use packet::Shape;
-use plan::Brief;
+use plan::Plan;
 ghost use mathlib.Core.Path.{_≡_};
 ghost use mathlib.Core.Bool.{true, false};
 ghost use mathlib.Core.List.{[]};
@@ -16,7 +16,7 @@ ghost use Rattle.server.specs.Layout.{tableOf, tableSize};
 ghost use Rattle.server.specs.Refusals.{lastNumber};
 ghost use Rattle.server.specs.Call.{isSound, left};
 ghost use Rattle.plan.specs.Values.{valuesOf};
-ghost use Rattle.plan.specs.Plans.{changed};
+ghost use Rattle.plan.specs.Parts.{changed};
 ghost use Rattle.carry_packet.specs.Messages.{messages};
 ghost use Rattle.plan.specs.Steps.{Inside, Lean, isLean, meant};
 ghost use Rattle.carry_event.specs.Concluded.{Ready, concluded, opaquePlace, refusalBytes};
@@ -57,7 +57,7 @@ fn perform_lean(
     table: &mut [u8],
     workloads: &mut [u8],
     output: &mut [u8],
-    brief: Brief,
+    brief: Plan,
     c: u8,
     kind: u32,
     packet: &[u8],
@@ -105,7 +105,7 @@ fn perform_whole(
     table: &mut [u8],
     workloads: &mut [u8],
     output: &mut [u8],
-    brief: Brief,
+    brief: Plan,
     c: u8,
     kind: u32,
     packet: &[u8],
@@ -165,7 +165,7 @@ pub fn conclude(
     table: &mut [u8],
     workloads: &mut [u8],
     output: &mut [u8],
-    brief: Brief,
+    brief: Plan,
     c: u8,
     kind: u32,
     packet: &[u8],

@@ -14,7 +14,7 @@ use Rattle.packet.specs.declared.Rule.the-variants.{Text, Digits}
 use Rattle.packet.specs.Arguments.{digits, fits}
 use Rattle.lists.specs.Lists.{find}
 use Rattle.server.specs.Sizes.{connectionCount, functionCount, jobCount}
-use Rattle.server.specs.Table.{Job, Table, noRow, noJob, live, hasHandle, roomFor, joined}
+use Rattle.server.specs.Table.{Job, Table, noRow, noJob, live, hasHandle, roomFor, joined, rowsOf, freeRow}
 use Rattle.server.specs.Requests.{Work, Request}
 use Rattle.server.specs.Events.{exceptionsName, holdsHandle}
 use Rattle.lists.proofs.Cases.{cond-both}
@@ -22,8 +22,8 @@ use Rattle.lists.proofs.Searches.{found}
 use Rattle.server_laws.proofs.Functions.{room}
 use Rattle.server_laws.proofs.Requests.{Good, Told}
 use Rattle.plan.specs.declared.Plan.{Plan}
-use Rattle.plan.specs.Values.{rowsOf, valuesOf, freeRow}
-use Rattle.plan.specs.Plans.{planCanDo, planCantDo, planGrab, planNew, planJoin, planSubmit, planWork, planStatus, planOption, planServed, planFor}
+use Rattle.plan.specs.Values.{valuesOf}
+use Rattle.plan.specs.Plans.{planCanDo, planCantDo, planGrab, planNew, planJoin, planSubmit, planWork, planStatus, planOption, planServed}
 use Rattle.plan_laws.proofs.Decides.{Words, Says, that-tells, that-reports, that-ends, that-throws, Suits, for-open, for-close, for-reset, for-sleep, for-echo, for-bad, for-can, for-cannot, for-grab, for-submit, for-work, for-status, for-option}
 use Rattle.carry_places.proofs.Laid.{Whole}
 use Rattle.carry_texts.specs.Fitting.{Fitting}

@@ -12,7 +12,7 @@ use Rattle.plan.specs.declared.Plan.{Plan}
 use Rattle.plan.specs.declared.Change.the-variants as CV
 use Rattle.plan.specs.declared.Order.the-variants as OV
 use Rattle.plan.specs.Values.{valuesOf}
-use Rattle.plan.specs.Plans.{openedIn, refusal, done, planServed, planFor}
+use Rattle.plan.specs.Plans.{refusal, done, planServed}
 
 module _ (c : ℕ) (a : Request) (t : Table) where
   -- what holds of the served, of an opening and of refusals holds of the plan

@@ -11,14 +11,15 @@ use Rattle.sets.specs.Sets.{remove}
 use Rattle.server.specs.declared.Connection.{Connection}
 use Rattle.server.specs.declared.JobRow.{JobRow}
 use Rattle.lists.specs.Lists.{find}
-use Rattle.server.specs.Table.{Job, Function, Table, closed, hasHandle, known, roomFor, joined}
+use Rattle.server.specs.Table.{Job, Function, Table, closed, hasHandle, known, roomFor, joined, rowsOf, ablesOf, freeRow, bestRow}
 use Rattle.server.specs.Requests.{Work, tells, reports, ends, throws, Request, reset, preSleep, echo, bad, canDo, cantDo, grab, submit, work, getStatus, option}
 use Rattle.server.specs.Events.{exceptionsName, holdsHandle}
 use Rattle.lists.proofs.Cases.{cond-both}
 use Rattle.plan.specs.declared.Values.{Values}
 use Rattle.plan.specs.declared.Plan.{Plan}
-use Rattle.plan.specs.Values.{rowsOf, ablesOf, valuesOf, freeRow, bestRow, withAbles}
-use Rattle.plan.specs.Plans.{withConnection, putRow, leftRow, closedIn, planCanDo, planCantDo, planGrab, planNew, planJoin, planSubmit, planWork, planStatus, planOption, planServed, planFor}
+use Rattle.plan.specs.Values.{valuesOf, withAbles}
+use Rattle.plan.specs.Plans.{planCanDo, planCantDo, planGrab, planNew, planJoin, planSubmit, planWork, planStatus, planOption, planServed}
+use Rattle.plan.specs.Parts.{withConnection, putRow, leftRow, closedIn}
 use Rattle.carry_places.proofs.Laid.{Whole}
 use Rattle.carry_texts.specs.Fitting.{Sized}
 use Rattle.carry_laws.proofs.Served.{each-plan}

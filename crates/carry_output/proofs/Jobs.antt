@@ -22,7 +22,7 @@ use Rattle.server.specs.Layout.{functionIn, jobIn, tableOf, isImage}
 use Rattle.server.specs.Call.{isSound, placeOf, serverIn}
 use Rattle.table_laws.proofs.Columns.{length-places, places-at}
 use Rattle.plan.specs.Values.{valuesOf}
-use Rattle.plan.specs.Plans as P
+use Rattle.plan.specs.Parts as P
 use Rattle.lists.proofs.Rows.{clash, implies-use, all-at}
 use Rattle.server_laws.proofs.Sound.{Sound, jobNamed, rowMeans}
 use Rattle.server_laws.proofs.Obeyed.{obeyed}

@@ -15,15 +15,15 @@ use Rattle.server.specs.declared.Connection.{Connection}
 use Rattle.server.specs.declared.JobRow.{JobRow}
 use Rattle.server.specs.Sizes.{connectionCount}
 use Rattle.server.specs.Requests.{sends}
-use Rattle.server.specs.Events.{noop, exceptionsName}
+use Rattle.server.specs.Events.{noop, exceptionsName, toWakeIn}
 use Rattle.server.specs.Server.{render}
 use Rattle.server.specs.Layout.{tableOf}
 use Rattle.server.specs.Call.{serverIn}
 use Rattle.plan.specs.declared.Order as O′
 use Rattle.plan.specs.declared.Order.the-variants as OV
 use Rattle.plan.specs.declared.Values.{Values}
-use Rattle.plan.specs.Settling.{droppedRows, toWakeIn}
-use Rattle.plan.specs.Plans.{ordered}
+use Rattle.plan.specs.Settling.{droppedRows}
+use Rattle.plan.specs.Parts.{ordered}
 use Rattle.plan.specs.Busy.{busySet, toWakeSet}
 use Rattle.plan_settle.proofs.Sleepers.{to-wake-busy}
 use Rattle.carry_packet.specs.Messages.{message, messages, createdArguments, optionArguments, statusArguments}

@@ -19,8 +19,8 @@ use Rattle.server.specs.Call.{isSound, serverIn}
 use Rattle.lists.proofs.Lists.{length-fit}
 use Rattle.plan.specs.declared.Order.the-variants as OV
 use Rattle.plan.specs.Values.{valuesOf}
-use Rattle.plan.specs.Plans as P
-use Rattle.plan.specs.Plans.{ordered}
+use Rattle.plan.specs.Parts as P
+use Rattle.plan.specs.Parts.{ordered}
 use Rattle.carry_packet.specs.Messages.{message, assignArguments, statusArguments}
 use Rattle.carry_packet.proofs.Rendered.{assign-rendered, status-rendered}
 use Rattle.carry_output.specs.Ordered.{bytesSent, orderBytes}

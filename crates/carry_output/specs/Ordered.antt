@@ -5,14 +5,14 @@ use mathlib.Core.List.{List, _++_, map}
 use Rattle.octets.specs.Bytes.{Bytes}
 use Rattle.server.specs.Sizes.{connectionCount}
 use Rattle.server.specs.Requests.{sends}
-use Rattle.server.specs.Events.{Send, noop}
+use Rattle.server.specs.Events.{Send, noop, toWakeIn}
 use Rattle.server.specs.Server.{render}
 use Rattle.server.specs.Layout.{tableOf}
 use Rattle.server.specs.Call.{sentBytes, serverIn}
 use Rattle.plan.specs.declared.Order as O′
 use Rattle.plan.specs.declared.Values.{Values}
-use Rattle.plan.specs.Settling.{droppedRows, toWakeIn}
-use Rattle.plan.specs.Plans.{ordered}
+use Rattle.plan.specs.Settling.{droppedRows}
+use Rattle.plan.specs.Parts.{ordered}
 
 -- the bytes of these packets, of which copies are of packet p from connection c
 unfoldable pub bytesSent : ℕ → Bytes → Bytes → Bytes → List Send → Bytes

@@ -31,7 +31,8 @@ ghost use Rattle.server.specs.Table.{jobAt, live};
 ghost use Rattle.server.specs.Layout.{tableOf, tableSize};
 ghost use Rattle.server.specs.Call.{isSound};
 ghost use Rattle.plan.specs.declared.Order.the-variants as OV;
-ghost use Rattle.plan.specs.Settling.{droppedRows, toWakeIn};
+ghost use Rattle.plan.specs.Settling.{droppedRows};
+ghost use Rattle.server.specs.Events.{toWakeIn};
 ghost use Rattle.carry_output.specs.Orderly.{Orderly};
 ghost use Rattle.carry_output.specs.Ordered.{answerBytes, orderBytes};
 

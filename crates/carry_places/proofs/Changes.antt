@@ -11,11 +11,10 @@ use Rattle.octets.specs.Put.{put}
 use Rattle.server.specs.declared.JobRow.{JobRow}
 use Rattle.lists.specs.Lists.{fit, mapFrom}
 use Rattle.server.specs.Sizes.{functionCount, jobCount, nameSize, uniqueSize}
-use Rattle.server.specs.Table.{Job, Table, noRow, noJob, functionAt, jobAt, withJobs, setFunction, withName, withTexts, unstarted, heldBy}
+use Rattle.server.specs.Table.{Job, Table, noRow, noJob, functionAt, jobAt, withJobs, setFunction, withName, withTexts, unstarted, heldBy, rowsOf}
 use Rattle.server.specs.Layout.{bytesOf, namesAt, uniquesAt}
 use Rattle.plan.specs.declared.Change.the-variants as CV
-use Rattle.plan.specs.Values.{rowsOf}
-use Rattle.plan.specs.Plans.{changed}
+use Rattle.plan.specs.Parts.{changed}
 use Rattle.table_laws.proofs.Puts.{put-name, put-numbers, put-texts}
 use Rattle.carry_places.specs.Laying.{laidNumbers, laidZeros}
 use Rattle.carry_places.specs.Written.{laidReturned}

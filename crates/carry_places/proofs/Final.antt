@@ -18,7 +18,7 @@ use Rattle.lists.proofs.Rows.{length-mapFrom}
 use Rattle.table_laws.proofs.Puts.{put-last}
 use Rattle.plan.specs.declared.Values.{Values}
 use Rattle.plan.specs.Settling.{wantedIn, wantedMarks, settledValues}
-use Rattle.plan.specs.Plans.{rowed, rowedAll, ableAll, finalTable}
+use Rattle.plan.specs.Parts.{rowed, rowedAll, ableAll, finalTable}
 use Rattle.lists.proofs.Lists.{number-made}
 use Rattle.carry_places.specs.Laying.{laidJob, laidFunction, laidFlags}
 use Rattle.carry_places.specs.Written.{laidJobs, laidFunctions, laidConnections, written}

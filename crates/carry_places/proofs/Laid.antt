@@ -15,7 +15,7 @@ use Rattle.server.specs.Sizes.{connectionCount, functionCount, jobCount}
 use Rattle.server.specs.Table.{Job, Table, noJob, noFunction, functionAt, jobAt, setConnection, setFunction, setJob, withJobs, withAble, withRow, withTexts, live}
 use Rattle.server.specs.Layout.{little, flagByte, bytesOf}
 use Rattle.table_laws.proofs.Puts.{Sized, put-job, put-row, put-numbers, put-function, put-able, put-connection}
-use Rattle.plan.specs.Plans.{rowed}
+use Rattle.plan.specs.Parts.{rowed}
 use Rattle.carry_places.specs.Laying.{laidRow, laidFree, laidJob, laidZeros, laidForgotten, laidFunction, laidFlags}
 
 -- a table of the product's size

@@ -27,7 +27,7 @@ use Rattle.plan.specs.declared.Change as C′
 use Rattle.lists.specs.declared.Place.{Place}
 use Rattle.lists.specs.declared.Place.the-variants.{At, Nowhere}
 use Rattle.plan.specs.Values.{valuesOf}
-use Rattle.plan.specs.Plans.{changed, finalTable}
+use Rattle.plan.specs.Parts.{changed, finalTable}
 use Rattle.carry_places.specs.Laying.{laidRow, laidEach}
 use Rattle.carry_places.proofs.Laid.{Whole, set-own, row-laid, free-laid, flags-laid, forgotten-laid}
 use Rattle.carry_places.proofs.Each.{eachConnection, each-laid, each-none, all-connections, connection-whole}

@@ -22,7 +22,7 @@ ghost use Rattle.server.specs.Sizes.{connectionCount, functionCount, jobCount, 
 ghost use Rattle.server.specs.Layout.{bytesOf, flagByte, little, tableOf, tableSize};
 ghost use Rattle.server.specs.Call.{isSound, placeOf};
 ghost use Rattle.plan.specs.Values.{valuesOf};
-ghost use Rattle.plan.specs.Plans.{changed, finalTable};
+ghost use Rattle.plan.specs.Parts.{changed, finalTable};
 ghost use Rattle.carry_texts.specs.Fitting.{Fitting};
 ghost use Rattle.carry_workloads.specs.Reworked.{reworkedRows};
 ghost use Rattle.plan.specs.Steps.{Inside, Lean, Within, isLean};

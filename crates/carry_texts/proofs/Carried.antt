@@ -12,8 +12,9 @@ use Rattle.lists.proofs.Rows.{length-mapFrom}
 use Rattle.plan.specs.declared.Values.{Values}
 use Rattle.plan.specs.declared.Change as C′
 use Rattle.plan.specs.declared.Change.the-variants as CV
-use Rattle.plan.specs.Settling.{settledValues, wokenIn}
-use Rattle.plan.specs.Plans.{changed, finalTable}
+use Rattle.plan.specs.Settling.{settledValues}
+use Rattle.server.specs.Events.{wokenIn}
+use Rattle.plan.specs.Parts.{changed, finalTable}
 use Rattle.plan_settle.proofs.Turns.{length-dropped}
 use Rattle.carry_places.specs.Written.{written}
 use Rattle.carry_places.proofs.Laid.{Whole}

@@ -8,15 +8,14 @@ use Rattle.octets.specs.Put.{put}
 use Rattle.octets.proofs.Strings.{and-left}
 use Rattle.lists.specs.Lists.{fit}
 use Rattle.server.specs.Sizes.{connectionCount, functionCount, jobCount, nameSize, uniqueSize}
-use Rattle.server.specs.Table.{Job, heldBy}
+use Rattle.server.specs.Table.{Job, heldBy, rowsOf}
 use Rattle.server.specs.Layout.{connectionIn, functionIn, jobIn, tableOf, bytesOf, isImage, namesAt, uniquesAt}
 use Rattle.server.specs.Call.{isSound}
 use Rattle.table_laws.proofs.Columns.{length-places}
 use Rattle.table_laws.proofs.Image.{image-back}
 use Rattle.plan.specs.declared.Change as C′
 use Rattle.plan.specs.declared.Change.the-variants as CV
-use Rattle.plan.specs.Values.{rowsOf}
-use Rattle.plan.specs.Plans.{changed}
+use Rattle.plan.specs.Parts.{changed}
 use Rattle.carry_places.specs.Laying.{laidNumbers}
 use Rattle.carry_places.specs.Written.{laidReturned}
 use Rattle.carry_places.proofs.Laid.{Whole}

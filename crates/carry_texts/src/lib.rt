@@ -10,7 +10,7 @@ ghost use Rattle.octets.specs.Put.{put};
 ghost use Rattle.server.specs.Sizes.{connectionCount};
 ghost use Rattle.server.specs.Layout.{bytesOf, tableOf, tableSize};
 ghost use Rattle.server.specs.Call.{isSound};
-ghost use Rattle.plan.specs.Plans.{changed, finalTable};
+ghost use Rattle.plan.specs.Parts.{changed, finalTable};
 ghost use Rattle.carry_texts.specs.Fitting.{Fitting, Sized};
 
 // Lays the texts of a change over the table.

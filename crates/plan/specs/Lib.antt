@@ -1,6 +1,6 @@
 pub mod Values
 pub mod Settling
-pub mod Plans
+pub mod Parts
 pub mod Busy
 pub mod Steps
-pub mod Briefs
+pub mod Plans

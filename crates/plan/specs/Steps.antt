@@ -10,19 +10,17 @@ use Rattle.sets.specs.Sets.{has, insert, remove, isEmpty, members}
 use Rattle.server.specs.declared.JobRow.{JobRow}
 use Rattle.lists.specs.Lists.{any, mapFrom}
 use Rattle.server.specs.Sizes.{connectionCount, functionCount, jobCount}
-use Rattle.server.specs.Table.{Function, Table, noRow, noJob, noFunction, jobAt, functionAt, setConnection, setFunction, setJob, withRow, queued, names, withLastSerial, withConnections, withFunctions, withAble}
-use Rattle.server.specs.Events.{awake}
+use Rattle.server.specs.Table.{Function, Table, noRow, noJob, noFunction, jobAt, functionAt, setConnection, setFunction, setJob, withRow, queued, names, grabbable, withLastSerial, withConnections, withFunctions, withAble}
+use Rattle.server.specs.Events.{awake, toWakeIn}
 use Rattle.lists.specs.declared.Place.{Place}
 use Rattle.lists.specs.declared.Place.the-variants.{At, Nowhere}
 use Rattle.plan.specs.declared.Values as V′
-use Rattle.plan.specs.declared.Plan.{Plan}
-use Rattle.plan.specs.Values.{valuesOf, canGrab, withLast, withAbles}
-use Rattle.plan.specs.Settling.{droppedRows, toWakeIn}
-use Rattle.plan.specs.Plans.{withConnection, putRow, rowIn, closedIn, finalTable}
+use Rattle.plan.specs.Values.{valuesOf, withLast, withAbles}
+use Rattle.plan.specs.Settling.{droppedRows}
+use Rattle.plan.specs.Parts.{withConnection, putRow, rowIn, closedIn, finalTable}
 use Rattle.plan.specs.Busy.{toWakeSet}
 use Rattle.plan.specs.declared.Step as S′
 use Rattle.plan.specs.declared.Step.the-variants as SV
-use Rattle.plan.specs.declared.Brief.{Brief}
 use Rattle.plan.specs.declared.Ending.{Ending}
 
 -- the numbers after a step
@@ -36,10 +34,6 @@ stepped (SV.Flags c x) v = withConnection c x v
 stepped (SV.Able q s) v = withAbles (set (v .able) q s) v
 stepped (SV.Reset c) v = withAbles (map (λ s. remove s c) (v .able)) v
 stepped (SV.Leave c) v = closedIn c v
-
--- the plan that a brief one means, on these numbers
-abbrev pub meant : Brief → V′.Values → Plan
-meant b v = record { number = b .number; values = stepped (b .step) v; change = b .change; order = b .order }
 
 -- ---- a step written where it lies
 
@@ -99,7 +93,7 @@ ending (SV.End p) v =
     record { woken = 0; forgotten = unwanted (rowIn v p .function) (getD (v .able) (rowIn v p .function) 0) (set (v .rows) p noRow) }
 ending (SV.Grab p r c x) v = record { woken = 0; forgotten = Nowhere }
 ending (SV.New p r) v = record { woken = toWakeSet (getD (v .able) (r .function) 0) (v .connections); forgotten = Nowhere }
-ending (SV.Flags c x) v = record { woken = cond (x .asleep && any (canGrab (v .able) c) (v .rows)) (insert 0 c) 0; forgotten = Nowhere }
+ending (SV.Flags c x) v = record { woken = cond (x .asleep && any (grabbable (v .able) c) (v .rows)) (insert 0 c) 0; forgotten = Nowhere }
 ending (SV.Able q s) v =
     record { woken = cond (any (waits q) (v .rows)) (toWakeSet s (v .connections)) 0; forgotten = unwanted q s (v .rows) }
 ending (SV.Reset c) v = record { woken = 0; forgotten = Nowhere }

@@ -39,14 +39,6 @@ pub enum Order {
     Optioned,
 }
 
-// What an event comes to: a refusal's number, or 0 and what it changes and sends before the table is settled.
-pub struct Plan {
-    pub number: u8,
-    pub values: Values,
-    pub change: Change,
-    pub order: Order,
-}
-
 // What changes among the numbers before the table is settled.
 pub enum Step {
     Nothing,
@@ -83,8 +75,9 @@ pub enum Step {
     }, // close
 }
 
-// A plan with a step in place of all numbers.
-pub struct Brief {
+// What an event comes to: a refusal's number, or 0 and the step that it takes, the texts that it changes and the packets that it sends,
+// before the table is settled.
+pub struct Plan {
     pub number: u8,
     pub step: Step,
     pub change: Change,

@@ -12,12 +12,12 @@ use Rattle.sets.specs.Sets.{has}
 use Rattle.server.specs.declared.JobRow.{JobRow}
 use Rattle.lists.specs.Lists.{any}
 use Rattle.server.specs.Sizes.{connectionCount}
-use Rattle.server.specs.Table.{noRow, queued, names}
+use Rattle.server.specs.Table.{noRow, queued, names, grabbable}
 use Rattle.server.specs.Layout.{tableOf}
 use Rattle.lists.proofs.Cases.{cond-both}
 use Rattle.plan.specs.declared.Values.{Values}
-use Rattle.plan.specs.Values.{valuesOf, canGrab}
-use Rattle.plan.specs.Plans.{rowIn}
+use Rattle.plan.specs.Values.{valuesOf}
+use Rattle.plan.specs.Parts.{rowIn}
 use Rattle.plan_settle.proofs.Sleepers.{or-assoc, or-none}
 use Rattle.plan.proofs.Sizes.{rows-long}
 
@@ -54,9 +54,9 @@ module _ (rs : List JobRow) (q over i : ℕ) where
 -- ---- a job that can be grabbed, from what was read
 
 pub grab-read : (v : Values) (c i : ℕ) (r : JobRow) (s : ℕ) (b : Bool) → r ≡ rowIn v i → s ≡ getD (v .able) (r .function) 0 → b ≡ has s c
-    → queued r && b ≡ canGrab (v .able) c (rowIn v i)
+    → queued r && b ≡ grabbable (v .able) c (rowIn v i)
 grab-read v c i r s b e f g =
-    ap (λ (x : Bool). queued r && x) (g ∙ ap (λ (y : ℕ). has y c) f) ∙ ap (canGrab (v .able) c) e
+    ap (λ (x : Bool). queued r && x) (g ∙ ap (λ (y : ℕ). has y c) f) ∙ ap (grabbable (v .able) c) e
 
 -- ---- a set that is empty unless a test holds
 

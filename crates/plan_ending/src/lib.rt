@@ -13,11 +13,11 @@ ghost use lib.ListN.{length, getD, set};
 ghost use Rattle.sets.specs.Sets.{insert};
 ghost use Rattle.lists.specs.Lists.{any};
 ghost use Rattle.server.specs.Sizes.{connectionCount, jobCount};
-ghost use Rattle.server.specs.Table.{names, noRow};
+ghost use Rattle.server.specs.Table.{names, noRow, grabbable};
 ghost use Rattle.server.specs.Layout.{tableOf, tableSize};
 ghost use Rattle.lists.specs.declared.Place.the-variants as PV;
-ghost use Rattle.plan.specs.Values.{canGrab, valuesOf};
-ghost use Rattle.plan.specs.Plans.{rowIn};
+ghost use Rattle.plan.specs.Values.{valuesOf};
+ghost use Rattle.plan.specs.Parts.{rowIn};
 ghost use Rattle.plan.specs.Busy.{toWakeSet};
 ghost use Rattle.plan.specs.Steps.{Inside, isLean, unwanted};
 ghost use Rattle.plan.specs.Steps as S;
@@ -89,7 +89,7 @@ fn some_name(table: &[u8], q: usize, over: usize) -> bool
 // Whether the connection can grab the job at place i.
 fn grabs(table: &[u8], c: usize, i: usize) -> bool
     requires { ⌜ (tableSize connectionCount ≤ length (now table)) × (c < connectionCount) ⌝ }
-    ensures { λ b. ⌜ b ≡ canGrab (valuesOf (tableOf connectionCount (now (table .entry))) .able) c (rowIn (valuesOf (tableOf connectionCount (now (table .entry)))) i) ⌝ }
+    ensures { λ b. ⌜ b ≡ grabbable (valuesOf (tableOf connectionCount (now (table .entry))) .able) c (rowIn (valuesOf (tableOf connectionCount (now (table .entry)))) i) ⌝ }
 {
     let r = table_rows::row_at(table, i);
     ((r.serial != 0) & (r.holder == 0))
@@ -99,7 +99,7 @@ fn grabs(table: &[u8], c: usize, i: usize) -> bool
 // Whether the connection can grab some job.
 fn some_grab(table: &[u8], c: usize) -> bool
     requires { ⌜ (tableSize connectionCount ≤ length (now table)) × (c < connectionCount) ⌝ }
-    ensures { λ b. ⌜ b ≡ any (canGrab (valuesOf (tableOf connectionCount (now (table .entry))) .able) c) (valuesOf (tableOf connectionCount (now (table .entry))) .rows) ⌝ }
+    ensures { λ b. ⌜ b ≡ any (grabbable (valuesOf (tableOf connectionCount (now (table .entry))) .able) c) (valuesOf (tableOf connectionCount (now (table .entry))) .rows) ⌝ }
 {
     let mut found = false;
     let mut i = 0;
@@ -137,7 +137,7 @@ fn woken(s: u32) -> Ending
 // A connection that falls asleep, or not, as a set if it wakes at once.
 fn roused(table: &[u8], c: usize, asleep: bool) -> u32
     requires { ⌜ (tableSize connectionCount ≤ length (now table)) × (c < connectionCount) ⌝ }
-    ensures { λ r. ⌜ r ≡ cond (asleep && any (canGrab (valuesOf (tableOf connectionCount (now (table .entry))) .able) c) (valuesOf (tableOf connectionCount (now (table .entry))) .rows)) (insert 0 c) 0 ⌝ }
+    ensures { λ r. ⌜ r ≡ cond (asleep && any (grabbable (valuesOf (tableOf connectionCount (now (table .entry))) .able) c) (valuesOf (tableOf connectionCount (now (table .entry))) .rows)) (insert 0 c) 0 ⌝ }
 {
     if asleep {
         if some_grab(table, c) {

@@ -14,7 +14,7 @@ use Rattle.server.specs.Table.{closed}
 use Rattle.server.specs.Layout.{connectionIn, tableOf}
 use Rattle.table_laws.proofs.Columns.{length-places}
 use Rattle.plan.specs.Values.{valuesOf}
-use Rattle.plan.specs.Plans.{heardFrom, heard}
+use Rattle.plan.specs.Parts.{heardFrom, heard}
 
 -- i connections passed: the answer is that of the rest, from the set that is left
 module _ (cs : List Connection) (listeners s i : ℕ) (e : heard cs listeners ≡ heardFrom i (drop i cs) s) where

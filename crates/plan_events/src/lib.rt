@@ -1,7 +1,7 @@
 // What the rest of the events come to, as plans: abilities and sleep of a connection, open and close, worker packets, status and
 // options. An inner crate: it asks for the table's 3,796 bytes, and refuses nothing; a plan carries the number of a refusal.
 use lists::Place;
-use plan::Brief;
+use plan::Plan;
 use plan::Change;
 use plan::Order;
 use plan::Step;
@@ -19,10 +19,10 @@ ghost use Rattle.plan.specs.declared.Change.the-variants as CV;
 ghost use Rattle.plan.specs.declared.Order.the-variants as OV;
 ghost use Rattle.lists.specs.Places.{unplaced};
 ghost use Rattle.plan.specs.Values.{valuesOf};
-ghost use Rattle.plan.specs.Plans as P;
+ghost use Rattle.plan.specs.Parts as P;
 ghost use Rattle.plan.specs.declared.Step.the-variants as SV;
-ghost use Rattle.plan.specs.Briefs.{briefOption, briefStatus, briefWork, sleepingRow};
-ghost use Rattle.plan.specs.Briefs as B;
+ghost use Rattle.plan.specs.Plans.{planOption, planStatus, planWork, sleepingRow};
+ghost use Rattle.plan.specs.Plans as B;
 ghost use Rattle.plan_events.specs.Works.{workOf};
 
 // What a worker says of its job: data or a warning, a status, its end, an exception.
@@ -34,7 +34,7 @@ pub enum Work {
 }
 
 // RESET_ABILITIES.
-pub fn reset(c: usize) -> Brief
+pub fn reset(c: usize) -> Plan
     ensures { λ r. ⌜ r ≡ B.done (SV.Reset c) CV.Nothing OV.Nothing ⌝ }
 {
     plan_jobs::done(
@@ -45,7 +45,7 @@ pub fn reset(c: usize) -> Brief
 }
 
 // PRE_SLEEP.
-pub fn pre_sleep(table: &[u8], c: usize) -> Brief
+pub fn pre_sleep(table: &[u8], c: usize) -> Plan
     requires { ⌜ tableSize connectionCount ≤ length (now table) ⌝ }
     ensures { λ r. ⌜ r ≡ B.done (SV.Flags c (sleepingRow true c (valuesOf (tableOf connectionCount (now (table .entry)))))) CV.Nothing OV.Nothing ⌝ }
 {
@@ -61,7 +61,7 @@ pub fn pre_sleep(table: &[u8], c: usize) -> Brief
 }
 
 // Opening a connection.
-pub fn open(c: usize) -> Brief
+pub fn open(c: usize) -> Plan
     ensures { λ r. ⌜ r ≡ B.done (SV.Flags c justOpened) CV.Nothing OV.Nothing ⌝ }
 {
     let x = server::just_opened();
@@ -76,7 +76,7 @@ pub fn open(c: usize) -> Brief
 }
 
 // Closing a connection.
-pub fn close(c: usize) -> Brief
+pub fn close(c: usize) -> Plan
     ensures { λ r. ⌜ r ≡ B.done (SV.Leave c) (CV.Left c) OV.Nothing ⌝ }
 {
     plan_jobs::done(
@@ -88,9 +88,9 @@ pub fn close(c: usize) -> Brief
 
 // What a worker says of the job at a place: 14 where the connection holds no such job. WORK_STATUS stores its two texts; WORK_COMPLETE,
 // WORK_FAIL and WORK_EXCEPTION end the job, and only listeners with the option hear the last.
-pub fn worked(table: &[u8], held: Place, how: Work) -> Brief
+pub fn worked(table: &[u8], held: Place, how: Work) -> Plan
     requires { ⌜ tableSize connectionCount ≤ length (now table) ⌝ }
-    ensures { λ r. ⌜ r ≡ briefWork (unplaced held) (workOf how) (valuesOf (tableOf connectionCount (now (table .entry)))) ⌝ }
+    ensures { λ r. ⌜ r ≡ planWork (unplaced held) (workOf how) (valuesOf (tableOf connectionCount (now (table .entry)))) ⌝ }
 {
     match held {
         Place::Nowhere => plan_jobs::refused(14),
@@ -150,8 +150,8 @@ fn kept(s: u32, c: usize, stays: bool) -> u32
 }
 
 // GET_STATUS, from the place of the job.
-pub fn status(found: Place) -> Brief
-    ensures { λ r. ⌜ r ≡ briefStatus (unplaced found) ⌝ }
+pub fn status(found: Place) -> Plan
+    ensures { λ r. ⌜ r ≡ planStatus (unplaced found) ⌝ }
 {
     match found {
         Place::Nowhere => plan_jobs::done(Step::Nothing, Change::Nothing, Order::Unknown),
@@ -160,9 +160,9 @@ pub fn status(found: Place) -> Brief
 }
 
 // OPTION_REQ: 15 where the option is not `exceptions`.
-pub fn option(table: &[u8], served: bool, c: usize) -> Brief
+pub fn option(table: &[u8], served: bool, c: usize) -> Plan
     requires { ⌜ tableSize connectionCount ≤ length (now table) ⌝ }
-    ensures { λ r. ⌜ r ≡ briefOption served c (valuesOf (tableOf connectionCount (now (table .entry)))) ⌝ }
+    ensures { λ r. ⌜ r ≡ planOption served c (valuesOf (tableOf connectionCount (now (table .entry)))) ⌝ }
 {
     if !served {
         return plan_jobs::refused(15);

@@ -11,36 +11,35 @@ use lib.Dec.{eqb, leb, ltb}
 use Rattle.octets.proofs.Strings.{and-false, and-left, and-right}
 use Rattle.sets.specs.Sets.{has}
 use Rattle.server.specs.declared.JobRow.{JobRow}
-use Rattle.server.specs.Table.{queued}
-use Rattle.plan.specs.Values.{canGrab, rankIn}
+use Rattle.server.specs.Table.{queued, grabbable, rank}
 use Rattle.plan_find_rows.specs.Queue.{rankOf, staysBehind}
 
 module _ (ables : List ℕ) (c : ℕ) (r : JobRow) where
-  pub rank-idle : queued r ≡ false → rankIn ables c r ≡ 0
-  unfolding rankIn
+  pub rank-idle : queued r ≡ false → rank ables c r ≡ 0
+  unfolding rank
   rank-idle e = rw e
 
-  pub rank-unable : has (getD ables (r .function) 0) c ≡ false → rankIn ables c r ≡ 0
-  unfolding rankIn
+  pub rank-unable : has (getD ables (r .function) 0) c ≡ false → rank ables c r ≡ 0
+  unfolding rank
   rank-unable e = rw (e, and-false (queued r))
 
-  pub rank-able : queued r ≡ true → has (getD ables (r .function) 0) c ≡ true → rankIn ables c r ≡ rankOf r
-  unfolding rankIn
+  pub rank-able : queued r ≡ true → has (getD ables (r .function) 0) c ≡ true → rank ables c r ≡ rankOf r
+  unfolding rank
   rank-able e g = rw (e, g)
 
   -- at most what its priority and serial give
-  pub rank-most : rankIn ables c r ≤ rankOf r
-  unfolding rankIn
-  rank-most = go (canGrab ables c r)
+  pub rank-most : rank ables c r ≤ rankOf r
+  unfolding rank
+  rank-most = go (grabbable ables c r)
     where
       go : (t : Bool) → cond t (rankOf r) 0 ≤ rankOf r
       go true = omega arith
       go false = omega arith
 
   -- and no less, if it is ranked at all
-  pub rank-some : (rankIn ables c r ≡ 0 → ⊥) → rankIn ables c r ≡ rankOf r
-  unfolding rankIn
-  rank-some = go (canGrab ables c r)
+  pub rank-some : (rank ables c r ≡ 0 → ⊥) → rank ables c r ≡ rankOf r
+  unfolding rank
+  rank-some = go (grabbable ables c r)
     where
       go : (t : Bool) → (cond t (rankOf r) 0 ≡ 0 → ⊥) → cond t (rankOf r) 0 ≡ rankOf r
       go true n = refl

@@ -16,7 +16,7 @@ use Rattle.sets.specs.Sets.{has}
 use Rattle.server.specs.declared.JobRow.{JobRow}
 use Rattle.lists.specs.Lists.{find, numbers}
 use Rattle.server.specs.Sizes.{connectionCount, jobCount}
-use Rattle.server.specs.Table.{Job, noRow, noJob, jobAt, live}
+use Rattle.server.specs.Table.{Job, noRow, noJob, jobAt, live, rowsOf, freeRow}
 use Rattle.server.specs.Rules.{serialsApart, serialsDistinct}
 use Rattle.server.specs.Layout.{littleAt, rowIn, jobIn, tableOf, isImage, serialsAt}
 use Rattle.server.specs.Call.{isSound}
@@ -27,8 +27,8 @@ use Rattle.server_laws.proofs.Obeyed.{obeyed}
 use Rattle.lists.specs.declared.Place.{Place}
 use Rattle.lists.specs.declared.Place.the-variants.{At, Nowhere}
 use Rattle.lists.specs.Places.{placed}
-use Rattle.plan.specs.Values.{rowsOf, freeRow, serialRow, heldRow, valuesOf}
-use Rattle.plan.specs.Plans as P
+use Rattle.plan.specs.Values.{serialRow, heldRow, valuesOf}
+use Rattle.plan.specs.Parts as P
 use Rattle.table_rows.proofs.Reading.{rows-are, column-at}
 use Rattle.lists.proofs.Alike.{placed-at, placed-nowhere, find-numbers, find-by, find-nothing, find-narrow}
 

@@ -16,11 +16,11 @@ use Rattle.sets.proofs.Laws.{zero-has}
 use Rattle.server.specs.declared.JobRow.{JobRow}
 use Rattle.lists.specs.Lists.{all, numbers}
 use Rattle.server.specs.Sizes.{connectionCount, functionCount, jobCount}
-use Rattle.server.specs.Table.{noRow, queued}
+use Rattle.server.specs.Table.{noRow, queued, ablesOf, rowsOf, rank, bestRow}
 use Rattle.server.specs.Layout.{littleAt, rowIn, tableOf, serialsAt, ableAt}
 use Rattle.lists.specs.declared.Place.the-variants.{At, Nowhere}
 use Rattle.lists.specs.Places.{placed}
-use Rattle.plan.specs.Values.{ablesOf, rowsOf, rankIn, bestRow, valuesOf}
+use Rattle.plan.specs.Values.{valuesOf}
 use Rattle.table_rows.proofs.Reading.{row-place, able-inside, able-beyond}
 use Rattle.lists.proofs.Alike.{placed-at}
 use Rattle.table_passes.specs.Unions.{Joined}
@@ -40,7 +40,7 @@ module _ (b : Bytes) (c : ℕ) where
   ables = ablesOf (tableOf connectionCount b)
 
   abbrev rank : JobRow → ℕ
-  rank = rankIn ables c
+  rank = rank ables c
 
   -- ---- rows passed
 

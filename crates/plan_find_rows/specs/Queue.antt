@@ -9,10 +9,9 @@ use lib.Dec.{eqb, leb, ltb}
 use Rattle.octets.specs.Bytes.{Bytes}
 use Rattle.server.specs.declared.JobRow.{JobRow}
 use Rattle.server.specs.Sizes.{connectionCount}
-use Rattle.server.specs.Table.{greatest}
+use Rattle.server.specs.Table.{greatest, ablesOf, rowsOf, rank, bestRow}
 use Rattle.server.specs.Layout.{tableOf}
 use Rattle.lists.specs.Places.{placed}
-use Rattle.plan.specs.Values.{ablesOf, rowsOf, rankIn, bestRow}
 use Rattle.plan_find_rows.specs.declared.queue.Best as Q′
 
 -- the rank of a queued job for a connection that can do it. 01: "the highest priority, then the lowest serial"
@@ -26,5 +25,5 @@ staysBehind priority serial r = ltb (r .priority) priority || (eqb (r .priority)
 -- v is the best of the first i rows for connection c
 abbrev pub BestOf : Bytes → ℕ → ℕ → Q′.Best → Type 0
 BestOf b c i v =
-    (v .rank ≡ greatest (map (rankIn (ablesOf (tableOf connectionCount b)) c) (take i (rowsOf (tableOf connectionCount b)))))
+    (v .rank ≡ greatest (map (rank (ablesOf (tableOf connectionCount b)) c) (take i (rowsOf (tableOf connectionCount b)))))
     × (v .place ≡ placed (bestRow (ablesOf (tableOf connectionCount b)) (take i (rowsOf (tableOf connectionCount b))) c))

@@ -20,7 +20,8 @@ ghost use Rattle.server.specs.Sizes.{connectionCount, jobCount};
 ghost use Rattle.server.specs.Layout.{tableOf, tableSize};
 ghost use Rattle.server.specs.Call.{isSound};
 ghost use Rattle.lists.specs.Places.{placed};
-ghost use Rattle.plan.specs.Values.{ablesOf, bestRow, freeRow, heldRow, rowsOf, serialRow};
+ghost use Rattle.plan.specs.Values.{heldRow, serialRow};
+ghost use Rattle.server.specs.Table.{ablesOf, bestRow, freeRow, rowsOf};
 
 // The lowest place where the number stands.
 fn lowest(column: &[u32; JOBS], x: u32) -> Place

@@ -11,9 +11,8 @@ ghost use lib.ListN.{length, getD};
 ghost use Rattle.sets.specs.Sets.{has};
 ghost use Rattle.lists.specs.Lists.{all, numbers};
 ghost use Rattle.server.specs.Sizes.{connectionCount, jobCount};
-ghost use Rattle.server.specs.Table.{queued};
+ghost use Rattle.server.specs.Table.{queued, ablesOf};
 ghost use Rattle.server.specs.Layout.{rowIn, tableOf, tableSize};
-ghost use Rattle.plan.specs.Values.{ablesOf};
 ghost use Rattle.plan_find_rows.specs.Queue.{BestOf, rankOf, staysBehind};
 
 // The best job of the rows passed: its place, and its rank, which is 0 where there is none.

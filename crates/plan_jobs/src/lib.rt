@@ -1,7 +1,7 @@
 // What an event comes to, as a plan: from what the searches found, and the row, set or connection of the lent table that it is about.
 // An inner crate: it asks for the table's 3,796 bytes, and refuses nothing; a plan carries the number of a refusal.
 use lists::Place;
-use plan::Brief;
+use plan::Plan;
 use plan::Change;
 use plan::Order;
 use plan::Step;
@@ -15,14 +15,14 @@ ghost use Rattle.server.specs.Sizes.{connectionCount, functionCount};
 ghost use Rattle.server.specs.Layout.{tableOf, tableSize};
 ghost use Rattle.lists.specs.Places.{unplaced};
 ghost use Rattle.plan.specs.Values.{valuesOf};
-ghost use Rattle.plan.specs.Briefs.{briefCanDo, briefCantDo, briefGrab, briefJoin, briefNew, briefSubmit, sleepingRow};
-ghost use Rattle.plan.specs.Briefs as B;
+ghost use Rattle.plan.specs.Plans.{planCanDo, planCantDo, planGrab, planJoin, planNew, planSubmit, sleepingRow};
+ghost use Rattle.plan.specs.Plans as B;
 
 // A refusal.
-pub fn refused(number: u8) -> Brief
+pub fn refused(number: u8) -> Plan
     ensures { λ r. ⌜ r ≡ B.refusal number ⌝ }
 {
-    Brief {
+    Plan {
         number,
         step: Step::Nothing,
         change: Change::Nothing,
@@ -31,10 +31,10 @@ pub fn refused(number: u8) -> Brief
 }
 
 // An event that is done.
-pub fn done(step: Step, change: Change, order: Order) -> Brief
+pub fn done(step: Step, change: Change, order: Order) -> Plan
     ensures { λ r. ⌜ r ≡ B.done step change order ⌝ }
 {
-    Brief {
+    Plan {
         number: 0,
         step,
         change,
@@ -43,9 +43,9 @@ pub fn done(step: Step, change: Change, order: Order) -> Brief
 }
 
 // CAN_DO, from the place that the function has or would take: 11 where there is none.
-pub fn can_do(table: &[u8], room: Place, c: usize) -> Brief
+pub fn can_do(table: &[u8], room: Place, c: usize) -> Plan
     requires { ⌜ (tableSize connectionCount ≤ length (now table)) × (c < connectionCount) ⌝ }
-    ensures { λ r. ⌜ r ≡ briefCanDo (unplaced room) c (valuesOf (tableOf connectionCount (now (table .entry)))) ⌝ }
+    ensures { λ r. ⌜ r ≡ planCanDo (unplaced room) c (valuesOf (tableOf connectionCount (now (table .entry)))) ⌝ }
 {
     match room {
         Place::Nowhere => refused(11),
@@ -64,9 +64,9 @@ pub fn can_do(table: &[u8], room: Place, c: usize) -> Brief
 }
 
 // CANT_DO, from the place of the function: an unknown one changes nothing.
-pub fn cant_do(table: &[u8], known: Place, c: usize) -> Brief
+pub fn cant_do(table: &[u8], known: Place, c: usize) -> Plan
     requires { ⌜ (tableSize connectionCount ≤ length (now table)) × (c < connectionCount) ⌝ }
-    ensures { λ r. ⌜ r ≡ briefCantDo (unplaced known) c (valuesOf (tableOf connectionCount (now (table .entry)))) ⌝ }
+    ensures { λ r. ⌜ r ≡ planCantDo (unplaced known) c (valuesOf (tableOf connectionCount (now (table .entry)))) ⌝ }
 {
     match known {
         Place::Nowhere => done(Step::Nothing, Change::Nothing, Order::Nothing),
@@ -94,9 +94,9 @@ pub fn sleeping(table: &[u8], c: usize, asleep: bool) -> Connection
 }
 
 // GRAB_JOB and GRAB_JOB_UNIQ, from the place of the job that is given.
-pub fn grab(table: &[u8], best: Place, uniq: bool, c: usize) -> Brief
+pub fn grab(table: &[u8], best: Place, uniq: bool, c: usize) -> Plan
     requires { ⌜ (tableSize connectionCount ≤ length (now table)) × (c < connectionCount) ⌝ }
-    ensures { λ r. ⌜ r ≡ briefGrab (unplaced best) uniq c (valuesOf (tableOf connectionCount (now (table .entry)))) ⌝ }
+    ensures { λ r. ⌜ r ≡ planGrab (unplaced best) uniq c (valuesOf (tableOf connectionCount (now (table .entry)))) ⌝ }
 {
     let awake = sleeping(table, c, false);
     match best {
@@ -134,9 +134,9 @@ pub fn submit(
     priority: u8,
     background: bool,
     size: u16,
-) -> Brief
+) -> Plan
     requires { ⌜ (tableSize connectionCount ≤ length (now table)) × (c < connectionCount) × ((q : ℕ) → unplaced room ≡ some q → q < functionCount) ⌝ }
-    ensures { λ r. ⌜ r ≡ briefSubmit (unplaced joined) (unplaced room) (unplaced free) c priority background size (valuesOf (tableOf connectionCount (now (table .entry)))) ⌝ }
+    ensures { λ r. ⌜ r ≡ planSubmit (unplaced joined) (unplaced room) (unplaced free) c priority background size (valuesOf (tableOf connectionCount (now (table .entry)))) ⌝ }
 {
     match joined {
         Place::At(p) => join(table, p, c, background),
@@ -145,9 +145,9 @@ pub fn submit(
 }
 
 // A join: the job has a submitter more, and JOB_CREATED names it.
-fn join(table: &[u8], p: usize, c: usize, background: bool) -> Brief
+fn join(table: &[u8], p: usize, c: usize, background: bool) -> Plan
     requires { ⌜ (tableSize connectionCount ≤ length (now table)) × (c < connectionCount) ⌝ }
-    ensures { λ r. ⌜ r ≡ briefJoin p c background (valuesOf (tableOf connectionCount (now (table .entry)))) ⌝ }
+    ensures { λ r. ⌜ r ≡ planJoin p c background (valuesOf (tableOf connectionCount (now (table .entry)))) ⌝ }
 {
     let row = table_rows::row_at(table, p);
     let joined = plan_rows::submitted(row, c, background);
@@ -170,9 +170,9 @@ fn submit_new(
     priority: u8,
     background: bool,
     size: u16,
-) -> Brief
+) -> Plan
     requires { ⌜ (tableSize connectionCount ≤ length (now table)) × (c < connectionCount) × ((q : ℕ) → unplaced room ≡ some q → q < functionCount) ⌝ }
-    ensures { λ r. ⌜ r ≡ briefNew (unplaced room) (unplaced free) c priority background size (valuesOf (tableOf connectionCount (now (table .entry)))) ⌝ }
+    ensures { λ r. ⌜ r ≡ planNew (unplaced room) (unplaced free) c priority background size (valuesOf (tableOf connectionCount (now (table .entry)))) ⌝ }
 {
     match room {
         Place::Nowhere => refused(11),
@@ -192,9 +192,9 @@ fn accept(
     priority: u8,
     background: bool,
     size: u16,
-) -> Brief
+) -> Plan
     requires { ⌜ (tableSize connectionCount ≤ length (now table)) × (c < connectionCount) × (q < functionCount) ⌝ }
-    ensures { λ r. ⌜ r ≡ briefNew (some q) (some p) c priority background size (valuesOf (tableOf connectionCount (now (table .entry)))) ⌝ }
+    ensures { λ r. ⌜ r ≡ planNew (some q) (some p) c priority background size (valuesOf (tableOf connectionCount (now (table .entry)))) ⌝ }
 {
     let last = table_rows::last(table);
     if last < 4294967295 {

@@ -13,7 +13,7 @@ use Rattle.server.specs.declared.Connection.{Connection}
 use Rattle.lists.specs.Lists.{filter}
 use Rattle.lists.proofs.Maps.{filter-append}
 use Rattle.server.specs.Table.{closed}
-use Rattle.plan.specs.Plans.{heardFrom, heard}
+use Rattle.plan.specs.Parts.{heardFrom, heard}
 
 deaf-step : (b : Bool) (s c x : ℕ) → x ≢ c → has (cond b s (remove s c)) x ≡ has s x
 deaf-step true s c x n = refl

@@ -1,6 +1,7 @@
 pub mod Settled
-pub mod Hearing
 pub mod Texts
+pub mod Hearing
+pub mod Draws
 pub mod Decides
 pub mod Ends
 pub mod Steps

@@ -7,50 +7,54 @@ use mathlib.Core.Option.{Option, none, some}
 use mathlib.Core.List.{List, [], _∷_, map}
 use native.Mathlib.Decide.{ℕ-discrete}
 use borrow.Author.Tests.{not-true, eq-eqb, ne-eqb, ltb-true}
-use lib.ListN.{length, getD, set, length-set, length-map, List·getD-map}
+use lib.ListN.{length, getD, set, length-set}
 use lib.Seq.{getD-set-same, getD-set-other, map-set-same}
 use lib.Dec.{leb, ltb, eqb, eqb·suc-zero}
 use Rattle.octets.specs.Bytes.{Bytes, same}
 use Rattle.octets.proofs.Strings.{and-left, and-right, and-both, and-false}
 use Rattle.sets.specs.Sets.{has, isEmpty, insert, remove, members}
 use Rattle.sets.proofs.Laws.{has-insert-same, has-only, nonempty}
+use Rattle.lists.specs.Lists.{any, find, implies}
+use Rattle.lists.specs.declared.Place.the-variants.{At, Nowhere}
+use Rattle.lists.proofs.Cases.{cond-both}
+use Rattle.lists.proofs.Maps.{map-set, any-set-same}
+use Rattle.lists.proofs.Rows.{clash, or-right, all-row, all-at, all-set, row-set}
+use Rattle.lists.proofs.Searches.{found}
 use Rattle.server.specs.declared.Connection.{Connection}
 use Rattle.server.specs.declared.JobRow.{JobRow}
-use Rattle.lists.specs.Lists.{any, find, implies}
-use Rattle.server.specs.Table.{Function, Job, Table, closed, noJob, noRow, noFunction, connectionAt, functionAt, jobAt, setConnection, setFunction, setJob, withRow, withTexts, withHolder, live, queued, names, wanted, able, grabbable, hasHandle, known, roomFor, best, joined, withLastSerial, withFunctions, withJobs, justOpened, withAsleep, withName, withAble, freshRow, unstarted}
+use Rattle.server.specs.Table.{Function, Job, Table, closed, noJob, noRow, noFunction, connectionAt, functionAt, jobAt, rowsOf, ablesOf, setConnection, setFunction, setJob, withRow, withTexts, withHolder, live, queued, names, wanted, able, grabbable, roomFor, best, freeRow, freePlace, joined, withLastSerial, withFunctions, withJobs, justOpened, withName, withAble, freshRow, unstarted}
 use Rattle.server.specs.Requests.{Work, Request}
-use Rattle.server.specs.Events.{dropped, newJob, accepted, submittedBy, holdsHandle, exceptionsName}
+use Rattle.server.specs.Events.{Send, Decision, dropped, newJob, accepted, submittedBy, holdsHandle, toWakeIn}
 use Rattle.server.specs.Rules.{rowHasMeaning, obeys}
-use Rattle.lists.proofs.Cases.{cond-both}
-use Rattle.lists.proofs.Searches.{found}
-use Rattle.lists.proofs.Rows.{clash, or-right, all-row, all-at, all-set, any-at, row-set}
+use Rattle.server_laws.proofs.Numbers.{row-at, able-at, rows-long, row-passes}
 use Rattle.server_laws.proofs.Obeyed.{Obeyed, obeyed}
 use Rattle.server_laws.proofs.Sound.{rowMeans}
 use Rattle.server_laws.proofs.AtRest.{drops-none}
 use Rattle.server_laws.proofs.Functions.{room}
 use Rattle.server_laws.proofs.Going.{best-found, grabbed-live, joined-found, held-found}
 use Rattle.server_laws.proofs.Accepting.{Kept, submitted-keeps}
-use Rattle.lists.specs.declared.Place.the-variants.{At, Nowhere}
+use Rattle.server_laws.proofs.Outcome.{Change, unknown, disabled, cleared, slept, noJobFor, grabbed, joins, accepts, worker, status, optioned, echoed}
+use Rattle.server_laws.proofs.Outcome as O
 use Rattle.plan.specs.declared.Values as V′
+use Rattle.plan.specs.declared.Plan.{Plan}
+use Rattle.plan.specs.declared.Step as S′
+use Rattle.plan.specs.declared.Step.the-variants as SV
 use Rattle.plan.specs.declared.Change.the-variants as CV
 use Rattle.plan.specs.declared.Order as O′
 use Rattle.plan.specs.declared.Order.the-variants as OV
-use Rattle.plan.specs.Values.{rowsOf, ablesOf, valuesOf, canGrab, freeRow, withLast, withAbles, withRows}
-use Rattle.plan.specs.Settling.{droppedRows, toWakeIn}
-use Rattle.plan.specs.Plans.{rowIn, newRow, heard, changed, finalTable}
-use Rattle.plan.proofs.Numbers.{best-values, wakes-values, wake-values}
-use Rattle.plan_laws.proofs.Settled.{SameJob, SameTexts, settled-table, dropped-rows, any-rows, able-at}
-use Rattle.plan_laws.proofs.Texts.{both-set, left-set, SameName, rowed-same, gone-same, live-same, own-texts}
-use Rattle.lists.proofs.Maps.{map-set}
-use Rattle.plan_laws.proofs.Decides.{Words, Says, that-tells, that-reports, that-ends, that-throws, Suits, for-open, for-close, for-reset, for-sleep, for-echo, for-bad, for-can, for-cannot, for-grab, for-submit, for-work, for-status, for-option}
+use Rattle.plan.specs.Values.{valuesOf, withLast, withAbles, withRows}
+use Rattle.plan.specs.Settling.{droppedRows}
+use Rattle.plan.specs.Parts.{rowIn, newRow, heard, changed, finalTable}
 use Rattle.plan.specs.Busy.{toWakeSet}
-use Rattle.plan_settle.proofs.Sleepers.{has-if, has-to-wake}
-use Rattle.plan.specs.declared.Step as S′
-use Rattle.plan.specs.declared.Step.the-variants as SV
-use Rattle.plan.specs.declared.Brief.{Brief}
 use Rattle.plan.specs.Steps.{stepped, isLean, sparse, waits, ending, ended, Within, Lean}
-use Rattle.plan.specs.Briefs.{done, sleepingRow, briefCanDo, briefCantDo, briefGrab, briefNew, briefJoin, briefSubmit, briefWork, briefStatus, briefOption, briefServed}
-use Rattle.plan_laws.proofs.Ends.{Settles, settles, wakes-members, any-set-same, Awaited, all-kept, nothing-settles, job-settles, connection-settles, one-kept, one-rouses}
+use Rattle.plan.specs.Plans.{done, sleepingRow, planCanDo, planCantDo, planGrab, planJoin, planWork, planStatus, planServed, planOpening, planClosing}
+use Rattle.plan.proofs.Numbers.{dropped-rows, wake-values}
+use Rattle.plan_settle.proofs.Sleepers.{has-if, has-to-wake}
+use Rattle.plan_laws.proofs.Settled.{SameJob, SameTexts, settled-table}
+use Rattle.plan_laws.proofs.Texts.{both-set, left-set, SameName, rowed-same, gone-same, live-same, own-texts}
+use Rattle.plan_laws.proofs.Draws.{planOf, Draws, refused, draws}
+use Rattle.plan_laws.proofs.Decides.{Words, Says, that-tells, that-reports, that-ends, that-throws, Suits, for-can, for-submit, for-work}
+use Rattle.plan_laws.proofs.Ends.{Settles, settles, wakes-members, Awaited, all-kept, nothing-settles, job-settles, connection-settles, one-kept, one-rouses}
 
 -- ---- what a step and its ending leave, by the table u between them
 
@@ -75,11 +79,6 @@ implies-true : (a : Bool) → implies a true ≡ true
 implies-true true = refl
 implies-true false = refl
 
--- a test on a table is the test on its numbers
-wanted-is : (js : List Job) (rs : List JobRow) (q : ℕ) (x : Function) (s : ℕ) → map (λ (j : Job). j .row) js ≡ rs → x .able ≡ s
-    → wanted js q x ≡ not (isEmpty s) || any (names q) rs
-wanted-is js rs q x s e a = ap₂ (λ (n : ℕ) (b : Bool). not (isEmpty n) || b) a (any-rows (names q) js ∙ ap (any (names q)) e)
-
 -- a row of another function does not name this one
 names-other : (q : ℕ) (r : JobRow) → ¬ (r .function ≡ q) → names q r ≡ false
 names-other q r d = ap (λ (b : Bool). live r && b) (ne-eqb (r .function) q d) ∙ and-false (live r)
@@ -94,9 +93,9 @@ submitted-queued : (c : ℕ) (b : Bool) (r : JobRow) → queued (submittedBy c b
 submitted-queued c true r = refl
 submitted-queued c false r = refl
 
-submitted-grabbable : (c : ℕ) (b : Bool) (r : JobRow) (fs : List Function) (x : ℕ) → grabbable fs x (submittedBy c b r) ≡ grabbable fs x r
-submitted-grabbable c true r fs x = refl
-submitted-grabbable c false r fs x = refl
+submitted-grabbable : (c : ℕ) (b : Bool) (r : JobRow) (ables : List ℕ) (x : ℕ) → grabbable ables x (submittedBy c b r) ≡ grabbable ables x r
+submitted-grabbable c true r ables x = refl
+submitted-grabbable c false r ables x = refl
 
 submitted-names : (c : ℕ) (b : Bool) (r : JobRow) (q : ℕ) → names q (submittedBy c b r) ≡ names q r
 submitted-names c true r q = refl
@@ -115,11 +114,12 @@ module _ (w : Words) (c : ℕ) (t : Table) (ok : obeys t ≡ true) where
   o : Obeyed t
   o = obeyed t ok
 
-  row-is : (p : ℕ) → getD (rowsOf t) p noRow ≡ jobAt t p .row
-  row-is p = List·getD-map (λ (j : Job). j .row) (t .jobs) p noJob
+  -- a row put anew that names the same function
+  names-same : (p q : ℕ) (r : JobRow) → names q r ≡ names q (jobAt t p .row) → any (names q) (set (rowsOf t) p r) ≡ any (names q) (rowsOf t)
+  names-same p q r e = any-set-same (names q) (rowsOf t) p r noRow (e ∙ ap (names q) (sym (row-at t p)))
 
-  -- where its step is lean, the brief plan is carried out by it and its ending
-  abbrev pub Leans : Brief → Type 0
+  -- where its step is lean, the plan is carried out by it and its ending
+  abbrev pub Leans : Plan → Type 0
   Leans b = isLean (b .step) ≡ true → Lean (b .step) t (changed (b .change) (w .first) (w .second) (w .third) t)
 
   nothing-leans : (n : ℕ) (order : O′.Order) → Leans (record { number = n; step = SV.Nothing; change = CV.Nothing; order = order })
@@ -128,18 +128,15 @@ module _ (w : Words) (c : ℕ) (t : Table) (ok : obeys t ≡ true) where
 
   -- ---- sleep, grabs
 
-  can-grab : any (λ j. grabbable (t .functions) c (j .row)) (t .jobs) ≡ any (canGrab (ablesOf t) c) (rowsOf t)
-  can-grab = wakes-values (t .functions) (t .jobs) c (withAsleep true justOpened)
-
   -- only the connection itself may wake
   flags-leans : (x : Connection) (order : O′.Order) → Leans (done (SV.Flags c x) CV.Nothing order)
   unfolding stepped sparse changed ending valuesOf
   flags-leans x order l =
-      let b : Bool = x .asleep && any (canGrab (ablesOf t) c) (rowsOf t) in
+      let b : Bool = x .asleep && any (grabbable (ablesOf t) c) (rowsOf t) in
       let only : (k : ℕ) → has (cond b (insert 0 c) 0) k ≡ b && eqb c k = λ k. has-if b (insert 0 c) k ∙ ap (λ (y : Bool). b && y) (has-only c k) in
       lean-by (SV.Flags c x) t t (setConnection t c x) refl (length-set (t .connections) c x) (record { functions = texts .functions; jobs = texts .jobs })
       (connection-settles t o c x (cond b (insert 0 c) 0)
-      (ap (λ (y : Bool). x .asleep && y) can-grab ∙ sym (only c ∙ ap (λ (y : Bool). b && y) (eq-eqb c c refl) ∙ and-true b))
+      (sym (only c ∙ ap (λ (y : Bool). b && y) (eq-eqb c c refl) ∙ and-true b))
       (λ k d. only k ∙ ap (λ (y : Bool). b && y) (ne-eqb c k (λ (e : c ≡ k). d (sym e))) ∙ and-false b))
       refl zero-le
     where
@@ -154,7 +151,7 @@ module _ (w : Words) (c : ℕ) (t : Table) (ok : obeys t ≡ true) where
       let k : Job = withRow r (jobAt t p) in
       let x : Connection = sleepingRow false c (valuesOf t) in
       let u : Table = setConnection t c x in
-      subst (λ (y : JobRow). Lean (SV.Grab p (withHolder (suc c) y) c x) t t) (sym (row-is p))
+      subst (λ (y : JobRow). Lean (SV.Grab p (withHolder (suc c) y) c x) t t) (sym (row-at t p))
       (lean-by (SV.Grab p r c x) t t (setJob u p k)
       (ap (λ (l : List JobRow). withRows l (valuesOf u)) (map-set (λ (j : Job). j .row) (t .jobs) p k))
       (length-set (t .connections) c x)
@@ -162,16 +159,11 @@ module _ (w : Words) (c : ℕ) (t : Table) (ok : obeys t ≡ true) where
       (job-settles t o (set (t .connections) c x) p k Nowhere (length-set (t .connections) c x)
       (λ i. row-set (λ (y : Connection). y .asleep ≡ true → connectionAt t i .asleep ≡ true) (t .connections) c x i closed (λ s. clash s refl) (λ s. s))
       (best-found t c p e .0)
-      (λ fs y g. clash (and-right (live (jobAt t p .row)) _ (and-left (live (jobAt t p .row) && eqb (suc c) 0) _ g)) (eqb·suc-zero c))
+      (λ ables y g. clash (and-right (live (jobAt t p .row)) _ (and-left (live (jobAt t p .row) && eqb (suc c) 0) _ g)) (eqb·suc-zero c))
       (ap (λ (b : Bool). implies (live (jobAt t p .row) && b) (r .background || not (isEmpty (r .listeners)))) (eqb·suc-zero c)
       ∙ ap (λ (b : Bool). implies b (r .background || not (isEmpty (r .listeners)))) (and-false (live (jobAt t p .row))))
-      (λ q. all-kept t o (set (t .jobs) p k) q (any-set-same (λ (j : Job). names q (j .row)) (t .jobs) p k noJob refl)))
+      (λ q. all-kept t o (set (rowsOf t) p r) q (names-same p q r refl)))
       refl zero-le)
-
-  grab-leans : (uniq : Bool) (o : Option ℕ) → best t c ≡ o → Leans (briefGrab o uniq c (valuesOf t))
-  unfolding briefGrab changed
-  grab-leans uniq none e = flags-leans (sleepingRow false c (valuesOf t)) OV.NoJob
-  grab-leans uniq (some p) e = λ l. held-leans p e
 
   -- ---- abilities
 
@@ -180,11 +172,10 @@ module _ (w : Words) (c : ℕ) (t : Table) (ok : obeys t ≡ true) where
   unfolding stepped sparse ending valuesOf
   able-leans q s y s′ here is =
       let x : Function = withAble s (withName y (functionAt t q)) in
-      let fs : List Function = set (t .functions) q x in
       let u : Table = setFunction t q x in
-      let at : getD fs q noFunction ≡ x = getD-set-same (t .functions) q x noFunction here in
-      let inside : q < length fs = rw (length-set (t .functions) q x) here in
-      let others : (k : ℕ) → ¬ (k ≡ q) → getD fs k noFunction ≡ functionAt t k = λ k d. getD-set-other (t .functions) q k x noFunction d in
+      let at : functionAt u q ≡ x = getD-set-same (t .functions) q x noFunction here in
+      let inside : q < length (u .functions) = rw (length-set (t .functions) q x) here in
+      let others : (k : ℕ) → ¬ (k ≡ q) → functionAt u k ≡ functionAt t k = λ k d. getD-set-other (t .functions) q k x noFunction d in
       let waiting : Bool = any (waits q) (rowsOf t) in
       let n : Function = withName y (functionAt t q) in
       lean-by (SV.Able q s) t s′ u
@@ -193,61 +184,49 @@ module _ (w : Words) (c : ℕ) (t : Table) (ok : obeys t ≡ true) where
       (subst (λ (z : Table). SameTexts u z) (sym is) (record { functions = both-set SameName q x n refl (texts .functions); jobs = texts .jobs }))
       (record {
         awaited = o .awaited;
-        rouses = one-rouses t o fs (t .jobs) q inside others (λ i l d. (l, refl)) (cond waiting (toWakeSet s (t .connections)) 0) waiting (any-rows (waits q) (t .jobs))
+        rouses = one-rouses t o u q inside others (λ i l d. (l, refl)) (cond waiting (toWakeSet s (t .connections)) 0) waiting refl
             (λ k. has-if waiting (toWakeSet s (t .connections)) k
-            ∙ ap (λ (b : Bool). waiting && b) (has-to-wake s (t .connections) k ∙ ap (λ (z : Function). connectionAt t k .asleep && has (z .able) k) (sym at)));
-        keeps = λ k h. one-kept t o fs (t .jobs) q inside others (λ i d. refl) (not (isEmpty s) || any (names q) (rowsOf t))
-            (wanted-is (t .jobs) (rowsOf t) q (getD fs q noFunction) s refl (ap (λ (z : Function). z .able) at)) k;
+            ∙ ap (λ (b : Bool). waiting && b) (has-to-wake s (t .connections) k ∙ ap (λ (m : ℕ). connectionAt t k .asleep && has m k) (sym (able-at u q ∙ ap (λ (z : Function). z .able) at))));
+        keeps = λ k h. one-kept t o u q inside others (λ i d. refl) (not (isEmpty s) || any (names q) (rowsOf t))
+            (ap (λ (z : Function). wanted (rowsOf t) q (z .able)) at) k;
       })
       (sym (ap (λ (z : Table). setFunction z q (withAble s (functionAt z q))) is
       ∙ (λ i. withFunctions ((ap (λ (z : Function). set (set (t .functions) q n) q (withAble s z)) (getD-set-same (t .functions) q n noFunction here) ∙ set-set (t .functions) q n x) i) t)))
       (cond-both (Within (length (t .functions))) (not (isEmpty s) || any (names q) (rowsOf t)) zero-le here)
 
-  canDo-leans : (o : Option ℕ) → roomFor (t .functions) (w .first) ≡ o → Leans (briefCanDo o c (valuesOf t))
-  unfolding briefCanDo changed
-  canDo-leans none e = nothing-leans 11 OV.Nothing
-  canDo-leans (some q) e = λ l. able-leans q (insert (getD (valuesOf t .able) q 0) c) (w .first) _ (room t (w .first) q e .inside) refl
-
-  cantDo-leans : (f : Bytes) (o : Option ℕ) → known (t .functions) f ≡ o → Leans (briefCantDo o c (valuesOf t))
-  unfolding briefCantDo changed
-  cantDo-leans f none e = nothing-leans 0 OV.Nothing
-  cantDo-leans f (some q) e =
-      λ l. able-leans q (remove (getD (valuesOf t .able) q 0) c) (functionAt t q .name) t (found (λ x. same (x .name) f) noFunction (t .functions) (some q) e .inside)
-      (λ i. withFunctions (sym (set-own (t .functions) q noFunction) i) t)
-    where
-      set-own : {A : Type 0} (l : List A) (i : ℕ) (d : A) → set l i (getD l i d) ≡ l
-      set-own [] i d = refl
-      set-own (x ∷ l) zero d = refl
-      set-own (x ∷ l) (suc i) d = ap (λ (r : List _). x ∷ r) (set-own l i d)
+  set-own : {A : Type 0} (l : List A) (i : ℕ) (d : A) → set l i (getD l i d) ≡ l
+  set-own [] i d = refl
+  set-own (x ∷ l) zero d = refl
+  set-own (x ∷ l) (suc i) d = ap (λ (r : List _). x ∷ r) (set-own l i d)
 
   -- ---- a submission
 
-  join-leans : (p : ℕ) (background : Bool) → joined t (w .first) (w .second) ≡ some p → Leans (briefJoin p c background (valuesOf t))
-  unfolding briefJoin stepped sparse changed ending valuesOf joined
-  join-leans p background e l =
+  join-leans : (f u : Bytes) (p : ℕ) (background : Bool) → joined t f u ≡ some p → Leans (planJoin p c background (valuesOf t))
+  unfolding planJoin stepped sparse changed ending valuesOf joined
+  join-leans f u p background e l =
       let r : JobRow = submittedBy c background (jobAt t p .row) in
       let k : Job = withRow r (jobAt t p) in
       let i : p < length (t .jobs) = found _ noJob (t .jobs) (some p) e .inside in
-      subst (λ (x : JobRow). Lean (SV.Row p (submittedBy c background x)) t t) (sym (row-is p))
+      subst (λ (x : JobRow). Lean (SV.Row p (submittedBy c background x)) t t) (sym (row-at t p))
       (lean-by (SV.Row p r) t t (setJob t p k)
       (ap (λ (l : List JobRow). withRows l (valuesOf t)) (map-set (λ (j : Job). j .row) (t .jobs) p k))
       refl
-      (record { functions = texts .functions; jobs = left-set SameJob p noJob k (rowed-same (jobAt t p) r (submitted-live c background (jobAt t p .row) ∙ joined-found t (w .first) (w .second) p e)) (texts .jobs) })
-      (job-settles t o (t .connections) p k Nowhere refl (λ x s. s) i (λ fs x g. sym (submitted-grabbable c background (jobAt t p .row) fs x) ∙ g) (submitted-awaited c background (jobAt t p .row))
-      (λ q. all-kept t o (set (t .jobs) p k) q (any-set-same (λ (j : Job). names q (j .row)) (t .jobs) p k noJob (submitted-names c background (jobAt t p .row) q))))
+      (record { functions = texts .functions; jobs = left-set SameJob p noJob k (rowed-same (jobAt t p) r (submitted-live c background (jobAt t p .row) ∙ joined-found t f u p e)) (texts .jobs) })
+      (job-settles t o (t .connections) p k Nowhere refl (λ x s. s) i (λ ables x g. sym (submitted-grabbable c background (jobAt t p .row) ables x) ∙ g) (submitted-awaited c background (jobAt t p .row))
+      (λ q. all-kept t o (set (rowsOf t) p r) q (names-same p q r (submitted-names c background (jobAt t p .row) q))))
       refl zero-le)
 
   free-found : (p : ℕ) → freeRow (rowsOf t) ≡ some p → (p < length (t .jobs)) × (live (jobAt t p .row) ≡ false)
   unfolding freeRow
   free-found p e =
       let f = found (λ r. not (live r)) noRow (rowsOf t) (some p) e in
-      (rw (length-map (t .jobs) (λ (j : Job). j .row)) at (f .inside), ap live (sym (row-is p)) ∙ not-true (live (getD (rowsOf t) p noRow)) (f .passes))
+      (rw (rows-long t) at (f .inside), ap live (sym (row-at t p)) ∙ not-true (live (getD (rowsOf t) p noRow)) (f .passes))
 
   module _ (priority : ℕ) (background : Bool) (size : ℕ) where
     abbrev new : ℕ → JobRow
     new q = newRow c priority background q size (suc (t .last))
 
-    module _ (q p : ℕ) (er : roomFor (t .functions) (w .first) ≡ some q) (ef : freeRow (rowsOf t) ≡ some p) where
+    module _ (q p : ℕ) (er : roomFor (t .functions) (w .first) ≡ some q) (ef : freePlace t ≡ some p) where
       abbrev bare : JobRow
       bare = freshRow (suc (t .last)) q priority size
 
@@ -270,10 +249,10 @@ module _ (w : Words) (c : ℕ) (t : Table) (ok : obeys t ≡ true) where
       own-job = getD-set-same (t .jobs) p job noJob (free-found p ef .0)
 
       -- naming a function makes nobody able
-      able-same : functionAt after q .able ≡ getD (ablesOf t) (new q .function) 0
+      able-same : getD (ablesOf after) q 0 ≡ getD (ablesOf t) (new q .function) 0
       able-same =
-          ap (λ (x : Function). x .able) (getD-set-same (t .functions) q (withName (w .first) (functionAt t q)) noFunction here)
-          ∙ able-at (t .functions) q ∙ ap (λ (n : ℕ). getD (ablesOf t) n 0) (sym (keeps .function))
+          able-at after q ∙ ap (λ (x : Function). x .able) (getD-set-same (t .functions) q (withName (w .first) (functionAt t q)) noFunction here)
+          ∙ sym (able-at t q) ∙ ap (λ (n : ℕ). getD (ablesOf t) n 0) (sym (keeps .function))
 
       others : (k : ℕ) → ¬ (k ≡ q) → functionAt after k ≡ functionAt t k
       others k d = getD-set-other (t .functions) q k (withName (w .first) (functionAt t q)) noFunction d
@@ -289,21 +268,22 @@ module _ (w : Words) (c : ℕ) (t : Table) (ok : obeys t ≡ true) where
           go (no n) = (rw length-set at l, getD-set-other (t .jobs) p i job noJob n)
 
       -- the new job waits, and names its function
-      waiting : any (λ j. waits q (j .row)) (after .jobs) ≡ true
+      waiting : any (waits q) (rowsOf after) ≡ true
       waiting =
-          any-at (λ j. waits q (j .row)) (after .jobs) p noJob (rw (length-set (t .jobs) p job) (free-found p ef .0))
+          row-passes after (waits q) p (rw (length-set (t .jobs) p job) (free-found p ef .0))
           (rw own-job (and-both (queued (job .row)) _ (and-both (live (job .row)) _ job-live (eq-eqb (job .row .holder) 0 (keeps .holder))) (eq-eqb (job .row .function) q (keeps .function))))
 
-      named-now : wanted (after .jobs) q (functionAt after q) ≡ true
+      named-now : wanted (rowsOf after) q (functionAt after q .able) ≡ true
       named-now =
           or-right (not (isEmpty (functionAt after q .able))) _
-          (any-at (λ j. names q (j .row)) (after .jobs) p noJob (rw (length-set (t .jobs) p job) (free-found p ef .0))
+          (row-passes after (names q) p (rw (length-set (t .jobs) p job) (free-found p ef .0))
           (rw own-job (and-both (live (job .row)) _ job-live (eq-eqb (job .row .function) q (keeps .function)))))
 
       -- its place was free, so no other function is named less or more
-      other-names : (k : ℕ) → ¬ (k ≡ q) → any (λ j. names k (j .row)) (after .jobs) ≡ any (λ j. names k (j .row)) (t .jobs)
+      other-names : (k : ℕ) → ¬ (k ≡ q) → any (names k) (rowsOf after) ≡ any (names k) (rowsOf t)
       other-names k d =
-          any-set-same (λ (j : Job). names k (j .row)) (t .jobs) p job noJob
+          ap (any (names k)) (map-set (λ (j : Job). j .row) (t .jobs) p job)
+          ∙ names-same p k (job .row)
           (names-other k (job .row) (λ (e : job .row .function ≡ k). d (sym e ∙ keeps .function)) ∙ sym (ap (λ (b : Bool). b && eqb (jobAt t p .row .function) k) (free-found p ef .1)))
 
       accept-leans : Leans (done (SV.New p (new q)) (CV.Job p q) (OV.Created (suc (t .last))))
@@ -321,25 +301,14 @@ module _ (w : Words) (c : ℕ) (t : Table) (ok : obeys t ≡ true) where
           })
           (record {
             awaited = all-set (λ j. implies (queued (j .row)) (j .row .background || not (isEmpty (j .row .listeners)))) (t .jobs) p job (o .awaited) (submitted-awaited c background bare);
-            rouses = one-rouses t o (after .functions) (after .jobs) q inside others other-jobs (toWakeSet (getD (ablesOf t) (new q .function) 0) (t .connections)) true waiting
+            rouses = one-rouses t o after q inside others other-jobs (toWakeSet (getD (ablesOf t) (new q .function) 0) (t .connections)) true waiting
                 (λ k. has-to-wake (getD (ablesOf t) (new q .function) 0) (t .connections) k ∙ ap (λ (s : ℕ). connectionAt t k .asleep && has s k) (sym able-same));
-            keeps = λ k h. one-kept t o (after .functions) (after .jobs) q inside others other-names true named-now k;
+            keeps = λ k h. one-kept t o after q inside others other-names true named-now k;
           })
           (λ i. withLastSerial (sym (keeps .serial) i) (withJobs
           ((sym (set-set (t .jobs) p y job) ∙ ap (λ (j : Job). set (set (t .jobs) p y) p (withRow (new q) j)) (sym (getD-set-same (t .jobs) p y noJob (free-found p ef .0)))) i)
           (setFunction t q x)))
           zero-le
-
-    new-leans : (o r : Option ℕ) → roomFor (t .functions) (w .first) ≡ o → freeRow (rowsOf t) ≡ r → Leans (briefNew o r c priority background size (valuesOf t))
-    unfolding briefNew valuesOf
-    new-leans none r er ef = nothing-leans 11 OV.Nothing
-    new-leans (some q) none er ef = nothing-leans 12 OV.Nothing
-    new-leans (some q) (some p) er ef = cond-both Leans (ltb (t .last) 4294967295) (accept-leans q p er ef) (nothing-leans 13 OV.Nothing)
-
-    submit-leans : (o : Option ℕ) → joined t (w .first) (w .second) ≡ o → Leans (briefSubmit o (roomFor (t .functions) (w .first)) (freeRow (rowsOf t)) c priority background size (valuesOf t))
-    unfolding briefSubmit
-    submit-leans none e = new-leans _ _ refl refl
-    submit-leans (some p) e = join-leans p background e
 
   -- ---- worker packets
 
@@ -354,9 +323,9 @@ module _ (w : Words) (c : ℕ) (t : Table) (ok : obeys t ≡ true) where
       (ap (λ (l : List JobRow). withRows l (valuesOf t)) (map-set-same (λ (j : Job). j .row) (t .jobs) p k noJob refl))
       refl
       (record { functions = texts .functions; jobs = both-set SameJob p k k (live-same k (held-found t c h p e)) (texts .jobs) })
-      (job-settles t o (t .connections) p k Nowhere refl (λ x s. s) (work-inside h p e) (λ fs x g. g)
+      (job-settles t o (t .connections) p k Nowhere refl (λ x s. s) (work-inside h p e) (λ ables x g. g)
       (all-row (λ j. implies (queued (j .row)) (j .row .background || not (isEmpty (j .row .listeners)))) (t .jobs) p noJob (o .awaited) refl)
-      (λ q. all-kept t o (set (t .jobs) p k) q (any-set-same (λ (j : Job). names q (j .row)) (t .jobs) p k noJob refl)))
+      (λ q. all-kept t o (set (rowsOf t) p (k .row)) q (names-same p q (k .row) refl)))
       refl zero-le
 
   -- its function may be forgotten
@@ -364,59 +333,65 @@ module _ (w : Words) (c : ℕ) (t : Table) (ok : obeys t ≡ true) where
   unfolding stepped sparse changed ending valuesOf
   end-leans h p order e l =
       let q : ℕ = getD (rowsOf t) p noRow .function in
-      let is : jobAt t p .row .function ≡ q = ap (λ (r : JobRow). r .function) (sym (row-is p)) in
+      let is : jobAt t p .row .function ≡ q = ap (λ (r : JobRow). r .function) (sym (row-at t p)) in
       let m : rowHasMeaning t (jobAt t p) ≡ true = rw (held-found t c h p e) at (all-at (rowMeans t) (t .jobs) p noJob (o .sound .rows) (work-inside h p e)) in
       let here : q < length (t .functions) =
       subst (λ (n : ℕ). n < length (t .functions)) is (ltb-true _ _ (and-left (ltb (jobAt t p .row .function) (length (t .functions))) _ (and-right (leb (jobAt t p .row .priority) 2) _ m))) in
       let b : Bool = not (isEmpty (getD (ablesOf t) q 0)) || any (names q) (set (rowsOf t) p noRow) in
+      let rows : rowsOf (setJob t p noJob) ≡ set (rowsOf t) p noRow = map-set (λ (j : Job). j .row) (t .jobs) p noJob in
       lean-by (SV.End p) t t (setJob t p noJob)
       (ap (λ (l : List JobRow). withRows l (valuesOf t)) (map-set (λ (j : Job). j .row) (t .jobs) p noJob))
       refl
       (record { functions = texts .functions; jobs = left-set SameJob p noJob noJob (gone-same (jobAt t p)) (texts .jobs) })
-      (job-settles t o (t .connections) p noJob (cond b Nowhere (At q)) refl (λ x s. s) (work-inside h p e) (λ fs x g. clash g refl) refl
-      (one-kept t o (t .functions) (set (t .jobs) p noJob) q here (λ k d. refl)
-      (λ k d. any-set-same (λ (j : Job). names k (j .row)) (t .jobs) p noJob noJob (sym (names-other k (jobAt t p .row) (λ (z : jobAt t p .row .function ≡ k). d (sym z ∙ is)))))
-      b (wanted-is (set (t .jobs) p noJob) (set (rowsOf t) p noRow) q (functionAt t q) (getD (ablesOf t) q 0) (map-set (λ (j : Job). j .row) (t .jobs) p noJob) (able-at (t .functions) q))))
+      (job-settles t o (t .connections) p noJob (cond b Nowhere (At q)) refl (λ x s. s) (work-inside h p e) (λ ables x g. clash g refl) refl
+      (λ k. ap (λ (rs : List JobRow). cond (wanted rs k (functionAt t k .able)) (functionAt t k) noFunction) (sym rows)
+      ∙ one-kept t o (setJob t p noJob) q here (λ k d. refl)
+      (λ k d. ap (any (names k)) rows ∙ names-same p k noRow (sym (names-other k (jobAt t p .row) (λ (z : jobAt t p .row .function ≡ k). d (sym z ∙ is)))))
+      b (ap₂ (λ (rs : List JobRow) (s : ℕ). wanted rs q s) rows (sym (able-at t q))) k))
       refl
       (cond-both (Within (length (t .functions))) b zero-le here)
 
-  work-leans : {how : Work} {n d : Bytes} (h : Bytes) → Says w how n d → (o : Option ℕ) → find (λ j. holdsHandle c h (j .row)) (t .jobs) ≡ o → Leans (briefWork o how (valuesOf t))
-  unfolding briefWork
-  work-leans h s none e = nothing-leans 14 OV.Nothing
-  work-leans h (that-tells n d) (some p) e = nothing-leans 0 (OV.Copies (rowIn (valuesOf t) p .listeners))
-  work-leans h that-reports (some p) e = report-leans h p (OV.Copies (rowIn (valuesOf t) p .listeners)) e
-  work-leans h (that-ends n d) (some p) e = end-leans h p (OV.Copies (rowIn (valuesOf t) p .listeners)) e
-  work-leans h (that-throws n d) (some p) e = end-leans h p (OV.Copies (heard (valuesOf t .connections) (rowIn (valuesOf t) p .listeners))) e
+  work-leans : {how : Work} {n d : Bytes} (h : Bytes) → Says w how n d → (p : ℕ) → find (λ j. holdsHandle c h (j .row)) (t .jobs) ≡ some p → Leans (planWork (some p) how (valuesOf t))
+  unfolding planWork
+  work-leans h (that-tells n d) p e = nothing-leans 0 (OV.Copies (rowIn (valuesOf t) p .listeners))
+  work-leans h that-reports p e = report-leans h p (OV.Copies (rowIn (valuesOf t) p .listeners)) e
+  work-leans h (that-ends n d) p e = end-leans h p (OV.Copies (rowIn (valuesOf t) p .listeners)) e
+  work-leans h (that-throws n d) p e = end-leans h p (OV.Copies (heard (valuesOf t .connections) (rowIn (valuesOf t) p .listeners))) e
 
-  -- ---- the rest
-
-  status-leans : (o : Option ℕ) → Leans (briefStatus o)
+  status-leans : (o : Option ℕ) → Leans (planStatus o)
   status-leans none = nothing-leans 0 OV.Unknown
   status-leans (some p) = nothing-leans 0 (OV.Status p)
 
-  option-leans : (b : Bool) → Leans (briefOption b c (valuesOf t))
-  option-leans false = nothing-leans 15 OV.Nothing
-  option-leans true = flags-leans _ OV.Optioned
+  -- ---- every event
 
-  pub open-leans : Leans (done (SV.Flags c justOpened) CV.Nothing OV.Nothing)
-  open-leans = flags-leans justOpened OV.Nothing
+  pub opening-leans : Leans (planOpening c)
+  opening-leans = flags-leans justOpened OV.Nothing
 
-  pub leave-leans : (x : ℕ) → Leans (done (SV.Leave c) (CV.Left x) OV.Nothing)
+  pub closing-leans : Leans (planClosing c)
   unfolding isLean
-  leave-leans x = λ e. clash e refl
+  closing-leans = λ e. clash e refl
 
-  pub served-leans : {a : Request} → Suits w a → Leans (briefServed c a t)
-  unfolding briefServed isLean
-  served-leans for-open = nothing-leans 4 OV.Nothing
-  served-leans for-close = λ e. clash e refl
-  served-leans (for-bad n l m) = nothing-leans n OV.Nothing
-  served-leans for-can = canDo-leans (roomFor (t .functions) (w .first)) refl
-  served-leans (for-cannot f) = cantDo-leans f (known (t .functions) f) refl
-  served-leans for-reset = λ e. clash e refl
-  served-leans for-sleep = flags-leans _ OV.Nothing
-  served-leans (for-grab uniq) = subst (λ (o : Option ℕ). Leans (briefGrab o uniq c (valuesOf t))) (best-values t c) (grab-leans uniq (best t c) refl)
-  served-leans (for-submit priority background size) = submit-leans priority background size (joined t (w .first) (w .second)) refl
-  served-leans (for-work h s) = work-leans h s _ refl
-  served-leans for-status = status-leans (find (λ j. hasHandle (w .job) (j .row)) (t .jobs))
-  served-leans (for-option name) = option-leans (same name exceptionsName)
-  served-leans for-echo = nothing-leans 0 OV.Echo
+  change-leans : {a : Request} {ss : List Send} {u : Table} (m : Change c t a ss u) → Suits w a → Leans (planOf c t m)
+  unfolding planCanDo planCantDo planGrab isLean changed valuesOf
+  change-leans (O.able f q e) for-can = λ l. able-leans q (insert (getD (ablesOf t) q 0) c) f _ (room t f q e .inside) refl
+  change-leans (unknown f e) s = nothing-leans 0 OV.Nothing
+  change-leans (disabled f q e) s =
+      λ l. able-leans q (remove (getD (ablesOf t) q 0) c) (functionAt t q .name) t (found (λ x. same (x .name) f) noFunction (t .functions) (some q) e .inside)
+      (λ i. withFunctions (sym (set-own (t .functions) q noFunction) i) t)
+  change-leans cleared s = λ e. clash e refl
+  change-leans slept s = flags-leans _ OV.Nothing
+  change-leans (noJobFor uniq e) s = flags-leans _ OV.NoJob
+  change-leans (grabbed uniq p e) s = λ l. held-leans p e
+  change-leans (joins priority background f u size p e) s = join-leans f u p background e
+  change-leans (accepts priority background f u size q p e₁ e₂ e₃ m) (for-submit priority′ background′ size′) = accept-leans priority background size q p e₂ e₃
+  change-leans (worker how kind h n d p e) (for-work h′ s) = work-leans h s p e
+  change-leans (status h o e) s = status-leans o
+  change-leans (optioned name e) s = flags-leans _ OV.Optioned
+  change-leans echoed s = nothing-leans 0 OV.Echo
+
+  draws-leans : {a : Request} {p : Plan} {d : Decision} → Draws c t a p d → Suits w a → Leans p
+  draws-leans (refused a n r) s = nothing-leans n OV.Nothing
+  draws-leans (Draws.done m) s = change-leans m s
+
+  pub served-leans : {a : Request} → Suits w a → Leans (planServed c a t)
+  served-leans {a} s = draws-leans (draws c t a) s

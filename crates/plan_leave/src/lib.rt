@@ -13,8 +13,8 @@ ghost use Prim.Native.Nat.{_<_};
 ghost use Rattle.sets.specs.Sets as S;
 ghost use Rattle.server.specs.Sizes.{connectionCount};
 ghost use Rattle.server.specs.Events.{deafTo};
-ghost use Rattle.plan.specs.Plans as P;
-ghost use Rattle.plan.specs.Plans.{closedIn};
+ghost use Rattle.plan.specs.Parts as P;
+ghost use Rattle.plan.specs.Parts.{closedIn};
 ghost use Rattle.plan.specs.Values.{withAbles};
 ghost use Rattle.plan.specs.Steps.{Inside, isLean, stepped};
 

@@ -26,7 +26,7 @@ use Rattle.packet.specs.Packet.{read, requests}
 use Rattle.packet.specs.Answers.{answerOf, argumentAt}
 use Rattle.lists.specs.Lists.{find, numbers}
 use Rattle.server.specs.Sizes.{connectionCount, functionCount}
-use Rattle.server.specs.Table.{Table, hasHandle, known, roomFor, joined}
+use Rattle.server.specs.Table.{Table, hasHandle, known, roomFor, joined, ablesOf, rowsOf, freeRow, bestRow}
 use Rattle.server.specs.Requests.{sends, Work, Request, work, requested, requestIn}
 use Rattle.server.specs.Requests as A
 use Rattle.server.specs.Events.{holdsHandle, exceptionsName}
@@ -36,13 +36,13 @@ use Rattle.lists.proofs.Places.{searched}
 use Rattle.lists.specs.declared.Place.{Place}
 use Rattle.lists.specs.declared.Place.the-variants.{Nowhere}
 use Rattle.plan.specs.declared.Step.the-variants as SV
-use Rattle.plan.specs.declared.Brief.{Brief}
+use Rattle.plan.specs.declared.Plan.{Plan}
 use Rattle.plan.specs.declared.Values as V′
 use Rattle.plan.specs.declared.Change.the-variants as CV
 use Rattle.plan.specs.declared.Order.the-variants as OV
 use Rattle.lists.specs.Places.{placed, unplaced}
-use Rattle.plan.specs.Values.{ablesOf, rowsOf, valuesOf, freeRow, bestRow, serialRow, heldRow}
-use Rattle.plan.specs.Briefs.{sleepingRow, done, briefCanDo, briefCantDo, briefGrab, briefSubmit, briefWork, briefStatus, briefOption, briefServed}
+use Rattle.plan.specs.Values.{valuesOf, serialRow, heldRow}
+use Rattle.plan.specs.Plans.{sleepingRow, done, planCanDo, planCantDo, planGrab, planSubmit, planWork, planStatus, planOption, planServed}
 use Rattle.plan.proofs.Numbers.{serial-values, held-values, serial-none, held-none}
 use Rattle.server_laws.proofs.Requests.{Good, Submitted}
 use Rattle.lists.proofs.Rows.{clash}
@@ -71,8 +71,8 @@ module _ (least most : ℕ) (s : Bytes) (e : fits (Text least most) s ≡ true) 
 -- ---- places
 
 -- the grab of the job that the search found
-pub best-grabbed : (t : Table) (uniq : Bool) (c : ℕ) (p : Place) (r : Brief) → p ≡ placed (bestRow (ablesOf t) (rowsOf t) c) → r ≡ briefGrab (unplaced p) uniq c (valuesOf t)
-    → r ≡ briefGrab (bestRow (ablesOf t) (rowsOf t) c) uniq c (valuesOf t)
+pub best-grabbed : (t : Table) (uniq : Bool) (c : ℕ) (p : Place) (r : Plan) → p ≡ placed (bestRow (ablesOf t) (rowsOf t) c) → r ≡ planGrab (unplaced p) uniq c (valuesOf t)
+    → r ≡ planGrab (bestRow (ablesOf t) (rowsOf t) c) uniq c (valuesOf t)
 best-grabbed t uniq c p r g h = h ∙ rw (searched (bestRow (ablesOf t) (rowsOf t) c) p g)
 
 -- a function's place is one of the sixteen
@@ -146,86 +146,86 @@ module _ (b p : Bytes) (c kind : ℕ) (ends : Ends) (e : answerOf (read requests
   v = valuesOf (tableOf connectionCount b)
 
   -- what the code must answer
-  abbrev Answers : Brief → Type 0
-  Answers r = r ≡ briefServed c (asked (sends c p)) (tableOf connectionCount b)
+  abbrev Answers : Plan → Type 0
+  Answers r = r ≡ planServed c (asked (sends c p)) (tableOf connectionCount b)
 
   abbrev argument : ℕ → Bytes
   argument i = argumentAt p ends i
 
   -- the type has this number: what it asks computes
-  typed : (k : ℕ) (r : Brief) → kind ≡ k → r ≡ briefServed c (requested k (argument 0) (argument 1) (argument 2)) (tableOf connectionCount b) → Answers r
-  typed k r q g = g ∙ ap (λ (a : Request). briefServed c a (tableOf connectionCount b)) (sym (asks c p ends kind e ∙ ap (λ (k : ℕ). requested k (argument 0) (argument 1) (argument 2)) q))
+  typed : (k : ℕ) (r : Plan) → kind ≡ k → r ≡ planServed c (requested k (argument 0) (argument 1) (argument 2)) (tableOf connectionCount b) → Answers r
+  typed k r q g = g ∙ ap (λ (a : Request). planServed c a (tableOf connectionCount b)) (sym (asks c p ends kind e ∙ ap (λ (k : ℕ). requested k (argument 0) (argument 1) (argument 2)) q))
 
   -- a type that was read is served
-  pub plan-foreign : (r : Brief) → Foreign ≡ requestShape kind → Answers r
+  pub plan-foreign : (r : Plan) → Foreign ≡ requestShape kind → Answers r
   plan-foreign r q = clash (own-type p ends kind e) (ap isOwn (sym q))
 
-  pub plan-reset : (r : Brief) → kind ≡ 3 → r ≡ done (SV.Reset c) CV.Nothing OV.Nothing → Answers r
-  unfolding requested briefServed
+  pub plan-reset : (r : Plan) → kind ≡ 3 → r ≡ done (SV.Reset c) CV.Nothing OV.Nothing → Answers r
+  unfolding requested planServed
   plan-reset r q h = typed 3 r q h
 
-  pub plan-pre-sleep : (r : Brief) → kind ≡ 4 → r ≡ done (SV.Flags c (sleepingRow true c v)) CV.Nothing OV.Nothing → Answers r
-  unfolding requested briefServed
+  pub plan-pre-sleep : (r : Plan) → kind ≡ 4 → r ≡ done (SV.Flags c (sleepingRow true c v)) CV.Nothing OV.Nothing → Answers r
+  unfolding requested planServed
   plan-pre-sleep r q h = typed 4 r q h
 
-  pub plan-grab : (r : Brief) → kind ≡ 9 → r ≡ briefGrab (bestRow (ablesOf (tableOf connectionCount b)) (rowsOf (tableOf connectionCount b)) c) false c v → Answers r
-  unfolding requested briefServed
+  pub plan-grab : (r : Plan) → kind ≡ 9 → r ≡ planGrab (bestRow (ablesOf (tableOf connectionCount b)) (rowsOf (tableOf connectionCount b)) c) false c v → Answers r
+  unfolding requested planServed
   plan-grab r q h = typed 9 r q h
 
-  pub plan-grab-uniq : (r : Brief) → kind ≡ 30 → r ≡ briefGrab (bestRow (ablesOf (tableOf connectionCount b)) (rowsOf (tableOf connectionCount b)) c) true c v → Answers r
-  unfolding requested briefServed
+  pub plan-grab-uniq : (r : Plan) → kind ≡ 30 → r ≡ planGrab (bestRow (ablesOf (tableOf connectionCount b)) (rowsOf (tableOf connectionCount b)) c) true c v → Answers r
+  unfolding requested planServed
   plan-grab-uniq r q h = typed 30 r q h
 
-  pub plan-echo : (r : Brief) → kind ≡ 16 → r ≡ done SV.Nothing CV.Nothing OV.Echo → Answers r
-  unfolding requested briefServed
+  pub plan-echo : (r : Plan) → kind ≡ 16 → r ≡ done SV.Nothing CV.Nothing OV.Echo → Answers r
+  unfolding requested planServed
   plan-echo r q h = typed 16 r q h
 
   module _ (first : Bytes) (ef : first ≡ argument 0) where
-    pub plan-can-do : (place : Place) (r : Brief) → kind ≡ 1 → place ≡ placed (roomFor (tableOf connectionCount b .functions) first) → r ≡ briefCanDo (unplaced place) c v → Answers r
-    unfolding requested briefServed
+    pub plan-can-do : (place : Place) (r : Plan) → kind ≡ 1 → place ≡ placed (roomFor (tableOf connectionCount b .functions) first) → r ≡ planCanDo (unplaced place) c v → Answers r
+    unfolding requested planServed
     plan-can-do place r q g h = typed 1 r q (h ∙ rw (searched (roomFor (tableOf connectionCount b .functions) first) place g, ef))
 
-    pub plan-cant-do : (place : Place) (r : Brief) → kind ≡ 2 → place ≡ placed (known (tableOf connectionCount b .functions) first) → r ≡ briefCantDo (unplaced place) c v → Answers r
-    unfolding requested briefServed
+    pub plan-cant-do : (place : Place) (r : Plan) → kind ≡ 2 → place ≡ placed (known (tableOf connectionCount b .functions) first) → r ≡ planCantDo (unplaced place) c v → Answers r
+    unfolding requested planServed
     plan-cant-do place r q g h = typed 2 r q (h ∙ rw (searched (known (tableOf connectionCount b .functions) first) place g, ef))
 
-    pub plan-option : (served : Bool) (r : Brief) → kind ≡ 26 → served ≡ same first exceptionsName → r ≡ briefOption served c v → Answers r
-    unfolding requested briefServed
+    pub plan-option : (served : Bool) (r : Plan) → kind ≡ 26 → served ≡ same first exceptionsName → r ≡ planOption served c v → Answers r
+    unfolding requested planServed
     plan-option served r q g h = typed 26 r q (h ∙ rw (g, ef))
 
-    pub plan-status : (place : Place) (r : Brief) → kind ≡ 15 → place ≡ placed (find (λ j. hasHandle first (j .row)) (tableOf connectionCount b .jobs)) → r ≡ briefStatus (unplaced place) → Answers r
-    unfolding requested briefServed
+    pub plan-status : (place : Place) (r : Plan) → kind ≡ 15 → place ≡ placed (find (λ j. hasHandle first (j .row)) (tableOf connectionCount b .jobs)) → r ≡ planStatus (unplaced place) → Answers r
+    unfolding requested planServed
     plan-status place r q g h = typed 15 r q (h ∙ rw (searched (find (λ j. hasHandle first (j .row)) (tableOf connectionCount b .jobs)) place g, ef))
 
     -- what a worker says of its job, held by the connection at this place
-    module _ (place : Place) (held : place ≡ placed (find (λ j. holdsHandle c first (j .row)) (tableOf connectionCount b .jobs))) (r : Brief) where
+    module _ (place : Place) (held : place ≡ placed (find (λ j. holdsHandle c first (j .row)) (tableOf connectionCount b .jobs))) (r : Plan) where
       plan-work : (how : Work) (numerator denominator : Bytes) → requested kind (argument 0) (argument 1) (argument 2) ≡ work how kind (argument 0) numerator denominator
-          → r ≡ briefWork (unplaced place) how v → Answers r
-      unfolding briefServed
+          → r ≡ planWork (unplaced place) how v → Answers r
+      unfolding planServed
       plan-work how numerator denominator q h =
           typed kind r refl (h ∙ rw (searched (find (λ j. holdsHandle c first (j .row)) (tableOf connectionCount b .jobs)) place held, q, ef))
 
-      pub plan-reports : kind ≡ 12 → r ≡ briefWork (unplaced place) A.reports v → Answers r
+      pub plan-reports : kind ≡ 12 → r ≡ planWork (unplaced place) A.reports v → Answers r
       unfolding requested
       plan-reports q = plan-work A.reports (argument 1) (argument 2) (rw q)
 
-      pub plan-throws : kind ≡ 25 → r ≡ briefWork (unplaced place) A.throws v → Answers r
+      pub plan-throws : kind ≡ 25 → r ≡ planWork (unplaced place) A.throws v → Answers r
       unfolding requested
       plan-throws q = plan-work A.throws [] [] (rw q)
 
-      pub plan-ends : 12 ≤ kind → (kind ≡ 12 → ⊥) → kind < 15 → r ≡ briefWork (unplaced place) A.ends v → Answers r
+      pub plan-ends : 12 ≤ kind → (kind ≡ 12 → ⊥) → kind < 15 → r ≡ planWork (unplaced place) A.ends v → Answers r
       unfolding requested
       plan-ends h n l = plan-work A.ends [] [] (in-run (Says A.ends) 13 2 ((λ a b d. refl), ((λ a b d. refl), tt)) kind (omega arith) l (argument 0) (argument 1) (argument 2))
 
-      pub plan-tells : 28 ≤ kind → kind < 30 → r ≡ briefWork (unplaced place) A.tells v → Answers r
+      pub plan-tells : 28 ≤ kind → kind < 30 → r ≡ planWork (unplaced place) A.tells v → Answers r
       unfolding requested
       plan-tells h l = plan-work A.tells [] [] (in-run (Says A.tells) 28 2 ((λ a b d. refl), ((λ a b d. refl), tt)) kind h l (argument 0) (argument 1) (argument 2))
 
   -- a submission, from the three places and the type's row
-  pub plan-submit : Submits kind → (f u w : Bytes) (joins room free : Place) (row : Kind) (r : Brief) → f ≡ argument 0 → u ≡ argument 1 → w ≡ argument 2 → row ≡ kindOf kind
+  pub plan-submit : Submits kind → (f u w : Bytes) (joins room free : Place) (row : Kind) (r : Plan) → f ≡ argument 0 → u ≡ argument 1 → w ≡ argument 2 → row ≡ kindOf kind
       → joins ≡ placed (joined (tableOf connectionCount b) f u) → room ≡ placed (roomFor (tableOf connectionCount b .functions) f) → free ≡ placed (freeRow (rowsOf (tableOf connectionCount b)))
-      → r ≡ briefSubmit (unplaced joins) (unplaced room) (unplaced free) c (row .3) (row .4) (length w) v → Answers r
-  unfolding briefServed kindOf
+      → r ≡ planSubmit (unplaced joins) (unplaced room) (unplaced free) c (row .3) (row .4) (length w) v → Answers r
+  unfolding planServed kindOf
   plan-submit submits f u w joins room free row r ef eu ew er gj gr gf h =
       typed kind r refl (h ∙ rw (
         searched (joined (tableOf connectionCount b) f u) joins gj,

@@ -3,7 +3,7 @@
 use handle::Serial;
 use lists::Place;
 use packet::Ends;
-use plan::Brief;
+use plan::Plan;
 use plan::Change;
 use plan::Order;
 use plan::Step;
@@ -17,14 +17,14 @@ ghost use Rattle.packet.specs.Packet.{read, requests};
 ghost use Rattle.packet.specs.Answers.{answerOf};
 ghost use Rattle.lists.specs.Lists.{find};
 ghost use Rattle.server.specs.Sizes.{connectionCount};
-ghost use Rattle.server.specs.Table.{hasHandle};
+ghost use Rattle.server.specs.Table.{hasHandle, ablesOf, bestRow, rowsOf};
 ghost use Rattle.server.specs.Requests.{requestIn, sends};
 ghost use Rattle.server.specs.Events.{holdsHandle};
 ghost use Rattle.server.specs.Layout.{tableOf, tableSize};
 ghost use Rattle.server.specs.Call.{isSound};
 ghost use Rattle.lists.specs.Places.{placed};
-ghost use Rattle.plan.specs.Values.{ablesOf, bestRow, rowsOf, valuesOf};
-ghost use Rattle.plan.specs.Briefs.{briefGrab, briefServed};
+ghost use Rattle.plan.specs.Values.{valuesOf};
+ghost use Rattle.plan.specs.Plans.{planGrab, planServed};
 ghost use Rattle.plan_request.specs.Submissions.{Submits};
 
 // The place of the job that connection c holds under this handle: nowhere, where the text is no handle.
@@ -50,10 +50,10 @@ fn found(table: &[u8], handle: &[u8]) -> Place
 }
 
 // The plan of a submission: it joins an unfinished job, or is a new one.
-fn submit(table: &[u8], c: usize, kind: u32, packet: &[u8], ends: Ends) -> Brief
+fn submit(table: &[u8], c: usize, kind: u32, packet: &[u8], ends: Ends) -> Plan
     requires { ⌜ (isSound connectionCount (now table) ≡ true) × (tableSize connectionCount ≤ length (now table)) × (c < connectionCount)
         × (answerOf (read requests (now packet)) ≡ RV.Packet kind ends) × Submits kind ⌝ }
-    ensures { λ r. ⌜ r ≡ briefServed c (asked (sends c (now (packet .entry)))) (tableOf connectionCount (now (table .entry))) ⌝ }
+    ensures { λ r. ⌜ r ≡ planServed c (asked (sends c (now (packet .entry)))) (tableOf connectionCount (now (table .entry))) ⌝ }
 {
     let f = packet_read::argument(packet, ends, 0);
     let u = packet_read::argument(packet, ends, 1);
@@ -76,17 +76,17 @@ fn submit(table: &[u8], c: usize, kind: u32, packet: &[u8], ends: Ends) -> Brief
 }
 
 // A grab, with the unique or without it.
-fn grab(table: &[u8], uniq: bool, c: usize) -> Brief
+fn grab(table: &[u8], uniq: bool, c: usize) -> Plan
     requires { ⌜ (tableSize connectionCount ≤ length (now table)) × (c < connectionCount) ⌝ }
-    ensures { λ r. ⌜ r ≡ briefGrab (bestRow (ablesOf (tableOf connectionCount (now (table .entry)))) (rowsOf (tableOf connectionCount (now (table .entry)))) c) uniq c (valuesOf (tableOf connectionCount (now (table .entry)))) ⌝ }
+    ensures { λ r. ⌜ r ≡ planGrab (bestRow (ablesOf (tableOf connectionCount (now (table .entry)))) (rowsOf (tableOf connectionCount (now (table .entry)))) c) uniq c (valuesOf (tableOf connectionCount (now (table .entry)))) ⌝ }
 {
     plan_jobs::grab(table, plan_find_rows::best_row(table, c), uniq, c)
 }
 
 // The plan of a request that was read.
-pub fn plan_request(table: &[u8], c: usize, kind: u32, packet: &[u8], ends: Ends) -> Brief
+pub fn plan_request(table: &[u8], c: usize, kind: u32, packet: &[u8], ends: Ends) -> Plan
     requires { ⌜ (isSound connectionCount (now table) ≡ true) × (tableSize connectionCount ≤ length (now table)) × (c < connectionCount) × (answerOf (read requests (now packet)) ≡ RV.Packet kind ends) ⌝ }
-    ensures { λ r. ⌜ r ≡ briefServed c (asked (sends c (now (packet .entry)))) (tableOf connectionCount (now (table .entry))) ⌝ }
+    ensures { λ r. ⌜ r ≡ planServed c (asked (sends c (now (packet .entry)))) (tableOf connectionCount (now (table .entry))) ⌝ }
 {
     let first = packet_read::argument(packet, ends, 0);
     match kind {

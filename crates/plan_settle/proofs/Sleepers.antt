@@ -16,10 +16,9 @@ use Rattle.server.specs.declared.Connection.{Connection}
 use Rattle.server.specs.declared.JobRow.{JobRow}
 use Rattle.lists.specs.Lists.{any, filter, mapFrom, numbers}
 use Rattle.server.specs.Sizes.{functionCount}
-use Rattle.server.specs.Table.{closed, live, queued, names}
-use Rattle.server.specs.Events.{awake}
-use Rattle.plan.specs.Values.{canGrab}
-use Rattle.plan.specs.Settling.{wokenIn, toWakeIn, wantedIn, wantedMarks}
+use Rattle.server.specs.Table.{closed, live, queued, names, grabbable}
+use Rattle.server.specs.Events.{awake, wokenIn, toWakeIn}
+use Rattle.plan.specs.Settling.{wantedIn, wantedMarks}
 use Rattle.plan.specs.Busy.{unions, ableFor, busySet, wokenBy, wakesNow, toWakeSet, nameOf, namedSet, markedBy}
 
 -- ---- tests
@@ -51,9 +50,9 @@ module _ {A : Type 0} (f : A → ℕ) (c : ℕ) (p : A → Bool) (e : (x : A) �
   has-unions i l = has-joined 0 i l ∙ ap (λ (b : Bool). b || any p l) (zero-has c)
 
 -- the busy are the connections with a grabbable job
-pub has-busy : (ables : List ℕ) (rs : List JobRow) (c : ℕ) → has (busySet ables rs) c ≡ any (canGrab ables c) rs
+pub has-busy : (ables : List ℕ) (rs : List JobRow) (c : ℕ) → has (busySet ables rs) c ≡ any (grabbable ables c) rs
 unfolding busySet ableFor
-has-busy ables rs c = has-unions (ableFor ables) c (canGrab ables c) (λ r. has-if (queued r) (getD ables (r .function) 0) c) 0 rs
+has-busy ables rs c = has-unions (ableFor ables) c (grabbable ables c) (λ r. has-if (queued r) (getD ables (r .function) 0) c) 0 rs
 
 -- ---- the functions that jobs name
 

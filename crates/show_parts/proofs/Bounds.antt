@@ -17,9 +17,8 @@ use Rattle.handle.proofs.Decimal.{decimal-most}
 use Rattle.server.specs.declared.JobRow.{JobRow}
 use Rattle.lists.specs.Lists.{concat}
 use Rattle.server.specs.Sizes.{connectionCount}
-use Rattle.server.specs.Table.{Table}
+use Rattle.server.specs.Table.{Table, rowsOf}
 use Rattle.server.specs.Requests.{Event, opens, closes, sends}
-use Rattle.plan.specs.Values.{rowsOf}
 use Rattle.capture.specs.Packets.{Addressed, packetLines}
 use Rattle.capture.proofs.Lines.{lines-short}
 use Rattle.show_packet.specs.Lines.{refusalText}

@@ -14,9 +14,8 @@ use Rattle.handle.specs.declared.Serial.the-variants as SV
 use Rattle.handle.specs.Handle.{decimal}
 use Rattle.server.specs.declared.JobRow.{JobRow}
 use Rattle.server.specs.Sizes.{connectionCount}
-use Rattle.server.specs.Table.{Table}
+use Rattle.server.specs.Table.{Table, rowsOf}
 use Rattle.server.specs.Requests.{Event, opens, closes, sends}
-use Rattle.plan.specs.Values.{rowsOf}
 use Rattle.capture.specs.Packets.{packetLines}
 use Rattle.show_names.specs.Names.{space}
 use Rattle.show_packet.specs.Lines.{refusalText, requestLine, responseLine}

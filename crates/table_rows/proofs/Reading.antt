@@ -13,10 +13,10 @@ use Rattle.server.specs.declared.Connection.{Connection}
 use Rattle.server.specs.declared.JobRow.{JobRow}
 use Rattle.lists.specs.Lists.{numbers}
 use Rattle.server.specs.Sizes.{connectionCount, jobCount}
-use Rattle.server.specs.Table.{noRow, closed}
+use Rattle.server.specs.Table.{noRow, closed, ablesOf, rowsOf}
 use Rattle.server.specs.Layout.{littleAt, connectionIn, functionIn, rowIn, jobIn, tableOf, ableAt}
-use Rattle.plan.specs.Values.{ablesOf, rowsOf, valuesOf}
-use Rattle.plan.specs.Plans as P
+use Rattle.plan.specs.Values.{valuesOf}
+use Rattle.plan.specs.Parts as P
 use Rattle.table_laws.proofs.Columns.{length-places, places-at}
 
 -- ---- an array filled

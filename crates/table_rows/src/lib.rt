@@ -23,11 +23,11 @@ ghost use mathlib.Core.Path.{_≡_};
 ghost use Prim.Native.Nat.{_≤_, _<_};
 ghost use lib.ListN.{length, getD};
 ghost use Rattle.server.specs.Sizes.{connectionCount, jobCount};
-ghost use Rattle.server.specs.Table.{closed, noRow};
+ghost use Rattle.server.specs.Table.{closed, noRow, ablesOf, rowsOf};
 ghost use Rattle.server.specs.Layout.{tableOf, tableSize};
 ghost use Rattle.server.specs.Layout as L;
-ghost use Rattle.plan.specs.Values.{ablesOf, rowsOf, valuesOf};
-ghost use Rattle.plan.specs.Plans as P;
+ghost use Rattle.plan.specs.Values.{valuesOf};
+ghost use Rattle.plan.specs.Parts as P;
 
 // ---- one place
 

@@ -7,10 +7,10 @@ use native.Mathlib.Omega.{arith}
 use borrow.Author.Needs.{needs}
 use lib.ListN.{drop}
 use Rattle.server.specs.Layout.{tableOf}
-use Rattle.server.specs.Table.{noRow}
+use Rattle.server.specs.Table.{noRow, grabbable}
 use Rattle.lists.specs.Lists.{any}
 use Rattle.server.specs.Sizes.{connectionCount, jobCount}
-use Rattle.plan.specs.Values.{canGrab, valuesOf}
+use Rattle.plan.specs.Values.{valuesOf}
 use Rattle.plan.proofs.Sizes.{rows-long}
 use Rattle.plan_ending.proofs.Walks.{any-turn, any-end}
 use Rattle.plan_ending.proofs.some_grab.Statement.{statement}
@@ -19,7 +19,7 @@ use Rattle.plan_ending.proofs.some_grab.Tie as tie
 abbrev Inv-loop : tie.InvT-loop
 Inv-loop table k found₀ i₀ found i =
     (i ≤ jobCount)
-    × (any (canGrab (valuesOf (tableOf connectionCount table) .able) k) (valuesOf (tableOf connectionCount table) .rows) ≡ found || any (canGrab (valuesOf (tableOf connectionCount table) .able) k) (drop i (valuesOf (tableOf connectionCount table) .rows)))
+    × (any (grabbable (valuesOf (tableOf connectionCount table) .able) k) (valuesOf (tableOf connectionCount table) .rows) ≡ found || any (grabbable (valuesOf (tableOf connectionCount table) .able) k) (drop i (valuesOf (tableOf connectionCount table) .rows)))
 
 abbrev μ-loop : tie.MeasureT-loop
 μ-loop table k found₀ i₀ found i = 32 - i
@@ -40,13 +40,13 @@ loop-again : tie.Need-loop-again Inv-loop μ-loop
 loop-again c =
     let l = c .before .before .loop in
     let a = c .before .before .before .before .args in
-    (omega arith, any-turn (canGrab (valuesOf (tableOf connectionCount (a .table .now)) .able) (a .c)) _ 32 (l .i) (l .found) (rows-long _) (l .inv .1) noRow (c .grabs .result) (omega arith) (c .grabs .ensures))
+    (omega arith, any-turn (grabbable (valuesOf (tableOf connectionCount (a .table .now)) .able) (a .c)) _ 32 (l .i) (l .found) (rows-long _) (l .inv .1) noRow (c .grabs .result) (omega arith) (c .grabs .ensures))
 
 returns : tie.Need-returns Inv-loop μ-loop
 returns c =
     let l = c .before .loop in
     let a = c .before .before .before .args in
-    any-end (canGrab (valuesOf (tableOf connectionCount (a .table .now)) .able) (a .c)) _ 32 (l .i) (l .found) (rows-long _) (l .inv .1) (omega arith)
+    any-end (grabbable (valuesOf (tableOf connectionCount (a .table .now)) .able) (a .c)) _ 32 (l .i) (l .found) (rows-long _) (l .inv .1) (omega arith)
 
 pub some-grab-spec : {M : Type 1} → statement M
 some-grab-spec =

@@ -8,7 +8,7 @@ use lib.ListN.{drop}
 use Rattle.server.specs.Sizes.{connectionCount}
 use Rattle.server.specs.Layout.{tableOf}
 use Rattle.plan.specs.Values.{valuesOf}
-use Rattle.plan.specs.Plans.{heard, heardFrom}
+use Rattle.plan.specs.Parts.{heard, heardFrom}
 use Rattle.plan_events.proofs.Hearing.{connections-long, heard-turn, heard-end}
 use borrow.Author.Needs.{needs}
 use Rattle.plan_events.proofs.heard.Statement.{statement}

@@ -1,6 +1,6 @@
 -- `plan_events::worked` meets its contract, by the cases of the place and of what is said. Assumes nothing.
 use mathlib.Core.Path.{_∙_}
-use Rattle.plan.specs.Briefs.{briefWork}
+use Rattle.plan.specs.Plans.{planWork}
 use borrow.Author.Needs.{needs}
 use Rattle.plan_events.proofs.worked.Statement.{statement}
 use Rattle.plan_events.proofs.worked.Tie as tie
@@ -45,23 +45,23 @@ done-requires-4 : tie.Need-done-requires-4
 done-requires-4 c κs = search needs
 
 returns : tie.Need-returns
-unfolding briefWork
+unfolding planWork
 returns c = c .refused .ensures ∙ rw (c .before .enum-told .given .1)
 
 returns-2 : tie.Need-returns-2
-unfolding briefWork
+unfolding planWork
 returns-2 c = c .done .ensures ∙ rw (c .before .before .before .row-at .ensures, c .before .before .before .before .before .held .given .1, c .before .enum-told2 .given .1)
 
 returns-3 : tie.Need-returns-3
-unfolding briefWork
+unfolding planWork
 returns-3 c = c .done2 .ensures ∙ rw (c .before .before .before .row-at .ensures, c .before .before .before .before .before .held .given .1, c .before .enum-told3 .given .1)
 
 returns-4 : tie.Need-returns-4
-unfolding briefWork
+unfolding planWork
 returns-4 c = c .done3 .ensures ∙ rw (c .before .before .before .row-at .ensures, c .before .before .before .before .before .held .given .1, c .before .enum-told4 .given .1)
 
 returns-5 : tie.Need-returns-5
-unfolding briefWork
+unfolding planWork
 returns-5 c =
     c .done4 .ensures
     ∙ rw (c .before .heard .ensures, c .before .before .before .before .row-at .ensures, c .before .before .before .before .before .before .held .given .1, c .before .before .enum-told5 .given .1)

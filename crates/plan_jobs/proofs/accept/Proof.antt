@@ -2,7 +2,7 @@
 use mathlib.Core.Path.{_∙_}
 use native.Mathlib.Numerals.{add-one}
 use borrow.Author.Tests.{lt-ltb, le-ltb}
-use Rattle.plan.specs.Briefs.{briefNew}
+use Rattle.plan.specs.Plans.{planNew}
 use borrow.Author.Needs.{needs}
 use Rattle.plan_jobs.proofs.accept.Statement.{statement}
 use Rattle.plan_jobs.proofs.accept.Tie as tie
@@ -26,14 +26,14 @@ done-requires : tie.Need-done-requires
 done-requires c κs = search needs
 
 returns : tie.Need-returns
-unfolding briefNew
+unfolding planNew
 returns c = c .done .ensures ∙ rw (c .before .submitted .ensures, c .before .before .fresh-row .ensures, ← c .before .before .before .before .last .ensures, lt-ltb _ _ (c .before .before .before .if1 .taken), add-one)
 
 refused-requires : tie.Need-refused-requires
 refused-requires c κs = search needs
 
 returns-2 : tie.Need-returns-2
-unfolding briefNew
+unfolding planNew
 returns-2 c = c .refused .ensures ∙ rw (← c .before .before .last .ensures, le-ltb _ _ (c .before .if1 .left))
 
 pub accept-spec : {M : Type 1} → statement M

@@ -1,6 +1,6 @@
 -- `plan_jobs::can_do` meets its contract, by the cases of the place. Assumes nothing.
 use mathlib.Core.Path.{_∙_}
-use Rattle.plan.specs.Briefs.{briefCanDo}
+use Rattle.plan.specs.Plans.{planCanDo}
 use borrow.Author.Needs.{needs}
 use Rattle.plan_jobs.proofs.can_do.Statement.{statement}
 use Rattle.plan_jobs.proofs.can_do.Tie as tie
@@ -24,11 +24,11 @@ done-requires : tie.Need-done-requires
 done-requires c κs = search needs
 
 returns : tie.Need-returns
-unfolding briefCanDo
+unfolding planCanDo
 returns c = c .refused .ensures ∙ rw (c .before .enum-told .given .1)
 
 returns-2 : tie.Need-returns-2
-unfolding briefCanDo
+unfolding planCanDo
 returns-2 c = c .done .ensures ∙ rw (c .before .insert .ensures, c .before .before .able-at .ensures, c .before .before .before .before .room .given .1)
 
 pub can-do-spec : {M : Type 1} → statement M

@@ -1,6 +1,6 @@
 -- `plan_jobs::cant_do` meets its contract, by the cases of the place. Assumes nothing.
 use mathlib.Core.Path.{_∙_}
-use Rattle.plan.specs.Briefs.{briefCantDo}
+use Rattle.plan.specs.Plans.{planCantDo}
 use borrow.Author.Needs.{needs}
 use Rattle.plan_jobs.proofs.cant_do.Statement.{statement}
 use Rattle.plan_jobs.proofs.cant_do.Tie as tie
@@ -24,11 +24,11 @@ done-requires-2 : tie.Need-done-requires-2
 done-requires-2 c κs = search needs
 
 returns : tie.Need-returns
-unfolding briefCantDo
+unfolding planCantDo
 returns c = c .done .ensures ∙ rw (c .before .enum-told .given .1)
 
 returns-2 : tie.Need-returns-2
-unfolding briefCantDo
+unfolding planCantDo
 returns-2 c = c .done2 .ensures ∙ rw (c .before .remove .ensures, c .before .before .able-at .ensures, c .before .before .before .before .known .given .1)
 
 pub cant-do-spec : {M : Type 1} → statement M

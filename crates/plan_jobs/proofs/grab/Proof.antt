@@ -1,7 +1,7 @@
 -- `plan_jobs::grab` meets its contract, by the cases of the place. Assumes nothing.
 use mathlib.Core.Path.{_∙_}
 use native.Mathlib.Numerals.{add-one}
-use Rattle.plan.specs.Briefs.{briefGrab}
+use Rattle.plan.specs.Plans.{planGrab}
 use borrow.Author.Needs.{needs}
 use Rattle.plan_jobs.proofs.grab.Statement.{statement}
 use Rattle.plan_jobs.proofs.grab.Tie as tie
@@ -34,11 +34,11 @@ done-requires-2 : tie.Need-done-requires-2
 done-requires-2 c κs = search needs
 
 returns : tie.Need-returns
-unfolding briefGrab
+unfolding planGrab
 returns c = c .done .ensures ∙ rw (c .before .before .before .sleeping .ensures, c .before .enum-told .given .1)
 
 returns-2 : tie.Need-returns-2
-unfolding briefGrab
+unfolding planGrab
 returns-2 c =
     c .done2 .ensures
     ∙ rw (c .before .with-holder .ensures, c .before .before .row-at .ensures, c .before .before .before .before .before .before .sleeping .ensures, c .before .before .before .before .best .given .1, add-one)

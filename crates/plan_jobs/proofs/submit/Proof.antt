@@ -1,6 +1,6 @@
 -- `plan_jobs::submit` meets its contract, by the cases of the job that it joins. Assumes nothing.
 use mathlib.Core.Path.{_∙_}
-use Rattle.plan.specs.Briefs.{briefSubmit}
+use Rattle.plan.specs.Plans.{planSubmit}
 use borrow.Author.Needs.{needs}
 use Rattle.plan_jobs.proofs.submit.Statement.{statement}
 use Rattle.plan_jobs.proofs.submit.Tie as tie
@@ -18,11 +18,11 @@ submit-new-requires : tie.Need-submit-new-requires
 submit-new-requires c κs = search needs
 
 returns : tie.Need-returns
-unfolding briefSubmit
+unfolding planSubmit
 returns c = c .join .ensures ∙ rw (c .before .before .joined .given .1)
 
 returns-2 : tie.Need-returns-2
-unfolding briefSubmit
+unfolding planSubmit
 returns-2 c = c .submit-new .ensures ∙ rw (c .before .enum-told .given .1)
 
 pub submit-spec : {M : Type 1} → statement M

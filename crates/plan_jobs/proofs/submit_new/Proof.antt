@@ -1,7 +1,7 @@
 -- `plan_jobs::submit_new` meets its contract, by the cases of the two places. Assumes nothing.
 use mathlib.Core.Path.{ap, _∙_}
 use Rattle.lists.specs.Places.{unplaced}
-use Rattle.plan.specs.Briefs.{briefNew}
+use Rattle.plan.specs.Plans.{planNew}
 use borrow.Author.Needs.{needs}
 use Rattle.plan_jobs.proofs.submit_new.Statement.{statement}
 use Rattle.plan_jobs.proofs.submit_new.Tie as tie
@@ -30,11 +30,11 @@ accept-requires c κs =
     (p .0, p .1, p .2 _ (ap unplaced (c .before .before .before .before .room .given .1)))
 
 returns : tie.Need-returns
-unfolding briefNew
+unfolding planNew
 returns c = c .refused .ensures ∙ rw (c .before .enum-told .given .1)
 
 returns-2 : tie.Need-returns-2
-unfolding briefNew
+unfolding planNew
 returns-2 c = c .refused2 .ensures ∙ rw (c .before .before .before .before .room .given .1, c .before .enum-told2 .given .1)
 
 returns-3 : tie.Need-returns-3

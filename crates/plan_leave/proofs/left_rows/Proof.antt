@@ -8,7 +8,7 @@ use lib.ListN.{length, take, length-set, length-map, List·getD-map}
 use Rattle.lists.proofs.Filling.{fill-turn, fill-end}
 use Rattle.server.specs.Sizes.{jobCount}
 use Rattle.server.specs.Table.{noRow}
-use Rattle.plan.specs.Plans.{leftRow}
+use Rattle.plan.specs.Parts.{leftRow}
 use Rattle.plan_leave.proofs.left_rows.Statement.{statement}
 use Rattle.plan_leave.proofs.left_rows.Tie as tie
 
