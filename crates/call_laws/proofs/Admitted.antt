@@ -9,14 +9,14 @@ use lib.ListN.{getD}
 use lib.Dec.{ltb}
 use Rattle.octets.specs.Bytes.{Bytes, same}
 use Rattle.server.specs.Sizes.{connectionCount}
-use Rattle.server.specs.Table.{Table, closed}
-use Rattle.server.specs.Requests.{Event, Request, reset, preSleep, echo, bad, canDo, cantDo, grab, submit, work, getStatus, option, requestIn}
-use Rattle.server.specs.Events.{refuse, served, isOpening, admitted, decide}
-use Rattle.server.specs.Server.{decided}
+use Rattle.server.specs.Table.{Table, closed, connectionAt}
+use Rattle.server.specs.Requests.{Event, opens, closes, sends}
+use Rattle.server.specs.Events.{Decision, silence, refuse, isConnection, onlyIfOpen, onlyIfClosed}
+use Rattle.server.specs.Server.{Server, decided}
 use Rattle.server.specs.Layout.{tableOf}
 use Rattle.server.specs.Call.{serverIn, tooShort, isSound, refusedBy, performed, call, left}
 use Rattle.server.specs.Refusals.{isTold}
-use Rattle.lists.proofs.Rows.{clash}
+use Rattle.server_laws.proofs.Outcome.{Stands}
 use Rattle.server_calls.proofs.Refusals.{Taken, taken, one-if}
 use Rattle.carry_event.proofs.Steps.{silent-laid}
 use Rattle.call_admit.specs.Admission.{stateRefusal, admission}
@@ -30,44 +30,45 @@ call-performed e t w o h = rw h
 
 -- ---- what is decided at once
 
--- only an open opens
-only-open : (a : Request) → isOpening a ≡ true → a ≡ toOpen
-only-open toOpen e = refl
-only-open toClose e = clash e refl
-only-open reset e = clash e refl
-only-open preSleep e = clash e refl
-only-open echo e = clash e refl
-only-open (bad n) e = clash e refl
-only-open (canDo f) e = clash e refl
-only-open (cantDo f) e = clash e refl
-only-open (grab uniq) e = clash e refl
-only-open (submit priority background f u size) e = clash e refl
-only-open (work how kind h n d) e = clash e refl
-only-open (getStatus h) e = clash e refl
-only-open (option name) e = clash e refl
+-- an open, or an event that only an open connection may bring
+pub data Asks : Bool → Event → ℕ → Type 0 where
+  asks-open : (c : ℕ) → Asks true (opens c) c
+  asks-close : (c : ℕ) → Asks false (closes c) c
+  asks-packet : (c : ℕ) (b : Bytes) → Asks false (sends c b) c
 
-module _ (c : ℕ) (a : Request) (t : Table) where
-  by-state : (isOpen opens : Bool) → isOpening a ≡ opens → ¬ (stateRefusal isOpen opens ≡ 0) → admitted true isOpen c a t ≡ refuse c (stateRefusal isOpen opens) t
-  unfolding stateRefusal admitted served
-  by-state true true e z = ap (λ (x : Request). served c x t) (only-open a e)
-  by-state true false e z = absurd (z refl)
-  by-state false true e z = absurd (z refl)
-  by-state false false e z = rw e
+module _ (t : Table) (d : Decision) where
+  if-open : (inside isOpen : Bool) → ¬ (cond (not inside) 2 (stateRefusal isOpen false) ≡ 0) → onlyIfOpen inside isOpen t d ≡ silence (cond (not inside) 2 (stateRefusal isOpen false)) t
+  unfolding stateRefusal onlyIfOpen
+  if-open false isOpen z = refl
+  if-open true true z = absurd (z refl)
+  if-open true false z = refl
 
-  at-once : (inside isOpen opens : Bool) → isOpening a ≡ opens → ¬ (cond (not inside) 2 (stateRefusal isOpen opens) ≡ 0)
-      → admitted inside isOpen c a t ≡ refuse c (cond (not inside) 2 (stateRefusal isOpen opens)) t
-  unfolding admitted
-  at-once false isOpen opens e z = refl
-  at-once true isOpen opens e z = by-state isOpen opens e z
+  if-closed : (inside isOpen : Bool) → ¬ (cond (not inside) 2 (stateRefusal isOpen true) ≡ 0) → onlyIfClosed inside isOpen t d ≡ silence (cond (not inside) 2 (stateRefusal isOpen true)) t
+  unfolding stateRefusal onlyIfClosed
+  if-closed false isOpen z = refl
+  if-closed true true z = refl
+  if-closed true false z = absurd (z refl)
 
--- refusals 2 to 4 are silent
-state-silent : (isOpen opens inside : Bool) → isTold (cond (not inside) 2 (stateRefusal isOpen opens)) ≡ false
+at-once : {way : Bool} {e : Event} {c : ℕ} → Asks way e c → (s : Server)
+    → let n = cond (not (isConnection (s .table) c)) 2 (stateRefusal (connectionAt (s .table) c .opened) way) in ¬ (n ≡ 0) → decided e s ≡ silence n (s .table)
+unfolding decided
+at-once (asks-open c) s z = if-closed (s .table) _ _ _ z
+at-once (asks-close c) s z = if-open (s .table) _ _ _ z
+at-once (asks-packet c b) s z = if-open (s .table) _ _ _ z
+
+-- refusals 2 to 4 are not told
+state-silent : (isOpen way inside : Bool) → isTold (cond (not inside) 2 (stateRefusal isOpen way)) ≡ false
 unfolding isTold stateRefusal same
-state-silent isOpen opens false = refl
+state-silent isOpen way false = refl
 state-silent true true true = refl
 state-silent true false true = refl
 state-silent false true true = refl
 state-silent false false true = refl
+
+-- so to refuse a packet by one of them is to be silent
+silence-refuses : (c n : ℕ) (t : Table) → isTold n ≡ false → silence n t ≡ refuse c n t
+unfolding silence refuse
+silence-refuses c n t h = rw h
 
 -- ---- of a call
 
@@ -77,6 +78,11 @@ pub record Admitted (opens : Bool) (c : ℕ) (t w o : Bytes) : Type 0 where
   pub bytes : Taken connectionCount t w o
   pub inside : c < connectionCount
   pub state : getD (tableOf connectionCount t .connections) c closed .opened ≡ not opens
+
+-- so its connection stands in the table as the event asks
+pub stands : {opens : Bool} {c : ℕ} {t w o : Bytes} → Admitted opens c t w o → Stands (serverIn connectionCount t w .table) c (not opens)
+unfolding serverIn
+stands {t = t} h = record { inside = rw (sixteen t) (h .inside); state = h .state }
 
 module _ (opens : Bool) (c : ℕ) (t w o : Bytes) where
   abbrev isOpen : Bool
@@ -107,22 +113,25 @@ module _ (opens : Bool) (c : ℕ) (t w o : Bytes) where
 
   -- ---- refused
 
-  module _ (e : Event) (from : connectionOf e ≡ c) (asks : isOpening (asked e) ≡ opens) where
-    decided-at-once : ¬ (cond (not (ltb c connectionCount)) 2 (stateRefusal isOpen opens) ≡ 0)
-        → decided e (tableOf connectionCount t) ≡ refuse c (cond (not (ltb c connectionCount)) 2 (stateRefusal isOpen opens)) (tableOf connectionCount t)
-    unfolding decided decide
-    decided-at-once z = rw (from, sixteen t) (at-once c (asked e) (tableOf connectionCount t) (ltb c connectionCount) isOpen opens asks z)
+  module _ (e : Event) (asks : Asks opens e c) where
+    abbrev number : ℕ
+    number = cond (not (ltb c connectionCount)) 2 (stateRefusal isOpen opens)
 
-    refused-by : (b : Bool) (n : ℕ) → tooShort connectionCount t w o || not (isSound connectionCount t) ≡ b → n ≡ cond b 1 (cond (not (ltb c connectionCount)) 2 (stateRefusal isOpen opens)) → ¬ (n ≡ 0)
-        → left n 0 o t w ≡ call connectionCount e t w o
+    decided-at-once : ¬ (number ≡ 0) → decided e (serverIn connectionCount t w) ≡ refuse c number (tableOf connectionCount t)
+    unfolding serverIn
+    decided-at-once z =
+        let q : isConnection (tableOf connectionCount t) c ≡ ltb c connectionCount = ap (ltb c) (sixteen t) in
+        rw q at (at-once asks (serverIn connectionCount t w) (rw q z))
+        ∙ silence-refuses c number (tableOf connectionCount t) (state-silent isOpen opens (ltb c connectionCount))
+
+    refused-by : (b : Bool) (n : ℕ) → tooShort connectionCount t w o || not (isSound connectionCount t) ≡ b → n ≡ cond b 1 number → ¬ (n ≡ 0) → left n 0 o t w ≡ call connectionCount e t w o
     unfolding refusedBy
     refused-by true n h g z = ap (λ (m : ℕ). left m 0 o t w) g ∙ sym (one-if connectionCount e t w o h)
     refused-by false n h g z =
-        let m : ℕ = cond (not (ltb c connectionCount)) 2 (stateRefusal isOpen opens) in
-        let y : ¬ (m ≡ 0) = λ q. z (g ∙ q) in
-        let l = silent-laid c m o (state-silent isOpen opens (ltb c connectionCount)) in
+        let y : ¬ (number ≡ 0) = λ q. z (g ∙ q) in
+        let l = silent-laid c number o (state-silent isOpen opens (ltb c connectionCount)) in
         (λ i. left (g i) (l .0 i) (l .1 i) t w)
-        ∙ refusal-performed e t w o (taken connectionCount t w o h) c m y (decided-at-once y)
+        ∙ refusal-performed e t w o (taken connectionCount t w o h) c number y (decided-at-once y)
         ∙ call-performed e t w o h
 
     pub refused-call : (n : ℕ) → n ≡ admission opens c t w o → ¬ (n ≡ 0) → left n 0 o t w ≡ call connectionCount e t w o

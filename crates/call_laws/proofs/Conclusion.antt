@@ -34,7 +34,8 @@ use Rattle.plan.specs.declared.Values.{Values}
 use Rattle.plan.specs.Values.{valuesOf}
 use Rattle.plan.specs.Settling.{droppedRows, settledValues}
 use Rattle.plan.specs.Parts.{changed, finalTable, ordered}
-use Rattle.plan_laws.proofs.Decides.{Words, Planned, refused, carries, carried}
+use Rattle.plan.specs.Steps.{stepped}
+use Rattle.plan_laws.proofs.Decides.{Words, Planned, declined, carries, carried}
 use Rattle.carry_packet.specs.Messages.{errorArguments, message}
 use Rattle.carry_packet.proofs.Rendered.{none-rendered, error-rendered}
 use Rattle.carry_workloads.specs.Reworked.{reworkedRows}
@@ -43,25 +44,25 @@ use Rattle.carry_texts.specs.Fitting.{Fitting, Sized}
 use Rattle.carry_output.specs.Orderly.{Orderly}
 use Rattle.carry_output.specs.Ordered.{bytesSent, answerBytes}
 use Rattle.carry_laws.proofs.Requests.{wordsGiven}
-use Rattle.carry_event.specs.Concluded.{Ready, concluded, opaqueIn, packetsSent, refusalBytes, tableLeft, workloadsLeft}
+use Rattle.carry_event.specs.Concluded.{Ready, concluded, opaqueIn, numbersLeft, packetsSent, refusalBytes, tableLeft, workloadsLeft}
 
 -- ---- a plan that is done, and one that refuses
 
 pub record Carried (w : Words) (c : ℕ) (t : Table) (p : Plan) (d : Decision) : Type 0 where
   pub is : d ≡ carried w c t p
-  pub settles : valuesOf (finalTable (p .values) (changed (p .change) (w .first) (w .second) (w .third) t)) ≡ settledValues (p .values)
+  pub settles : valuesOf (finalTable (stepped (p .step) (valuesOf t)) (changed (p .change) (w .first) (w .second) (w .third) t)) ≡ settledValues (stepped (p .step) (valuesOf t))
 
 module _ (w : Words) (c : ℕ) (t : Table) where
   pub number-most : {p : Plan} {d : Decision} → Planned w c t p d → p .number ≤ lastNumber
-  number-most (refused n l m) = m
+  number-most (declined n l m) = m
   number-most (carries v change order e) = zero-le
 
   when-done : {p : Plan} {d : Decision} → Planned w c t p d → p .number ≡ 0 → Carried w c t p d
-  when-done (refused n l m) z = absurd (omega arith)
+  when-done (declined n l m) z = absurd (omega arith)
   when-done (carries v change order e) z = record { is = refl; settles = e }
 
   when-refused : {p : Plan} {d : Decision} → Planned w c t p d → ¬ (p .number ≡ 0) → d ≡ refuse c (p .number) t
-  when-refused (refused n l m) z = refl
+  when-refused (declined n l m) z = refl
   when-refused (carries v change order e) z = absurd (z refl)
 
 -- the packets of a refusal
@@ -84,7 +85,7 @@ unfolding isSound
 sound {t} kept = and-both (isImage connectionCount t) _ (kept .image) (kept .rules)
 
 -- what is decided is a refusal: its ERROR packet if it is told, and nothing else
-pub refusal-performed : (e : Event) (t w o : Bytes) → Taken connectionCount t w o → (c n : ℕ) → ¬ (n ≡ 0) → decided e (tableOf connectionCount t) ≡ refuse c n (tableOf connectionCount t)
+pub refusal-performed : (e : Event) (t w o : Bytes) → Taken connectionCount t w o → (c n : ℕ) → ¬ (n ≡ 0) → decided e (serverIn connectionCount t w) ≡ refuse c n (tableOf connectionCount t)
     → left n (length (refusalBytes c n)) (put 0 (refusalBytes c n) o) t w ≡ performed e (serverIn connectionCount t w) t w o
 unfolding performed answer serverIn refuse
 refusal-performed e t w o kept c n z d =
@@ -98,15 +99,18 @@ module _ (e : Event) (t w o : Bytes) (kept : Taken connectionCount t w o) (plan 
   abbrev words : Words
   words = wordsGiven kind (argumentAt p ends 0) (argumentAt p ends 1) (argumentAt p ends 2)
 
+  abbrev numbers′ : Values
+  numbers′ = numbersLeft plan c kind p ends t w
+
   -- the packets that the plan sends
   abbrev pub packetsOf : List Send
   packetsOf =
       ordered (plan .order) 16 c kind (argumentAt p ends 0) (tableOf connectionCount t)
-      ++ map noop (toWakeIn (plan .values .able) (droppedRows (plan .values .rows)) (plan .values .connections))
+      ++ map noop (toWakeIn (numbers′ .able) (droppedRows (numbers′ .rows)) (numbers′ .connections))
 
   -- the plan does what is decided; its packets are rendered, and its opaque argument is taken, as the event has it
   pub record Follows : Type 0 where
-    pub plans : Planned words c (tableOf connectionCount t) plan (decided e (tableOf connectionCount t))
+    pub plans : Planned words c (tableOf connectionCount t) plan (decided e (serverIn connectionCount t w))
     pub shows : bytesSent c p t w packetsOf ≡ sentBytes (map (render e (serverIn connectionCount t w)) packetsOf)
     pub hides : opaqueIn p kind ends ≡ opaqueOf e
 
@@ -117,7 +121,7 @@ module _ (e : Event) (t w o : Bytes) (kept : Taken connectionCount t w o) (plan 
     -- ---- done
 
     module _ (z : plan .number ≡ 0) where
-      done : Carried words c (tableOf connectionCount t) plan (decided e (tableOf connectionCount t))
+      done : Carried words c (tableOf connectionCount t) plan (decided e (serverIn connectionCount t w))
       done = when-done words c (tableOf connectionCount t) (f .plans) z
 
       number-is : 0 ≡ answer e (serverIn connectionCount t w) .number
@@ -129,14 +133,14 @@ module _ (e : Event) (t w o : Bytes) (kept : Taken connectionCount t w o) (plan 
       packets-are =
           f .shows
           ∙ ap (λ (n : ℕ). sentBytes (map (render e (serverIn connectionCount t w)) (ordered (plan .order) n c kind (argumentAt p ends 0) (tableOf connectionCount t)
-          ++ map noop (toWakeIn (plan .values .able) (droppedRows (plan .values .rows)) (plan .values .connections))))) (sym (sixteen t))
+          ++ map noop (toWakeIn (numbers′ .able) (droppedRows (numbers′ .rows)) (numbers′ .connections))))) (sym (sixteen t))
           ∙ ap (λ (d : Decision). sentBytes (map (render e (serverIn connectionCount t w)) (d .packets))) (sym (done .is))
 
       table-is : tableLeft plan c kind p ends t w ≡ next e (serverIn connectionCount t w) .table
       unfolding next serverIn
       table-is = sym (ap (λ (d : Decision). d .table) (done .is))
 
-      rows-are : droppedRows (plan .values .rows) ≡ rowsOf (tableLeft plan c kind p ends t w)
+      rows-are : droppedRows (numbers′ .rows) ≡ rowsOf (tableLeft plan c kind p ends t w)
       unfolding valuesOf settledValues
       rows-are = sym (ap (λ (v : Values). v .rows) (done .settles))
 
@@ -148,7 +152,7 @@ module _ (e : Event) (t w o : Bytes) (kept : Taken connectionCount t w o) (plan 
           ∙ sym (rework-rows (tableOf connectionCount t .jobs) (tableLeft plan c kind p ends t w .jobs) (opaqueOf e) (map (placeOf w) (numbers 0 jobCount)))
           ∙ ap (λ (u : Table). rework (tableOf connectionCount t .jobs) (u .jobs) (opaqueOf e) (map (placeOf w) (numbers 0 jobCount))) table-is
 
-      pub ready : Fitting (plan .change) (argumentAt p ends 0) (argumentAt p ends 1) (argumentAt p ends 2) → Sized (plan .values)
+      pub ready : Fitting (plan .change) (argumentAt p ends 0) (argumentAt p ends 1) (argumentAt p ends 2) → Sized numbers′
           → Orderly (plan .order) (tableOf connectionCount t) p ends kind (argumentAt p ends 0) → length (opaqueIn p kind ends) ≤ 1024
           → Ready plan c kind p ends t w o
       ready fits sized orderly small =

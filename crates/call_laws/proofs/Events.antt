@@ -1,11 +1,11 @@
 -- The plans of the events, as the code makes them, concluded on the lent bytes: each is the call of its event. Assumes nothing.
 use Prim.Native.Nat.{ℕ, _<_, _≤_, zero-le}
-use mathlib.Core.Path.{_≡_, refl, ap, sym, _∙_, subst}
+use mathlib.Core.Path.{_≡_, refl, ap, sym, _∙_}
 use mathlib.Core.Bool.{Bool, true, false, cond}
 use mathlib.Core.List.{List, []}
 use native.Mathlib.Omega.{arith}
-use borrow.Author.Tests.{lt-ltb, le-ltb}
-use lib.ListN.{length, getD, drop, length-append, length-drop}
+use borrow.Author.Tests.{le-ltb}
+use lib.ListN.{length, drop, length-append, length-drop}
 use Rattle.octets.specs.Bytes.{Bytes}
 use Rattle.octets.specs.Put.{put}
 use Rattle.packet.specs.declared.Ends.{Ends}
@@ -16,43 +16,42 @@ use Rattle.packet.specs.Packet.{Reading, got, read, requests}
 use Rattle.packet.specs.Packet as P
 use Rattle.packet.specs.Opaque.{endsOpaque, masked, opaque, visible}
 use Rattle.packet.specs.Answers.{answerOf, argumentAt, between}
+use Rattle.packet_laws.proofs.Answers.{read-answer}
 use Rattle.packet_laws.proofs.Packets.{Headed, header-good, read-got, requests-well}
 use Rattle.packet_laws.proofs.Blindness.{opaque-at, opaque-none, answer-masked}
 use Rattle.packet_laws.proofs.Places.{argument-read}
-use Rattle.packet_kinds.proofs.Tests.{bools, range-arm}
 use Rattle.packet_kinds.proofs.Shapes.{at-most-five}
 use Rattle.server.specs.Sizes.{connectionCount}
 use Rattle.server.specs.Requests.{Event, opens, closes, sends, Request, bad, requested, fromReading, requestIn}
-use Rattle.server.specs.Events.{refuse, isOpening, served, admitted, decide, toWakeIn}
+use Rattle.server.specs.Events.{refuse, served, toWakeIn}
 use Rattle.server.specs.Server.{opaqueOf, decided}
 use Rattle.server.specs.Layout.{tableOf}
 use Rattle.server.specs.Call.{serverIn, call, left}
 use Rattle.server.specs.Refusals.{lastNumber}
 use Rattle.server_laws.proofs.Refusals.{bad-within}
+use Rattle.server_laws.proofs.Outcome.{opening-decided, closing-decided, served-decided}
 use Rattle.plan.specs.declared.Plan.{Plan}
-use Rattle.plan.specs.declared.Change.the-variants as CV
+use Rattle.plan.specs.declared.Values.{Values}
 use Rattle.plan.specs.declared.Order.the-variants as OV
 use Rattle.plan.specs.Values.{valuesOf}
 use Rattle.plan.specs.Settling.{droppedRows}
-use Rattle.plan.specs.Plans.{done, planServed}
-use Rattle.plan.specs.Parts.{closedIn, ordered}
-use Rattle.plan_laws.proofs.Decides.{Words, Suits, for-open, for-close, planned}
+use Rattle.plan.specs.Parts.{ordered}
+use Rattle.plan.specs.Steps.{stepped}
+use Rattle.plan.specs.Plans.{planServed, planOpening, planClosing}
+use Rattle.plan_laws.proofs.Decides.{Words, Planned, served-planned, opening-planned, closing-planned}
 use Rattle.carry_packet.proofs.Rendered.{data-whole, noops-rendered}
-use Rattle.packet_laws.proofs.Answers.{read-answer}
-use Rattle.carry_packet.proofs.Forwarding.{served-below}
+use Rattle.carry_places.proofs.Laid.{Whole}
 use Rattle.carry_texts.specs.Fitting.{Fitting}
 use Rattle.carry_texts.proofs.Laid.{whole}
-use Rattle.carry_places.proofs.Laid.{Whole}
 use Rattle.carry_output.specs.Ordered.{bytesSent}
-use Rattle.carry_laws.proofs.Served.{served-plan}
-use Rattle.carry_laws.proofs.Requests.{request-suits, served-planned}
-use Rattle.carry_laws.proofs.Sizes.{sized, served-sized}
-use Rattle.carry_laws.proofs.Places.{served-fitting, open-fitting, close-fitting}
-use Rattle.carry_laws.proofs.Orders.{served-orderly, silent-orderly}
+use Rattle.carry_laws.proofs.Requests.{wordsGiven, request-suits}
+use Rattle.carry_laws.proofs.Sizes.{sized}
+use Rattle.carry_laws.proofs.Places.{served-fitting, opening-fitting, closing-fitting}
+use Rattle.carry_laws.proofs.Orders.{served-orderly}
 use Rattle.plan_request.proofs.Asks.{asks, good-arguments}
 use Rattle.carry_event.specs.Concluded.{Ready, concluded, opaqueIn, opaquePlace, refusalBytes}
-use Rattle.call_laws.proofs.Conclusion.{sixteen, sound, Follows, small-number, ready, concluded-performed, refusal-performed}
-use Rattle.call_laws.proofs.Admitted.{Admitted, call-performed}
+use Rattle.call_laws.proofs.Conclusion.{sound, Follows, small-number, ready, concluded-performed, refusal-performed}
+use Rattle.call_laws.proofs.Admitted.{Admitted, stands, call-performed}
 
 -- ---- the opaque argument of a request
 
@@ -86,22 +85,22 @@ module _ (p : Bytes) (ends : Ends) (kind : ℕ) (came : answerOf (read requests 
 -- ---- a request
 
 module _ (c : ℕ) (p : Bytes) (ends : Ends) (kind : ℕ) (t w o : Bytes) (h : Admitted false c t w o) (came : answerOf (read requests p) ≡ RV.Packet kind ends)
-    (plan : Plan) (is : plan ≡ planServed c (asked (sends c p)) (tableOf connectionCount t)) where
+    (plan : Plan) (is : plan ≡ planServed c (requestIn p) (tableOf connectionCount t)) where
   abbrev what : Request
   what = requested kind (argumentAt p ends 0) (argumentAt p ends 1) (argumentAt p ends 2)
 
   plan-is : plan ≡ planServed c what (tableOf connectionCount t)
-  plan-is = is ∙ ap (λ (a : Request). planServed c a (tableOf connectionCount t)) (asks c p ends kind came)
+  plan-is = is ∙ ap (λ (a : Request). planServed c a (tableOf connectionCount t)) (asks p ends kind came)
 
   whole-table : Whole (tableOf connectionCount t)
   whole-table = whole t (sound (h .bytes))
 
   follows : Follows (sends c p) t w o (h .bytes) plan c kind p ends
-  unfolding bytesSent decided opaqueOf
+  unfolding bytesSent opaqueOf serverIn
   follows =
       record {
-        plans = rw (plan-is, asks c p ends kind came)
-            (served-planned _ c (tableOf connectionCount t) (h .bytes .rules) (rw (sixteen t) (lt-ltb c connectionCount (h .inside))) (h .state) (request-suits kind _ _ _));
+        plans = rw (served-decided (serverIn connectionCount t w) c p (stands h), plan-is, asks p ends kind came)
+            (served-planned _ c (tableOf connectionCount t) (h .bytes .rules) (request-suits kind _ _ _));
         shows = refl;
         hides = opaque-is p ends kind came;
       }
@@ -112,33 +111,13 @@ module _ (c : ℕ) (p : Bytes) (ends : Ends) (kind : ℕ) (t w o : Bytes) (h : A
   pub request-ready : plan .number ≡ 0 → Ready plan c kind p ends t w o
   request-ready z =
       ready _ t w o (h .bytes) plan c kind p ends follows z
-      (rw plan-is (served-fitting _ c (tableOf connectionCount t) whole-table (h .inside) (request-suits kind _ _ _) (good-arguments p ends kind came)))
-      (rw plan-is (served-sized c (tableOf connectionCount t) whole-table what))
+      (rw plan-is (served-fitting _ c (tableOf connectionCount t) whole-table (request-suits kind _ _ _) (good-arguments p ends kind came)))
+      (sized (plan .step) (tableOf connectionCount t) whole-table)
       (rw plan-is (served-orderly c (tableOf connectionCount t) whole-table p ends kind came))
       (opaque-small p ends kind came)
 
   pub request-call : concluded plan c kind p ends t w o ≡ call connectionCount (sends c p) t w o
   request-call = concluded-performed _ t w o (h .bytes) plan c kind p ends follows ∙ call-performed (sends c p) t w o (h .usable)
-
--- ---- no packet opens
-
-module _ (x y z : Bytes) where
-  opens-row : ℕ → Bool
-  opens-row k = isOpening (requested k x y z)
-
-  -- by the table of types
-  opens-none : (k : ℕ) → k < 37 → opens-row k ≡ false
-  unfolding opens-row requested
-  opens-none k h = sym (range-arm bools opens-row [] 0 37 tt k tt zero-le h)
-
-reading-opens : (p : Bytes) (r : Reading) → read requests p ≡ r → isOpening (fromReading r) ≡ false
-unfolding answerOf opens-row
-reading-opens p (P.refused n) e = refl
-reading-opens p (got kind as′) e = opens-none (getD as′ 0 []) (getD as′ 1 []) (getD as′ 2 []) kind (served-below p (endsOf 12 as′) kind (ap answerOf e))
-
-pub never-opens : (c : ℕ) (p : Bytes) → isOpening (asked (sends c p)) ≡ false
-unfolding asked
-never-opens c p = reading-opens (masked requests p) _ refl
 
 -- ---- a packet that is no request
 
@@ -151,20 +130,20 @@ module _ (c n : ℕ) (p t w o : Bytes) (h : Admitted false c t w o) (came : answ
       refused-same m k q = cc
   bad-reading (got kind as′) e = let z : _≡_ {A = ℕ} 0 1 = cc in absurd (omega arith)
 
-  asks-nothing : asked (sends c p) ≡ bad n
-  unfolding asked
+  asks-nothing : requestIn p ≡ bad n
+  unfolding requestIn
   asks-nothing = bad-reading (read requests (masked requests p)) (sym (answer-masked requests requests-well p) ∙ came)
 
   pub unread-small : n ≤ lastNumber
-  unread-small = omega (arith, bad-within (sends c p) n asks-nothing .1)
+  unread-small = omega (arith, bad-within p n asks-nothing .1)
 
-  unread-decided : decided (sends c p) (tableOf connectionCount t) ≡ refuse c n (tableOf connectionCount t)
-  unfolding decided decide admitted served
-  unread-decided = rw (asks-nothing, sixteen t, lt-ltb c connectionCount (h .inside), h .state)
+  unread-decided : decided (sends c p) (serverIn connectionCount t w) ≡ refuse c n (tableOf connectionCount t)
+  unfolding served serverIn
+  unread-decided = served-decided (serverIn connectionCount t w) c p (stands h) ∙ ap (λ (a : Request). served c a (tableOf connectionCount t)) asks-nothing
 
   pub unread-call : left n (length (refusalBytes c n)) (put 0 (refusalBytes c n) o) t w ≡ call connectionCount (sends c p) t w o
   unread-call =
-      refusal-performed (sends c p) t w o (h .bytes) c n (λ z. absurd (omega (arith, bad-within (sends c p) n asks-nothing .0))) unread-decided
+      refusal-performed (sends c p) t w o (h .bytes) c n (λ z. absurd (omega (arith, bad-within p n asks-nothing .0))) unread-decided
       ∙ call-performed (sends c p) t w o (h .usable)
 
 -- ---- open and close
@@ -177,76 +156,54 @@ nothing-opaque : [] ≡ opaqueIn [] 0 noEnds
 unfolding opaqueIn opaquePlace requestShape rulesOf argumentAt between
 nothing-opaque = refl
 
--- an event without a packet
-module _ (e : Event) (a : Request) (way : Bool) (c : ℕ) (t w o : Bytes) (h : Admitted way c t w o) (plan : Plan) (is : plan ≡ planFor c a (tableOf connectionCount t))
-    (decides : decided e (tableOf connectionCount t) ≡ decide c a (tableOf connectionCount t)) (suits : (v : Words) → Suits v a) (bare : opaqueOf e ≡ []) (silent : plan .order ≡ OV.Nothing)
-    (fits : Fitting (planFor c a (tableOf connectionCount t) .change) (argumentAt [] noEnds 0) (argumentAt [] noEnds 1) (argumentAt [] noEnds 2)) where
-  abbrev woken : List ℕ
-  woken = toWakeIn (plan .values .able) (droppedRows (plan .values .rows)) (plan .values .connections)
-
-  -- it sends NOOPs alone
-  quiet-follows : Follows e t w o (h .bytes) plan c 0 [] noEnds
-  unfolding bytesSent ordered
-  quiet-follows =
-      record {
-        plans = rw (is, decides) (planned _ c (tableOf connectionCount t) (h .bytes .rules) (suits _));
-        shows = rw silent (sym (noops-rendered (sends c []) (serverIn connectionCount t w) woken) ∙ noops-rendered e (serverIn connectionCount t w) woken);
-        hides = sym (bare ∙ nothing-opaque);
-      }
-
-  quiet-small : plan .number ≤ lastNumber
-  quiet-small = small-number e t w o (h .bytes) plan c 0 [] noEnds quiet-follows
-
-  quiet-ready : plan .number ≡ 0 → Ready plan c 0 [] noEnds t w o
-  quiet-ready z =
-      ready e t w o (h .bytes) plan c 0 [] noEnds quiet-follows z
-      (rw is fits)
-      (rw is (sized c a (tableOf connectionCount t) (whole t (sound (h .bytes)))))
-      (silent-orderly (plan .order) silent (tableOf connectionCount t) [] noEnds 0 (argumentAt [] noEnds 0))
-      (omega (arith, ap length nothing-opaque))
-
-  quiet-call : concluded plan c 0 [] noEnds t w o ≡ call connectionCount e t w o
-  quiet-call = concluded-performed e t w o (h .bytes) plan c 0 [] noEnds quiet-follows ∙ call-performed e t w o (h .usable)
-
--- what the caller of a quiet event needs
+-- what the caller of such an event needs
 pub record Concludes (e : Event) (plan : Plan) (c : ℕ) (t w o : Bytes) (ends : Ends) : Type 0 where
   pub small : plan .number ≤ lastNumber
   pub carried : plan .number ≡ 0 → Ready plan c 0 [] ends t w o
   pub is : concluded plan c 0 [] ends t w o ≡ call connectionCount e t w o
 
-pub open-asks : (c : ℕ) → isOpening (asked (opens c)) ≡ true
-unfolding asked
-open-asks c = refl
+-- an event without a packet: it sends NOOPs alone
+module _ (e : Event) (way : Bool) (c : ℕ) (t w o : Bytes) (h : Admitted way c t w o) (plan : Plan)
+    (plans : (v : Words) → Planned v c (tableOf connectionCount t) plan (decided e (serverIn connectionCount t w))) (bare : opaqueOf e ≡ []) (silent : plan .order ≡ OV.Nothing)
+    (fits : Fitting (plan .change) (argumentAt [] noEnds 0) (argumentAt [] noEnds 1) (argumentAt [] noEnds 2)) where
+  abbrev after : Values
+  after = stepped (plan .step) (valuesOf (tableOf connectionCount t))
 
-pub close-asks : (c : ℕ) → isOpening (asked (closes c)) ≡ false
-unfolding asked
-close-asks c = refl
+  abbrev woken : List ℕ
+  woken = toWakeIn (after .able) (droppedRows (after .rows)) (after .connections)
+
+  quiet-follows : Follows e t w o (h .bytes) plan c 0 [] noEnds
+  unfolding bytesSent ordered
+  quiet-follows =
+      record {
+        plans = plans _;
+        shows = rw silent (sym (noops-rendered (sends c []) (serverIn connectionCount t w) woken) ∙ noops-rendered e (serverIn connectionCount t w) woken);
+        hides = sym (bare ∙ nothing-opaque);
+      }
+
+  quiet-concludes : Concludes e plan c t w o noEnds
+  quiet-concludes =
+      record {
+        small = small-number e t w o (h .bytes) plan c 0 [] noEnds quiet-follows;
+        carried = λ z.
+            ready e t w o (h .bytes) plan c 0 [] noEnds quiet-follows z fits (sized (plan .step) (tableOf connectionCount t) (whole t (sound (h .bytes))))
+            (rw silent zero-le) (omega (arith, ap length nothing-opaque));
+        is = concluded-performed e t w o (h .bytes) plan c 0 [] noEnds quiet-follows ∙ call-performed e t w o (h .usable);
+      }
 
 module _ (c : ℕ) (t w o : Bytes) (plan : Plan) (ends : Ends) (none : ends ≡ noEnds) where
-  pub open-concludes : Admitted true c t w o → plan ≡ done (openedIn c (valuesOf (tableOf connectionCount t))) CV.Nothing OV.Nothing → Concludes (opens c) plan c t w o ends
-  unfolding planFor decided asked opaqueOf
-  open-concludes h e =
-      let p : planFor c toOpen (tableOf connectionCount t) ≡ done (openedIn c (valuesOf (tableOf connectionCount t))) CV.Nothing OV.Nothing = rw (sixteen t, lt-ltb c connectionCount (h .inside), h .state) in
-      let q : plan ≡ planFor c toOpen (tableOf connectionCount t) = e ∙ sym p in
-      let s : plan .order ≡ OV.Nothing = ap (λ (x : Plan). x .order) e in
-      let f = open-fitting c (tableOf connectionCount t) (whole t (sound (h .bytes))) _ _ _ in
-      subst (Concludes (opens c) plan c t w o) (sym none)
-      (record {
-        small = quiet-small (opens c) toOpen true c t w o h plan q refl (λ v. for-open) refl s f;
-        carried = quiet-ready (opens c) toOpen true c t w o h plan q refl (λ v. for-open) refl s f;
-        is = quiet-call (opens c) toOpen true c t w o h plan q refl (λ v. for-open) refl s f;
-      })
+  pub opening-concludes : Admitted true c t w o → plan ≡ planOpening c → Concludes (opens c) plan c t w o ends
+  unfolding opaqueOf serverIn
+  opening-concludes h e =
+      rw (none, e)
+      (quiet-concludes (opens c) true c t w o h (planOpening c)
+      (λ v. rw (opening-decided (serverIn connectionCount t w) c (stands h)) (opening-planned v c (tableOf connectionCount t) (h .bytes .rules))) refl refl
+      (opening-fitting (wordsGiven 0 (argumentAt [] noEnds 0) (argumentAt [] noEnds 1) (argumentAt [] noEnds 2)) c (tableOf connectionCount t) (whole t (sound (h .bytes)))))
 
-  pub close-concludes : Admitted false c t w o → plan ≡ done (closedIn c (valuesOf (tableOf connectionCount t))) (CV.Left c) OV.Nothing → Concludes (closes c) plan c t w o ends
-  unfolding planServed decided asked opaqueOf
-  close-concludes h e =
-      let p : planFor c toClose (tableOf connectionCount t) ≡ planServed c toClose (tableOf connectionCount t) = served-plan c toClose (tableOf connectionCount t) (rw (sixteen t) (lt-ltb c connectionCount (h .inside))) (h .state) in
-      let q : plan ≡ planFor c toClose (tableOf connectionCount t) = e ∙ sym p in
-      let s : plan .order ≡ OV.Nothing = ap (λ (x : Plan). x .order) e in
-      let f = close-fitting c (tableOf connectionCount t) (whole t (sound (h .bytes))) _ _ _ in
-      subst (Concludes (closes c) plan c t w o) (sym none)
-      (record {
-        small = quiet-small (closes c) toClose false c t w o h plan q refl (λ v. for-close) refl s f;
-        carried = quiet-ready (closes c) toClose false c t w o h plan q refl (λ v. for-close) refl s f;
-        is = quiet-call (closes c) toClose false c t w o h plan q refl (λ v. for-close) refl s f;
-      })
+  pub closing-concludes : Admitted false c t w o → plan ≡ planClosing c → Concludes (closes c) plan c t w o ends
+  unfolding opaqueOf serverIn
+  closing-concludes h e =
+      rw (none, e)
+      (quiet-concludes (closes c) false c t w o h (planClosing c)
+      (λ v. rw (closing-decided (serverIn connectionCount t w) c (stands h)) (closing-planned v c (tableOf connectionCount t) (h .bytes .rules))) refl refl
+      (closing-fitting (wordsGiven 0 (argumentAt [] noEnds 0) (argumentAt [] noEnds 1) (argumentAt [] noEnds 2)) c (tableOf connectionCount t) (whole t (sound (h .bytes))) (h .inside)))

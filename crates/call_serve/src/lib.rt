@@ -10,14 +10,10 @@ ghost use mathlib.Core.Bool.{cond, false};
 ghost use Rattle.packet.specs.declared.Read.the-variants as RV;
 ghost use Rattle.packet.specs.Packet.{read, requests};
 ghost use Rattle.packet.specs.Answers.{answerOf};
-ghost use Rattle.server.specs.Table.{justOpened};
 ghost use Rattle.server.specs.Sizes.{connectionCount};
 ghost use Rattle.server.specs.Requests.{closes, opens, sends};
 ghost use Rattle.server.specs.Call.{call, left};
-ghost use Rattle.plan.specs.declared.Change.the-variants as CV;
-ghost use Rattle.plan.specs.declared.Order.the-variants as OV;
-ghost use Rattle.plan.specs.declared.Step.the-variants as SV;
-ghost use Rattle.plan.specs.Plans.{done};
+ghost use Rattle.plan.specs.Plans.{planClosing, planOpening};
 ghost use Rattle.call_admit.specs.Admission.{admission};
 
 // The ends of no arguments.
@@ -40,9 +36,9 @@ fn refused(number: u8) -> Answer
     Answer { number, length: 0 }
 }
 
-// The brief plan of an open, or of a close.
+// The plan of an open, or of a close.
 fn plan_open_or_close(c: usize, to_open: bool) -> Plan
-    ensures { λ r. ⌜ r ≡ cond to_open (done (SV.Flags c justOpened) CV.Nothing OV.Nothing) (done (SV.Leave c) (CV.Left c) OV.Nothing) ⌝ }
+    ensures { λ r. ⌜ r ≡ cond to_open (planOpening c) (planClosing c) ⌝ }
 {
     if to_open {
         return plan_events::open(c);
@@ -65,10 +61,10 @@ fn open_or_close(
     if number != 0 {
         return refused(number);
     }
-    let brief = plan_open_or_close(connection as usize, to_open);
+    let plan = plan_open_or_close(connection as usize, to_open);
     let c = connection as u8;
     let ends = no_ends();
-    carry_event::conclude(table, workloads, output, brief, c, 0, b"", ends)
+    carry_event::conclude(table, workloads, output, plan, c, 0, b"", ends)
 }
 
 // Opens a connection.
@@ -101,9 +97,9 @@ fn serve(
     ensures { λ r. ⌜ left (r .number) (r .length) (now (output .exit)) (now (table .exit)) (now (workloads .exit))
         ≡ call connectionCount (sends connection (now (packet .entry))) (now (table .entry)) (now (workloads .entry)) (now (output .entry)) ⌝ }
 {
-    let brief = plan_request::plan_request(table, connection as usize, kind, packet, ends);
+    let plan = plan_request::plan_request(table, connection as usize, kind, packet, ends);
     let c = connection as u8;
-    carry_event::conclude(table, workloads, output, brief, c, kind, packet, ends)
+    carry_event::conclude(table, workloads, output, plan, c, kind, packet, ends)
 }
 
 // Takes one packet from a connection.

@@ -32,7 +32,7 @@ use Rattle.plan.specs.Parts.{changed}
 use Rattle.carry_workloads.specs.Reworked.{reworkedRows}
 use Rattle.plan.specs.declared.Plan.{Plan}
 use Rattle.plan.specs.declared.Ending.{Ending}
-use Rattle.plan.specs.Steps.{meant, stepped, ending, Lean}
+use Rattle.plan.specs.Steps.{stepped, ending, Lean}
 use Rattle.carry_packet.specs.Messages.{errorArguments, message, messages}
 use Rattle.server_calls.proofs.Refusals.{short-at}
 use Rattle.carry_event.specs.Concluded.{concluded, opaqueIn, opaquePlace, packetsSent, refusalBytes, tableLeft, workloadsLeft}
@@ -98,22 +98,22 @@ rows-are v t e = ap (λ (x : Values). x .rows) e
 
 -- ---- a lean step
 
-module _ (brief : Plan) (t w p : Bytes) (c kind : ℕ) (ends : Ends) where
+module _ (plan : Plan) (t w p : Bytes) (c kind : ℕ) (ends : Ends) where
   abbrev before : Table
   before = tableOf connectionCount t
 
   abbrev after : Values
-  after = stepped (brief .step) (valuesOf before)
+  after = stepped (plan .step) (valuesOf before)
 
-  module _ (lean : Lean (brief .step) before (changed (brief .change) (argumentAt p ends 0) (argumentAt p ends 1) (argumentAt p ends 2) before)) where
+  module _ (lean : Lean (plan .step) before (changed (plan .change) (argumentAt p ends 0) (argumentAt p ends 1) (argumentAt p ends 2) before)) where
     -- the connections that the ending wakes are those that the numbers wake
-    pub lean-wakes : (e : Ending) → e ≡ ending (brief .step) (valuesOf before) → members connectionCount (e .woken) ≡ toWakeIn (after .able) (droppedRows (after .rows)) (after .connections)
+    pub lean-wakes : (e : Ending) → e ≡ ending (plan .step) (valuesOf before) → members connectionCount (e .woken) ≡ toWakeIn (after .able) (droppedRows (after .rows)) (after .connections)
     unfolding tableOf
     lean-wakes e is = ap (λ (x : Ending). members connectionCount (x .woken)) is ∙ sym (lean .wakes)
 
     -- the rows after the step are those that are left
     pub lean-workloads : (o : Bytes) → o ≡ opaqueIn p kind ends
-        → reworkedRows (valuesOf before .rows) (after .rows) o (map (placeOf w) (numbers 0 jobCount)) ≡ workloadsLeft (meant brief (valuesOf before)) c kind p ends t w
+        → reworkedRows (valuesOf before .rows) (after .rows) o (map (placeOf w) (numbers 0 jobCount)) ≡ workloadsLeft plan c kind p ends t w
     unfolding valuesOf
     lean-workloads o f =
         ap (λ (l : List JobRow). reworkedRows (rowsOf before) l o (map (placeOf w) (numbers 0 jobCount))) (sym (lean .keeps))

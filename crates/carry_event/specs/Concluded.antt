@@ -20,6 +20,8 @@ use Rattle.server.specs.Layout.{bytesOf, tableOf}
 use Rattle.server.specs.Call.{Result, placeOf, left}
 use Rattle.server.specs.Refusals.{isTold}
 use Rattle.plan.specs.declared.Plan.{Plan}
+use Rattle.plan.specs.declared.Values.{Values}
+use Rattle.plan.specs.Steps.{stepped}
 use Rattle.plan.specs.Values.{valuesOf}
 use Rattle.plan.specs.Settling.{droppedRows, settledValues}
 use Rattle.plan.specs.Parts.{changed, finalTable}
@@ -43,22 +45,26 @@ refusalBytes c number = cond (isTold number) (message c 19 (join (errorArguments
 
 -- the plan of a request and the bytes lent with it
 module _ (plan : Plan) (c kind : ℕ) (p : Bytes) (ends : Ends) (t w : Bytes) where
+  -- the numbers after its step
+  abbrev pub numbersLeft : Values
+  numbersLeft = stepped (plan .step) (valuesOf (tableOf connectionCount t))
+
   -- the table that it leaves
   abbrev pub tableLeft : Table
-  tableLeft = finalTable (plan .values) (changed (plan .change) (argumentAt p ends 0) (argumentAt p ends 1) (argumentAt p ends 2) (tableOf connectionCount t))
+  tableLeft = finalTable numbersLeft (changed (plan .change) (argumentAt p ends 0) (argumentAt p ends 1) (argumentAt p ends 2) (tableOf connectionCount t))
 
   -- the packets that it sends
   abbrev pub packetsSent : Bytes
-  packetsSent = answerBytes (plan .order) (plan .values) c kind (argumentAt p ends 0) p t w
+  packetsSent = answerBytes (plan .order) numbersLeft c kind (argumentAt p ends 0) p t w
 
   -- the workloads that it leaves
   abbrev pub workloadsLeft : List Bytes
-  workloadsLeft = reworkedRows (rowsOf (tableOf connectionCount t)) (droppedRows (plan .values .rows)) (opaqueIn p kind ends) (map (placeOf w) (numbers 0 jobCount))
+  workloadsLeft = reworkedRows (rowsOf (tableOf connectionCount t)) (droppedRows (numbersLeft .rows)) (opaqueIn p kind ends) (map (placeOf w) (numbers 0 jobCount))
 
   -- it can be carried out: its texts fit, its numbers are a table's, its packets can be sent and have room
   pub record Ready (o : Bytes) : Type 0 where
     pub fitting : Fitting (plan .change) (argumentAt p ends 0) (argumentAt p ends 1) (argumentAt p ends 2)
-    pub sized : Sized (plan .values)
+    pub sized : Sized numbersLeft
     pub orderly : Orderly (plan .order) (tableOf connectionCount t) p ends kind (argumentAt p ends 0)
     pub small : length (opaqueIn p kind ends) ≤ workloadSize
     pub room : length packetsSent ≤ length o

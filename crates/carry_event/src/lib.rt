@@ -1,4 +1,4 @@
-// A brief plan carried out on the lent bytes: its packets in the output, its workloads and its table; or the ERROR packet of its
+// A plan plan carried out on the lent bytes: its packets in the output, its workloads and its table; or the ERROR packet of its
 // refusal. An inner crate: its callers lend a table that obeys the rules, and a plan that is ready for it; what is refused is the plan's.
 use packet::Ends;
 use packet::Shape;
@@ -15,10 +15,9 @@ ghost use Rattle.server.specs.Sizes.{connectionCount, outputSize, workloadsSize
 ghost use Rattle.server.specs.Layout.{tableOf, tableSize};
 ghost use Rattle.server.specs.Refusals.{lastNumber};
 ghost use Rattle.server.specs.Call.{isSound, left};
-ghost use Rattle.plan.specs.Values.{valuesOf};
 ghost use Rattle.plan.specs.Parts.{changed};
 ghost use Rattle.carry_packet.specs.Messages.{messages};
-ghost use Rattle.plan.specs.Steps.{Inside, Lean, isLean, meant};
+ghost use Rattle.plan.specs.Steps.{Inside, Lean, isLean};
 ghost use Rattle.carry_event.specs.Concluded.{Ready, concluded, opaquePlace, refusalBytes};
 
 // What a call answers: document 01's number, 0 if it is done, and how many bytes of the output it wrote.
@@ -51,24 +50,24 @@ fn wake(output: &mut [u8], at: usize, woken: u32) -> usize
     carry_packet::wake_all(output, at, woken)
 }
 
-// Carries out a brief plan whose step is lean: sends its packets, and writes what the step and its ending change. Returns how many
+// Carries out a plan plan whose step is lean: sends its packets, and writes what the step and its ending change. Returns how many
 // bytes it sent.
 fn perform_lean(
     table: &mut [u8],
     workloads: &mut [u8],
     output: &mut [u8],
-    brief: Plan,
+    plan: Plan,
     c: u8,
     kind: u32,
     packet: &[u8],
     ends: Ends,
 ) -> usize
-    requires { ⌜ (isSound connectionCount (now table) ≡ true) × (tableSize connectionCount ≤ length (now table)) × (workloadsSize ≤ length (now workloads)) × (brief .number ≡ 0)
-        × Ready (meant brief (valuesOf (tableOf connectionCount (now table)))) c kind (now packet) ends (now table) (now workloads) (now output)
-        × Inside (brief .step) × (isLean (brief .step) ≡ true)
-        × Lean (brief .step) (tableOf connectionCount (now table)) (changed (brief .change) (argumentAt (now packet) ends 0) (argumentAt (now packet) ends 1) (argumentAt (now packet) ends 2) (tableOf connectionCount (now table))) ⌝ }
+    requires { ⌜ (isSound connectionCount (now table) ≡ true) × (tableSize connectionCount ≤ length (now table)) × (workloadsSize ≤ length (now workloads)) × (plan .number ≡ 0)
+        × Ready plan c kind (now packet) ends (now table) (now workloads) (now output)
+        × Inside (plan .step) × (isLean (plan .step) ≡ true)
+        × Lean (plan .step) (tableOf connectionCount (now table)) (changed (plan .change) (argumentAt (now packet) ends 0) (argumentAt (now packet) ends 1) (argumentAt (now packet) ends 2) (tableOf connectionCount (now table))) ⌝ }
     ensures { λ r. ⌜ left 0 r (now (output .exit)) (now (table .exit)) (now (workloads .exit))
-        ≡ concluded (meant brief (valuesOf (tableOf connectionCount (now (table .entry))))) c kind (now (packet .entry)) ends (now (table .entry)) (now (workloads .entry)) (now (output .entry)) ⌝ }
+        ≡ concluded plan c kind (now (packet .entry)) ends (now (table .entry)) (now (workloads .entry)) (now (output .entry)) ⌝ }
 {
     let first = packet_read::argument(packet, ends, 0);
     let second = packet_read::argument(packet, ends, 1);
@@ -78,9 +77,9 @@ fn perform_lean(
         ends,
         opaque_place(packet_kinds::request_shape(kind)),
     );
-    let step = brief.step;
-    let order = brief.order;
-    let change = brief.change;
+    let step = plan.step;
+    let order = plan.order;
+    let change = plan.change;
     let ending = plan_ending::of_step(table, step);
     let at = carry_output::send_order(
         output,
@@ -99,23 +98,23 @@ fn perform_lean(
     length
 }
 
-// Carries out a brief plan whose step is not lean: sends its packets, and then settles and writes all numbers. Returns how many bytes
+// Carries out a plan plan whose step is not lean: sends its packets, and then settles and writes all numbers. Returns how many bytes
 // it sent.
 fn perform_whole(
     table: &mut [u8],
     workloads: &mut [u8],
     output: &mut [u8],
-    brief: Plan,
+    plan: Plan,
     c: u8,
     kind: u32,
     packet: &[u8],
     ends: Ends,
 ) -> usize
-    requires { ⌜ (isSound connectionCount (now table) ≡ true) × (tableSize connectionCount ≤ length (now table)) × (workloadsSize ≤ length (now workloads)) × (brief .number ≡ 0)
-        × Ready (meant brief (valuesOf (tableOf connectionCount (now table)))) c kind (now packet) ends (now table) (now workloads) (now output)
-        × Inside (brief .step) × (isLean (brief .step) ≡ false) ⌝ }
+    requires { ⌜ (isSound connectionCount (now table) ≡ true) × (tableSize connectionCount ≤ length (now table)) × (workloadsSize ≤ length (now workloads)) × (plan .number ≡ 0)
+        × Ready plan c kind (now packet) ends (now table) (now workloads) (now output)
+        × Inside (plan .step) × (isLean (plan .step) ≡ false) ⌝ }
     ensures { λ r. ⌜ left 0 r (now (output .exit)) (now (table .exit)) (now (workloads .exit))
-        ≡ concluded (meant brief (valuesOf (tableOf connectionCount (now (table .entry))))) c kind (now (packet .entry)) ends (now (table .entry)) (now (workloads .entry)) (now (output .entry)) ⌝ }
+        ≡ concluded plan c kind (now (packet .entry)) ends (now (table .entry)) (now (workloads .entry)) (now (output .entry)) ⌝ }
 {
     let first = packet_read::argument(packet, ends, 0);
     let second = packet_read::argument(packet, ends, 1);
@@ -125,9 +124,9 @@ fn perform_whole(
         ends,
         opaque_place(packet_kinds::request_shape(kind)),
     );
-    let step = brief.step;
-    let order = brief.order;
-    let change = brief.change;
+    let step = plan.step;
+    let order = plan.order;
+    let change = plan.change;
     let before = table_rows::read_values(table);
     let rows = before.rows;
     let v = plan_leave::stepped(step, before);
@@ -160,35 +159,35 @@ pub fn refuse(output: &mut [u8], c: u8, number: u8) -> usize
     carry_packet::send_error(output, 0, c, number)
 }
 
-// Carries out a brief plan, or refuses by its number.
+// Carries out a plan plan, or refuses by its number.
 pub fn conclude(
     table: &mut [u8],
     workloads: &mut [u8],
     output: &mut [u8],
-    brief: Plan,
+    plan: Plan,
     c: u8,
     kind: u32,
     packet: &[u8],
     ends: Ends,
 ) -> Answer
-    requires { ⌜ (isSound connectionCount (now table) ≡ true) × (tableSize connectionCount ≤ length (now table)) × (workloadsSize ≤ length (now workloads)) × (outputSize connectionCount ≤ length (now output)) × (brief .number ≤ lastNumber)
-        × (brief .number ≡ 0 → Ready (meant brief (valuesOf (tableOf connectionCount (now table)))) c kind (now packet) ends (now table) (now workloads) (now output))
-        × Inside (brief .step)
-        × (isLean (brief .step) ≡ true
-        → Lean (brief .step) (tableOf connectionCount (now table)) (changed (brief .change) (argumentAt (now packet) ends 0) (argumentAt (now packet) ends 1) (argumentAt (now packet) ends 2) (tableOf connectionCount (now table)))) ⌝ }
+    requires { ⌜ (isSound connectionCount (now table) ≡ true) × (tableSize connectionCount ≤ length (now table)) × (workloadsSize ≤ length (now workloads)) × (outputSize connectionCount ≤ length (now output)) × (plan .number ≤ lastNumber)
+        × (plan .number ≡ 0 → Ready plan c kind (now packet) ends (now table) (now workloads) (now output))
+        × Inside (plan .step)
+        × (isLean (plan .step) ≡ true
+        → Lean (plan .step) (tableOf connectionCount (now table)) (changed (plan .change) (argumentAt (now packet) ends 0) (argumentAt (now packet) ends 1) (argumentAt (now packet) ends 2) (tableOf connectionCount (now table)))) ⌝ }
     ensures { λ r. ⌜ left (r .number) (r .length) (now (output .exit)) (now (table .exit)) (now (workloads .exit))
-        ≡ concluded (meant brief (valuesOf (tableOf connectionCount (now (table .entry))))) c kind (now (packet .entry)) ends (now (table .entry)) (now (workloads .entry)) (now (output .entry)) ⌝ }
+        ≡ concluded plan c kind (now (packet .entry)) ends (now (table .entry)) (now (workloads .entry)) (now (output .entry)) ⌝ }
 {
-    let number = brief.number;
+    let number = plan.number;
     if number != 0 {
         let length = refuse(output, c, number);
         return Answer { number, length };
     }
-    let step = brief.step;
+    let step = plan.step;
     if plan_ending::is_lean(step) {
-        let length = perform_lean(table, workloads, output, brief, c, kind, packet, ends);
+        let length = perform_lean(table, workloads, output, plan, c, kind, packet, ends);
         return Answer { number: 0, length };
     }
-    let length = perform_whole(table, workloads, output, brief, c, kind, packet, ends);
+    let length = perform_whole(table, workloads, output, plan, c, kind, packet, ends);
     Answer { number: 0, length }
 }

@@ -1,4 +1,3 @@
-pub mod Served
 pub mod Requests
 pub mod Sizes
 pub mod Places

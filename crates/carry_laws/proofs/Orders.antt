@@ -4,10 +4,10 @@ use Prim.Native.Nat.{ℕ, _<_, zero-le}
 use mathlib.Core.Path.{_≡_, refl, sym, ap, _∙_, subst}
 use mathlib.Core.Bool.{Bool, true, false}
 use mathlib.Core.Option.{Option, none, some}
-use mathlib.Core.List.{[], _∷_}
+use mathlib.Core.List.{List, [], _∷_}
 use native.Mathlib.Omega.{arith}
-use lib.Dec.{T, ltb}
-use Rattle.octets.specs.Bytes.{Bytes, same}
+use lib.Dec.{T}
+use Rattle.octets.specs.Bytes.{Bytes}
 use Rattle.octets.proofs.Strings.{and-left}
 use Rattle.packet.specs.declared.Ends.{Ends}
 use Rattle.packet.specs.declared.Read.the-variants as RV
@@ -21,19 +21,17 @@ use Rattle.packet.specs.Answers.{answerOf, argumentAt}
 use Rattle.packet_kinds.proofs.Tests.{bools, range-arm}
 use Rattle.packet_kinds.proofs.Shapes.{shapes}
 use Rattle.lists.specs.Lists.{find}
-use Rattle.server.specs.Table.{Table, noJob, jobAt, live, hasHandle, best}
-use Rattle.server.specs.Requests.{Work, tells, reports, ends, throws, Request, reset, preSleep, echo, bad, canDo, cantDo, grab, submit, work, getStatus, option, requested}
-use Rattle.server.specs.Events.{exceptionsName}
-use Rattle.lists.proofs.Cases.{cond-both}
 use Rattle.lists.proofs.Searches.{found}
+use Rattle.server.specs.Table.{Table, noJob, jobAt, live, hasHandle}
+use Rattle.server.specs.Requests.{Work, tells, reports, ends, throws, Request, reset, preSleep, echo, bad, canDo, cantDo, grab, submit, work, getStatus, option, requested}
+use Rattle.server.specs.Events.{Send, Decision}
 use Rattle.server_laws.proofs.Going.{best-found, grabbed-live}
+use Rattle.server_laws.proofs.Outcome.{Change, able, unknown, disabled, cleared, slept, noJobFor, grabbed, joins, accepts, worker, status, optioned, echoed}
 use Rattle.plan.specs.declared.Plan.{Plan}
-use Rattle.plan.specs.declared.Order as O′
-use Rattle.plan.specs.declared.Order.the-variants as OV
 use Rattle.plan.specs.Values.{valuesOf}
-use Rattle.plan.specs.Plans.{planCanDo, planCantDo, planGrab, planNew, planJoin, planSubmit, planWork, planStatus, planOption, planServed}
-use Rattle.plan.proofs.Numbers.{best-values}
-use Rattle.plan_laws.proofs.Decides.{Suits, for-open, for-close, for-reset, for-sleep, for-echo, for-bad, for-can, for-cannot, for-grab, for-submit, for-work, for-status, for-option}
+use Rattle.plan.specs.Plans.{planCanDo, planCantDo, planGrab, planJoin, planWork, planStatus, planServed}
+use Rattle.plan_laws.proofs.Draws.{planOf, Draws, refused, done, draws}
+use Rattle.plan_laws.proofs.Decides.{Suits, for-work, for-status}
 use Rattle.carry_places.proofs.Laid.{Whole}
 use Rattle.carry_packet.specs.Messages.{Forwards}
 use Rattle.carry_packet.proofs.Forwarding.{read-forwards, served-below, work-forwards, forward-sendable, forward-given}
@@ -44,8 +42,6 @@ use Rattle.carry_laws.proofs.Requests.{wordsGiven, request-suits}
 
 -- an echo's data, and the handle of a question for a status
 shaped : Shape → Request → Bool
-shaped s toOpen = true
-shaped s toClose = true
 shaped s reset = true
 shaped s preSleep = true
 shaped s echo = shapes .same Echo s
@@ -88,40 +84,12 @@ module _ (c : ℕ) (t : Table) (whole : Whole t) (p : Bytes) (places : Ends) (ki
   abbrev Orders : Plan → Type 0
   Orders q = Orderly (q .order) t p places kind x
 
-  canDo-orders : (o : Option ℕ) → Orders (planCanDo o c (valuesOf t))
-  unfolding planCanDo
-  canDo-orders none = zero-le
-  canDo-orders (some q) = zero-le
-
-  cantDo-orders : (o : Option ℕ) → Orders (planCantDo o c (valuesOf t))
-  unfolding planCantDo
-  cantDo-orders none = zero-le
-  cantDo-orders (some q) = zero-le
-
-  -- the best job is unfinished
-  grab-orders : (o : Option ℕ) (uniq : Bool) → best t c ≡ o → Orders (planGrab o uniq c (valuesOf t))
-  unfolding planGrab
-  grab-orders none uniq e = zero-le
-  grab-orders (some q) uniq e = (omega (arith, best-found t c q e .0, whole .jobs), grabbed-live t c q e)
-
-  new-orders : (o r : Option ℕ) (priority : ℕ) (background : Bool) (size : ℕ) → Orders (planNew o r c priority background size (valuesOf t))
-  unfolding planNew
-  new-orders none r priority background size = zero-le
-  new-orders (some q) none priority background size = zero-le
-  new-orders (some q) (some r) priority background size = cond-both Orders (ltb (valuesOf t .last) 4294967295) zero-le zero-le
-
-  submit-orders : (o room free : Option ℕ) (priority : ℕ) (background : Bool) (size : ℕ) → Orders (planSubmit o room free c priority background size (valuesOf t))
-  unfolding planSubmit planJoin
-  submit-orders none room free priority background size = new-orders room free priority background size
-  submit-orders (some q) room free priority background size = zero-le
-
-  work-orders : (o : Option ℕ) (how : Work) → Forwards p places kind → Orders (planWork o how (valuesOf t))
+  work-orders : (how : Work) (q : ℕ) → Forwards p places kind → Orders (planWork (some q) how (valuesOf t))
   unfolding planWork
-  work-orders none how f = zero-le
-  work-orders (some q) tells f = f
-  work-orders (some q) reports f = f
-  work-orders (some q) ends f = f
-  work-orders (some q) throws f = f
+  work-orders tells q f = f
+  work-orders reports q f = f
+  work-orders ends q f = f
+  work-orders throws q f = f
 
   -- a request of a handle's shape has one
   asks-handle : Handle ≡ requestShape kind → fits L.handle x ≡ true
@@ -131,39 +99,34 @@ module _ (c : ℕ) (t : Table) (whole : Whole t) (p : Bytes) (places : Ends) (ki
       let g : given 1 x y z (argumentAt p places 3) (argumentAt p places 4) ≡ f .arguments = forward-given p places 14 f Handle 1 _ _ _ _ _ refl refl refl refl refl refl refl in
       and-left (fits L.handle x) true (ap (fitAll (L.handle ∷ [])) g ∙ forward-sendable p places 14 f .fit)
 
-  status-orders : (o : Option ℕ) → find (λ j. hasHandle x (j .row)) (t .jobs) ≡ o → fits L.handle x ≡ true → Orders (planStatus o (valuesOf t))
+  status-orders : (o : Option ℕ) → find (λ j. hasHandle x (j .row)) (t .jobs) ≡ o → fits L.handle x ≡ true → Orders (planStatus o)
   unfolding hasHandle
   status-orders none e h = h
   status-orders (some q) e h =
       let w = found (λ j. hasHandle x (j .row)) noJob (t .jobs) (some q) e in
       (omega (arith, w .inside, whole .jobs), and-left (live (jobAt t q .row)) _ (w .passes), h)
 
-  option-orders : (b : Bool) → Orders (planOption b c (valuesOf t))
-  option-orders false = zero-le
-  option-orders true = zero-le
-
   -- ---- every order
 
-  served-by : {a : Request} → Suits (wordsGiven kind x y z) a → requested kind x y z ≡ a → Orders (planServed c a t)
-  unfolding planServed responseShape shaped
-  served-by for-open e = zero-le
-  served-by for-close e = zero-le
-  served-by (for-bad n l m) e = zero-le
-  served-by for-can e = canDo-orders _
-  served-by (for-cannot f) e = cantDo-orders _
-  served-by for-reset e = zero-le
-  served-by for-sleep e = zero-le
-  served-by (for-grab uniq) e = subst (λ (o : Option ℕ). Orders (planGrab o uniq c (valuesOf t))) (best-values t c) (grab-orders (best t c) uniq refl)
-  served-by (for-submit priority background size) e = submit-orders _ _ _ priority background size
-  served-by (for-work {how} h s) e = work-orders _ how (work-forwards x y z p places kind kind how h _ _ came e)
-  served-by for-status e = status-orders (find (λ j. hasHandle x (j .row)) (t .jobs)) refl (asks-handle (shape-of x y z kind low _ Handle e refl))
-  served-by (for-option name) e = option-orders (same name exceptionsName)
-  served-by for-echo e = read-forwards p places kind 17 came (shape-of x y z kind low echo Echo e refl)
+  change-orders : {a : Request} {ss : List Send} {u : Table} (m : Change c t a ss u) → Suits (wordsGiven kind x y z) a → requested kind x y z ≡ a → Orders (planOf c t m)
+  unfolding planCanDo planCantDo planGrab planJoin responseShape shaped
+  change-orders (able f q e) s i = zero-le
+  change-orders (unknown f e) s i = zero-le
+  change-orders (disabled f q e) s i = zero-le
+  change-orders cleared s i = zero-le
+  change-orders slept s i = zero-le
+  change-orders (noJobFor uniq e) s i = zero-le
+  change-orders (grabbed uniq q e) s i = (omega (arith, best-found t c q e .0, whole .jobs), grabbed-live t c q e)
+  change-orders (joins priority background f u size q e) s i = zero-le
+  change-orders (accepts priority background f u size q r e₁ e₂ e₃ m) s i = zero-le
+  change-orders (worker how k h n d q e) (for-work h′ s) i = work-orders how q (work-forwards x y z p places kind kind how h n d came i)
+  change-orders (status h o e) for-status i = status-orders o e (asks-handle (shape-of x y z kind low _ Handle i refl))
+  change-orders (optioned name e) s i = zero-le
+  change-orders echoed s i = read-forwards p places kind 17 came (shape-of x y z kind low echo Echo i refl)
+
+  draws-orders : {a : Request} {q : Plan} {d : Decision} → Draws c t a q d → Suits (wordsGiven kind x y z) a → requested kind x y z ≡ a → Orders q
+  draws-orders (refused a n r) s i = zero-le
+  draws-orders (done m) s i = change-orders m s i
 
   pub served-orderly : Orderly (planServed c (requested kind x y z) t .order) t p places kind x
-  served-orderly = served-by (request-suits kind x y z) refl
-
--- ---- an event that sends nothing itself
-
-pub silent-orderly : (order : O′.Order) → order ≡ OV.Nothing → (t : Table) (p : Bytes) (places : Ends) (kind : ℕ) (h : Bytes) → Orderly order t p places kind h
-silent-orderly order e t p places kind h = rw e zero-le
+  served-orderly = draws-orders (draws c t (requested kind x y z)) (request-suits kind x y z) refl

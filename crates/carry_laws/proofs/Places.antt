@@ -1,34 +1,37 @@
--- Every change fits the table: its places are the table's, and the texts that it lays are no longer than their places.
--- Assumes nothing.
+-- Every plan fits the table: the places of its step and of its change are the table's, and the texts that it lays are no longer than their
+-- places. Assumes nothing.
 use Prim.Native.Nat.{ℕ, _≤_, _<_, zero-le}
-use mathlib.Core.Path.{_≡_, refl}
-use mathlib.Core.Bool.{Bool, true, false, not, _&&_}
+use mathlib.Core.Path.{_≡_}
+use mathlib.Core.Bool.{Bool, true, not, _&&_}
 use mathlib.Core.Option.{Option, none, some}
+use mathlib.Core.List.{List}
 use native.Mathlib.Omega.{arith}
-use borrow.Author.Tests.{leb-true, ltb-true}
-use lib.ListN.{length, length-map}
-use lib.Dec.{ltb, leb}
+use borrow.Author.Tests.{leb-true}
+use lib.ListN.{length}
+use lib.Dec.{leb}
 use Rattle.octets.specs.Bytes.{Bytes, zeroFree, within, same}
 use Rattle.octets.proofs.Strings.{and-left, and-right}
 use Rattle.packet.specs.declared.Rule.the-variants.{Text, Digits}
 use Rattle.packet.specs.Arguments.{digits, fits}
 use Rattle.lists.specs.Lists.{find}
-use Rattle.server.specs.Sizes.{connectionCount, functionCount, jobCount}
-use Rattle.server.specs.Table.{Job, Table, noRow, noJob, live, hasHandle, roomFor, joined, rowsOf, freeRow}
-use Rattle.server.specs.Requests.{Work, Request}
-use Rattle.server.specs.Events.{exceptionsName, holdsHandle}
-use Rattle.lists.proofs.Cases.{cond-both}
 use Rattle.lists.proofs.Searches.{found}
+use Rattle.server.specs.Sizes.{connectionCount, functionCount, jobCount}
+use Rattle.server.specs.Table.{Table, noRow, noJob, noFunction, rowsOf, live, known, roomFor, freeRow, freePlace, joined}
+use Rattle.server.specs.Requests.{Work, tells, reports, ends, throws, Request}
+use Rattle.server.specs.Events.{Send, Decision, holdsHandle}
+use Rattle.server_laws.proofs.Numbers.{rows-long}
 use Rattle.server_laws.proofs.Functions.{room}
+use Rattle.server_laws.proofs.Going.{best-found}
 use Rattle.server_laws.proofs.Requests.{Good, Told}
+use Rattle.server_laws.proofs.Outcome.{Change, able, unknown, disabled, cleared, slept, noJobFor, grabbed, joins, accepts, worker, status, optioned, echoed}
 use Rattle.plan.specs.declared.Plan.{Plan}
 use Rattle.plan.specs.Values.{valuesOf}
-use Rattle.plan.specs.Plans.{planCanDo, planCantDo, planGrab, planNew, planJoin, planSubmit, planWork, planStatus, planOption, planServed}
-use Rattle.plan_laws.proofs.Decides.{Words, Says, that-tells, that-reports, that-ends, that-throws, Suits, for-open, for-close, for-reset, for-sleep, for-echo, for-bad, for-can, for-cannot, for-grab, for-submit, for-work, for-status, for-option}
+use Rattle.plan.specs.Steps.{Inside}
+use Rattle.plan.specs.Plans.{planCanDo, planCantDo, planGrab, planJoin, planWork, planStatus, planServed, planOpening, planClosing}
+use Rattle.plan_laws.proofs.Draws.{planOf, Draws, refused, done, draws}
+use Rattle.plan_laws.proofs.Decides.{Words, Says, that-tells, that-reports, that-ends, that-throws, Suits, for-can, for-submit, for-work}
 use Rattle.carry_places.proofs.Laid.{Whole}
 use Rattle.carry_texts.specs.Fitting.{Fitting}
-use Rattle.carry_laws.proofs.Requests.{wordsGiven}
-use Rattle.carry_laws.proofs.Served.{each-plan}
 
 -- ---- lengths
 
@@ -43,94 +46,105 @@ digits-most : (least most : ℕ) (x : Bytes) → fits (Digits least most) x ≡ 
 unfolding fits
 digits-most least most x e = within-most least most (length x) (digits x) e
 
--- ---- each plan
+-- ---- the places that the searches found
+
+module _ (c : ℕ) (t : Table) (whole : Whole t) where
+  room-place : (f : Bytes) (q : ℕ) → roomFor (t .functions) f ≡ some q → q < functionCount
+  room-place f q e = omega (arith, room t f q e .inside, whole .functions)
+
+  known-place : (f : Bytes) (q : ℕ) → known (t .functions) f ≡ some q → q < functionCount
+  known-place f q e = omega (arith, found (λ x. same (x .name) f) noFunction (t .functions) (some q) e .inside, whole .functions)
+
+  free-place : (p : ℕ) → freePlace t ≡ some p → p < jobCount
+  unfolding freeRow
+  free-place p e = omega (arith, found (λ r. not (live r)) noRow (rowsOf t) (some p) e .inside, rows-long t, whole .jobs)
+
+  joined-place : (f u : Bytes) (p : ℕ) → joined t f u ≡ some p → p < jobCount
+  unfolding joined
+  joined-place f u p e = omega (arith, found _ noJob (t .jobs) (some p) e .inside, whole .jobs)
+
+  held-place : (h : Bytes) (p : ℕ) → find (λ j. holdsHandle c h (j .row)) (t .jobs) ≡ some p → p < jobCount
+  held-place h p e = omega (arith, found (λ j. holdsHandle c h (j .row)) noJob (t .jobs) (some p) e .inside, whole .jobs)
+
+  -- ---- the step
+
+  work-inside : (how : Work) (h : Bytes) (p : ℕ) → find (λ j. holdsHandle c h (j .row)) (t .jobs) ≡ some p → Inside (planWork (some p) how (valuesOf t) .step)
+  unfolding planWork
+  work-inside tells h p e = zero-le
+  work-inside reports h p e = zero-le
+  work-inside ends h p e = held-place h p e
+  work-inside throws h p e = held-place h p e
+
+  status-inside : (o : Option ℕ) → Inside (planStatus o .step)
+  status-inside none = zero-le
+  status-inside (some p) = zero-le
+
+  change-inside : c < connectionCount → {a : Request} {ss : List Send} {u : Table} (m : Change c t a ss u) → Inside (planOf c t m .step)
+  unfolding planCanDo planCantDo planGrab planJoin
+  change-inside h (able f q e) = room-place f q e
+  change-inside h (unknown f e) = zero-le
+  change-inside h (disabled f q e) = known-place f q e
+  change-inside h cleared = h
+  change-inside h slept = h
+  change-inside h (noJobFor uniq e) = h
+  change-inside h (grabbed uniq p e) = (omega (arith, best-found t c p e .0, whole .jobs), h)
+  change-inside h (joins priority background f u size p e) = joined-place f u p e
+  change-inside h (accepts priority background f u size q p e₁ e₂ e₃ m) = free-place p e₃
+  change-inside h (worker how kind j n d p e) = work-inside how j p e
+  change-inside h (status j o e) = status-inside o
+  change-inside h (optioned name e) = h
+  change-inside h echoed = zero-le
+
+  draws-inside : c < connectionCount → {a : Request} {p : Plan} {d : Decision} → Draws c t a p d → Inside (p .step)
+  draws-inside h (refused a n r) = zero-le
+  draws-inside h (done m) = change-inside h m
+
+  pub served-inside : c < connectionCount → (a : Request) → Inside (planServed c a t .step)
+  served-inside h a = draws-inside h (draws c t a)
+
+-- ---- the change
 
 module _ (w : Words) (c : ℕ) (t : Table) (whole : Whole t) where
   abbrev Fits : Plan → Type 0
   Fits p = Fitting (p .change) (w .first) (w .second) (w .third)
 
-  function-place : (q : ℕ) → roomFor (t .functions) (w .first) ≡ some q → q < functionCount
-  function-place q e = omega (arith, room t (w .first) q e .inside, whole .functions)
-
-  free-place : (p : ℕ) → freeRow (rowsOf t) ≡ some p → p < jobCount
-  unfolding freeRow
-  free-place p e = omega (arith, found (λ r. not (live r)) noRow (rowsOf t) (some p) e .inside, length-map (t .jobs) (λ (j : Job). j .row), whole .jobs)
-
-  canDo-fits : (o : Option ℕ) → roomFor (t .functions) (w .first) ≡ o → length (w .first) ≤ 32 → Fits (planCanDo o c (valuesOf t))
-  unfolding planCanDo
-  canDo-fits none e l = zero-le
-  canDo-fits (some q) e l = (function-place q e, l)
-
-  cantDo-fits : (o : Option ℕ) → Fits (planCantDo o c (valuesOf t))
-  unfolding planCantDo
-  cantDo-fits none = zero-le
-  cantDo-fits (some q) = zero-le
-
-  grab-fits : (o : Option ℕ) (uniq : Bool) → Fits (planGrab o uniq c (valuesOf t))
-  unfolding planGrab
-  grab-fits none uniq = zero-le
-  grab-fits (some p) uniq = zero-le
-
-  module _ (priority : ℕ) (background : Bool) (size : ℕ) (name : length (w .first) ≤ 32) (unique : length (w .second) ≤ 64) where
-    new-fits : (o r : Option ℕ) → roomFor (t .functions) (w .first) ≡ o → freeRow (rowsOf t) ≡ r → Fits (planNew o r c priority background size (valuesOf t))
-    unfolding planNew
-    new-fits none r e f = zero-le
-    new-fits (some q) none e f = zero-le
-    new-fits (some q) (some p) e f = cond-both Fits (ltb (valuesOf t .last) 4294967295) (free-place p f, function-place q e, name, unique) zero-le
-
-    submit-fits : (o : Option ℕ) → Fits (planSubmit o (roomFor (t .functions) (w .first)) (freeRow (rowsOf t)) c priority background size (valuesOf t))
-    unfolding planSubmit planJoin
-    submit-fits none = new-fits _ _ refl refl
-    submit-fits (some p) = zero-le
-
-  work-fits : {how : Work} {n d : Bytes} (h : Bytes) → Says w how n d → Told how n d → (o : Option ℕ) → find (λ j. holdsHandle c h (j .row)) (t .jobs) ≡ o → Fits (planWork o how (valuesOf t))
+  work-fits : {how : Work} {n d : Bytes} (h : Bytes) → Says w how n d → Told how n d → (p : ℕ) → find (λ j. holdsHandle c h (j .row)) (t .jobs) ≡ some p → Fits (planWork (some p) how (valuesOf t))
   unfolding planWork
-  work-fits h s g none e = zero-le
-  work-fits h (that-tells n d) g (some p) e = zero-le
-  work-fits h that-reports g (some p) e = (
-    omega (arith, found (λ j. holdsHandle c h (j .row)) noJob (t .jobs) (some p) e .inside, whole .jobs),
-    digits-most 1 10 (w .second) (g .numerator),
-    digits-most 1 10 (w .third) (g .denominator),
-  )
-  work-fits h (that-ends n d) g (some p) e = zero-le
-  work-fits h (that-throws n d) g (some p) e = zero-le
+  work-fits h (that-tells n d) g p e = zero-le
+  work-fits h that-reports g p e = (held-place c t whole h p e, digits-most 1 10 (w .second) (g .numerator), digits-most 1 10 (w .third) (g .denominator))
+  work-fits h (that-ends n d) g p e = zero-le
+  work-fits h (that-throws n d) g p e = zero-le
 
-  status-fits : (o : Option ℕ) → Fits (planStatus o (valuesOf t))
+  status-fits : (o : Option ℕ) → Fits (planStatus o)
   status-fits none = zero-le
   status-fits (some p) = zero-le
 
-  option-fits : (b : Bool) → Fits (planOption b c (valuesOf t))
-  option-fits false = zero-le
-  option-fits true = zero-le
+  change-fits : {a : Request} {ss : List Send} {u : Table} (m : Change c t a ss u) → Suits w a → Good a → Fits (planOf c t m)
+  unfolding planCanDo planCantDo planGrab planJoin
+  change-fits (able f q e) for-can g = (room-place c t whole f q e, text-most 1 32 f g)
+  change-fits (unknown f e) s g = zero-le
+  change-fits (disabled f q e) s g = zero-le
+  change-fits cleared s g = zero-le
+  change-fits slept s g = zero-le
+  change-fits (noJobFor uniq e) s g = zero-le
+  change-fits (grabbed uniq p e) s g = zero-le
+  change-fits (joins priority background f u size p e) s g = zero-le
+  change-fits (accepts priority background f u size q p e₁ e₂ e₃ m) (for-submit priority′ background′ size′) g =
+      (free-place c t whole p e₃, room-place c t whole f q e₂, text-most 1 32 f (g .function), text-most 0 64 u (g .unique))
+  change-fits (worker how kind h n d p e) (for-work h′ s) g = work-fits h s g p e
+  change-fits (status h o e) s g = status-fits o
+  change-fits (optioned name e) s g = zero-le
+  change-fits echoed s g = zero-le
 
-  -- ---- every plan
+  draws-fits : {a : Request} {p : Plan} {d : Decision} → Draws c t a p d → Suits w a → Good a → Fits p
+  draws-fits (refused a n r) s g = zero-le
+  draws-fits (done m) s g = change-fits m s g
 
-  pub served-fitting : c < connectionCount → {a : Request} → Suits w a → Good a → Fits (planServed c a t)
-  unfolding planServed
-  served-fitting h for-open g = zero-le
-  served-fitting h for-close g = h
-  served-fitting h (for-bad n l m) g = zero-le
-  served-fitting h for-can g = canDo-fits _ refl (text-most 1 32 (w .first) g)
-  served-fitting h (for-cannot f) g = cantDo-fits _
-  served-fitting h for-reset g = zero-le
-  served-fitting h for-sleep g = zero-le
-  served-fitting h (for-grab uniq) g = grab-fits _ uniq
-  served-fitting h (for-submit priority background size) g =
-      submit-fits priority background size (text-most 1 32 (w .first) (g .function)) (text-most 0 64 (w .second) (g .unique)) (joined t (w .first) (w .second))
-  served-fitting h (for-work j s) g = work-fits j s g _ refl
-  served-fitting h for-status g = status-fits (find (λ j. hasHandle (w .job) (j .row)) (t .jobs))
-  served-fitting h (for-option name) g = option-fits (same name exceptionsName)
-  served-fitting h for-echo g = zero-le
+  pub served-fitting : {a : Request} → Suits w a → Good a → Fits (planServed c a t)
+  served-fitting {a} s g = draws-fits (draws c t a) s g
 
-  pub fitting : {a : Request} → Suits w a → Good a → Fits (planFor c a t)
-  fitting {a} s g =
-      each-plan c a t Fits (λ e. served-fitting (omega (arith, ltb-true c (length (t .connections)) e, whole .connections)) s g) zero-le (λ n. zero-le)
+  pub opening-fitting : Fits (planOpening c)
+  opening-fitting = zero-le
 
--- ---- the events that bring no packet
-
-module _ (c : ℕ) (t : Table) (whole : Whole t) where
-  pub open-fitting : (x y z : Bytes) → Fitting (planFor c toOpen t .change) x y z
-  open-fitting x y z = fitting (wordsGiven 0 x y z) c t whole for-open tt
-
-  pub close-fitting : (x y z : Bytes) → Fitting (planFor c toClose t .change) x y z
-  close-fitting x y z = fitting (wordsGiven 0 x y z) c t whole for-close tt
+  pub closing-fitting : c < connectionCount → Fits (planClosing c)
+  closing-fitting h = h

@@ -1,22 +1,12 @@
--- The words of a request are its arguments, whatever its type: its plan does with them what the server's definitions decide.
--- Assumes nothing.
+-- The words of a request are its arguments, whatever its type. Assumes nothing.
 use Prim.Native.Nat.{ℕ, zero, suc}
-use mathlib.Core.Path.{_≡_, subst}
-use mathlib.Core.Bool.{true}
 use mathlib.Core.List.{List, []}
 use native.Mathlib.Omega.{arith}
-use lib.ListN.{length, getD}
-use lib.Dec.{ltb}
+use lib.ListN.{getD}
 use Rattle.octets.specs.Bytes.{Bytes}
-use Rattle.server.specs.Table.{Table, closed}
-use Rattle.server.specs.Rules.{obeys}
-use Rattle.server.specs.Requests.{Request, bad, requested}
-use Rattle.server.specs.Events.{decide}
 use Rattle.lists.proofs.Cases.{All}
-use Rattle.plan.specs.declared.Plan.{Plan}
-use Rattle.plan.specs.Plans.{planServed}
-use Rattle.plan_laws.proofs.Decides.{Words, that-tells, that-reports, that-ends, that-throws, Suits, for-reset, for-sleep, for-echo, for-bad, for-can, for-cannot, for-grab, for-submit, for-work, for-status, for-option, Planned, planned}
-use Rattle.carry_laws.proofs.Served.{served-plan}
+use Rattle.server.specs.Requests.{bad, requested}
+use Rattle.plan_laws.proofs.Decides.{Words, that-tells, that-reports, that-ends, that-throws, Suits, for-reset, for-sleep, for-echo, for-bad, for-can, for-cannot, for-grab, for-submit, for-work, for-status, for-option}
 
 -- what the code passes on for a request of this type with these arguments
 abbrev pub wordsGiven : ℕ → Bytes → Bytes → Bytes → Words
@@ -45,8 +35,3 @@ module _ (kind : ℕ) (x y z : Bytes) where
       (All.more (for-work x (that-throws [] [])) (All.more (for-option x) (All.more unserved (All.more (for-work x (that-tells [] [])) (All.more (for-work x (that-tells [] []))  -- 25 to 29
       (All.more (for-grab _) (All.more unserved (All.more (for-submit _ _ _) (All.more (for-submit _ _ _) (All.more (for-submit _ _ _) All.none)))))))))))))))))))))))))))))))))))
       kind
-
--- on a connection that is open
-pub served-planned : (w : Words) (c : ℕ) (t : Table) → obeys t ≡ true → ltb c (length (t .connections)) ≡ true → getD (t .connections) c closed .opened ≡ true
-    → {a : Request} → Suits w a → Planned w c t (planServed c a t) (decide c a t)
-served-planned w c t ok inside opened {a} s = subst (λ (p : Plan). Planned w c t p (decide c a t)) (served-plan c a t inside opened) (planned w c t ok s)

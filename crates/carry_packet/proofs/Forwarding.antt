@@ -47,8 +47,6 @@ served-below p ends k e =
 
 -- what a worker says of its job goes out by the type by which it came
 told : ℕ → Request → Bool
-told k toOpen = true
-told k toClose = true
 told k reset = true
 told k preSleep = true
 told k echo = true

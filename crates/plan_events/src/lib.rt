@@ -12,7 +12,6 @@ ghost use mathlib.Core.Bool.{cond, true};
 ghost use Prim.Native.Nat.{_≤_, _<_};
 ghost use lib.ListN.{length};
 ghost use Rattle.sets.specs.Sets.{remove};
-ghost use Rattle.server.specs.Table.{justOpened};
 ghost use Rattle.server.specs.Sizes.{connectionCount};
 ghost use Rattle.server.specs.Layout.{tableOf, tableSize};
 ghost use Rattle.plan.specs.declared.Change.the-variants as CV;
@@ -21,7 +20,7 @@ ghost use Rattle.lists.specs.Places.{unplaced};
 ghost use Rattle.plan.specs.Values.{valuesOf};
 ghost use Rattle.plan.specs.Parts as P;
 ghost use Rattle.plan.specs.declared.Step.the-variants as SV;
-ghost use Rattle.plan.specs.Plans.{planOption, planStatus, planWork, sleepingRow};
+ghost use Rattle.plan.specs.Plans.{planClosing, planOpening, planOption, planStatus, planWork, sleepingRow};
 ghost use Rattle.plan.specs.Plans as B;
 ghost use Rattle.plan_events.specs.Works.{workOf};
 
@@ -62,7 +61,7 @@ pub fn pre_sleep(table: &[u8], c: usize) -> Plan
 
 // Opening a connection.
 pub fn open(c: usize) -> Plan
-    ensures { λ r. ⌜ r ≡ B.done (SV.Flags c justOpened) CV.Nothing OV.Nothing ⌝ }
+    ensures { λ r. ⌜ r ≡ planOpening c ⌝ }
 {
     let x = server::just_opened();
     plan_jobs::done(
@@ -77,7 +76,7 @@ pub fn open(c: usize) -> Plan
 
 // Closing a connection.
 pub fn close(c: usize) -> Plan
-    ensures { λ r. ⌜ r ≡ B.done (SV.Leave c) (CV.Left c) OV.Nothing ⌝ }
+    ensures { λ r. ⌜ r ≡ planClosing c ⌝ }
 {
     plan_jobs::done(
         Step::Leave { connection: c },

@@ -39,8 +39,8 @@ module _ (b : Bytes) (c : ℕ) where
   abbrev ables : List ℕ
   ables = ablesOf (tableOf connectionCount b)
 
-  abbrev rank : JobRow → ℕ
-  rank = rank ables c
+  abbrev rankHere : JobRow → ℕ
+  rankHere = rank ables c
 
   -- ---- rows passed
 
@@ -48,18 +48,18 @@ module _ (b : Bytes) (c : ℕ) where
     here : i < length rs
     here = rw (rows-long b) h
 
-    row-passed : rank (rowIn connectionCount b i) ≤ v .rank → BestOf b c (i + 1) v
+    row-passed : rankHere (rowIn connectionCount b i) ≤ v .rank → BestOf b c (i + 1) v
     unfolding bestRow
     row-passed m =
-        let k : rank (getD rs i noRow) ≤ v .rank = rw (row-place b i h) m in
-        (top-kept rank rs i noRow here (v .rank) (g .0) k, g .1 ∙ ap placed (sym (best-kept rank rs i noRow here (v .rank) (g .0) k)))
+        let k : rankHere (getD rs i noRow) ≤ v .rank = rw (row-place b i h) m in
+        (top-kept rankHere rs i noRow here (v .rank) (g .0) k, g .1 ∙ ap placed (sym (best-kept rankHere rs i noRow here (v .rank) (g .0) k)))
 
-    row-taken : (k : ℕ) → k ≡ rank (rowIn connectionCount b i) → v .rank < k → BestOf b c (i + 1) (record { place = At i; rank = k })
+    row-taken : (k : ℕ) → k ≡ rankHere (rowIn connectionCount b i) → v .rank < k → BestOf b c (i + 1) (record { place = At i; rank = k })
     unfolding bestRow
     row-taken k e m =
-        let q : k ≡ rank (getD rs i noRow) = rw (row-place b i h) e in
-        let l : v .rank < rank (getD rs i noRow) = omega arith in
-        (q ∙ top-rises rank rs i noRow here (v .rank) (g .0) l, ap placed (sym (best-moves rank rs i noRow here (v .rank) (g .0) l)))
+        let q : k ≡ rankHere (getD rs i noRow) = rw (row-place b i h) e in
+        let l : v .rank < rankHere (getD rs i noRow) = omega arith in
+        (q ∙ top-rises rankHere rs i noRow here (v .rank) (g .0) l, ap placed (sym (best-moves rankHere rs i noRow here (v .rank) (g .0) l)))
 
     -- what the code asks of a row, in its order
     pub row-idle : (q : Bool) → q ≡ queued (rowIn connectionCount b i) → not q ≡ true → BestOf b c (i + 1) v
@@ -77,7 +77,7 @@ module _ (b : Bytes) (c : ℕ) where
       row-best q k eq n ek m t = row-taken k (ek ∙ sym (rank-able ables c (rowIn connectionCount b i) (sym eq ∙ not-false q n) (sym ea ∙ t))) m
 
   -- n rows that are no better
-  rows-passed : (n i : ℕ) (v : Q′.Best) → i + n ≤ 32 → BestOf b c i v → ((k : ℕ) → k < n → rank (rowIn connectionCount b (i + k)) ≤ v .rank) → BestOf b c (i + n) v
+  rows-passed : (n i : ℕ) (v : Q′.Best) → i + n ≤ 32 → BestOf b c i v → ((k : ℕ) → k < n → rankHere (rowIn connectionCount b (i + k)) ≤ v .rank) → BestOf b c (i + n) v
   rows-passed zero i v h g m = rw add-zero g
   rows-passed (suc n) i v h g m =
       let e : i + suc n ≡ i + n + 1 = omega arith in
@@ -94,10 +94,10 @@ module _ (b : Bytes) (c : ℕ) where
     unfolding bestRow
     best-there i e =
         let n : length (take p rs) ≡ p = length-take-le p rs (omega (arith, rows-long b)) in
-        let (inside, same, some-rank) = best-says rank noRow (take p rs) i (placed-at _ i (sym (g .1) ∙ e)) in
+        let (inside, same, some-rank) = best-says rankHere noRow (take p rs) i (placed-at _ i (sym (g .1) ∙ e)) in
         let l : i < p = omega arith in
         let r : getD (take p rs) i noRow ≡ rowIn connectionCount b i = getD-take p rs i noRow l ∙ row-place b i (omega arith) in
-        let q : rank (rowIn connectionCount b i) ≡ v .rank = ap rank (sym r) ∙ same ∙ sym (g .0) in
+        let q : rankHere (rowIn connectionCount b i) ≡ v .rank = ap rankHere (sym r) ∙ same ∙ sym (g .0) in
         (omega arith, sym q ∙ rank-some ables c (rowIn connectionCount b i) (λ z. some-rank (omega arith)))
 
     -- none of them goes before it

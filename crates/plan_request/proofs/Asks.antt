@@ -23,7 +23,7 @@ use Rattle.packet_laws.proofs.Packets.{Headed, header-good, Got, read-got, requ
 use Rattle.packet_laws.proofs.Places.{argument-read}
 use Rattle.packet_laws.proofs.Blindness.{read-masked, answer-masked, masked-length, opaque-at}
 use Rattle.packet_kinds.proofs.Tests.{bools, range-arm}
-use Rattle.server.specs.Requests.{sends, Work, Request, submit, work, requested, fromReading, requestIn}
+use Rattle.server.specs.Requests.{Work, Request, submit, work, requested, fromReading, requestIn}
 use Rattle.server.specs.Requests as A
 use Rattle.server_laws.proofs.Requests.{Good, good-requested}
 use Rattle.packet_laws.proofs.Answers.{read-answer}
@@ -184,11 +184,11 @@ cant-do-fits p ends e =
     let f = fit-read p 2 (s .0) (s .1) in
     subst Good (sym (asks-shown p ends 2 e 1)) (good-requested 1 (s .0) (f .1) (f .0))
 
--- what the event asks, from the arguments where they lie
-pub asks : (c : ℕ) (p : Bytes) (ends : Ends) (kind : ℕ) → answerOf (read requests p) ≡ RV.Packet kind ends
-    → asked (sends c p) ≡ requested kind (argumentAt p ends 0) (argumentAt p ends 1) (argumentAt p ends 2)
-unfolding asked
-asks c p ends kind e =
+-- what the packet asks, from the arguments where they lie: masked or not, it is the same
+pub asks : (p : Bytes) (ends : Ends) (kind : ℕ) → answerOf (read requests p) ≡ RV.Packet kind ends
+    → requestIn p ≡ requested kind (argumentAt p ends 0) (argumentAt p ends 1) (argumentAt p ends 2)
+unfolding requestIn
+asks p ends kind e =
     ap fromReading (hidden p ends kind e .1)
     ∙ sym (asks-same p ends kind e _ refl)
     ∙ ap (asksOf kind) (sym (put-back p ends kind e))

@@ -147,14 +147,14 @@ module _ (b p : Bytes) (c kind : ℕ) (ends : Ends) (e : answerOf (read requests
 
   -- what the code must answer
   abbrev Answers : Plan → Type 0
-  Answers r = r ≡ planServed c (asked (sends c p)) (tableOf connectionCount b)
+  Answers r = r ≡ planServed c (requestIn p) (tableOf connectionCount b)
 
   abbrev argument : ℕ → Bytes
   argument i = argumentAt p ends i
 
   -- the type has this number: what it asks computes
   typed : (k : ℕ) (r : Plan) → kind ≡ k → r ≡ planServed c (requested k (argument 0) (argument 1) (argument 2)) (tableOf connectionCount b) → Answers r
-  typed k r q g = g ∙ ap (λ (a : Request). planServed c a (tableOf connectionCount b)) (sym (asks c p ends kind e ∙ ap (λ (k : ℕ). requested k (argument 0) (argument 1) (argument 2)) q))
+  typed k r q g = g ∙ ap (λ (a : Request). planServed c a (tableOf connectionCount b)) (sym (asks p ends kind e ∙ ap (λ (k : ℕ). requested k (argument 0) (argument 1) (argument 2)) q))
 
   -- a type that was read is served
   pub plan-foreign : (r : Plan) → Foreign ≡ requestShape kind → Answers r

@@ -17,8 +17,8 @@ ghost use Rattle.packet.specs.Packet.{read, requests};
 ghost use Rattle.packet.specs.Answers.{answerOf};
 ghost use Rattle.lists.specs.Lists.{find};
 ghost use Rattle.server.specs.Sizes.{connectionCount};
-ghost use Rattle.server.specs.Table.{hasHandle, ablesOf, bestRow, rowsOf};
-ghost use Rattle.server.specs.Requests.{requestIn, sends};
+ghost use Rattle.server.specs.Table.{best, hasHandle};
+ghost use Rattle.server.specs.Requests.{requestIn};
 ghost use Rattle.server.specs.Events.{holdsHandle};
 ghost use Rattle.server.specs.Layout.{tableOf, tableSize};
 ghost use Rattle.server.specs.Call.{isSound};
@@ -53,7 +53,7 @@ fn found(table: &[u8], handle: &[u8]) -> Place
 fn submit(table: &[u8], c: usize, kind: u32, packet: &[u8], ends: Ends) -> Plan
     requires { ⌜ (isSound connectionCount (now table) ≡ true) × (tableSize connectionCount ≤ length (now table)) × (c < connectionCount)
         × (answerOf (read requests (now packet)) ≡ RV.Packet kind ends) × Submits kind ⌝ }
-    ensures { λ r. ⌜ r ≡ planServed c (asked (sends c (now (packet .entry)))) (tableOf connectionCount (now (table .entry))) ⌝ }
+    ensures { λ r. ⌜ r ≡ planServed c (requestIn (now (packet .entry))) (tableOf connectionCount (now (table .entry))) ⌝ }
 {
     let f = packet_read::argument(packet, ends, 0);
     let u = packet_read::argument(packet, ends, 1);
@@ -78,7 +78,7 @@ fn submit(table: &[u8], c: usize, kind: u32, packet: &[u8], ends: Ends) -> Plan
 // A grab, with the unique or without it.
 fn grab(table: &[u8], uniq: bool, c: usize) -> Plan
     requires { ⌜ (tableSize connectionCount ≤ length (now table)) × (c < connectionCount) ⌝ }
-    ensures { λ r. ⌜ r ≡ planGrab (bestRow (ablesOf (tableOf connectionCount (now (table .entry)))) (rowsOf (tableOf connectionCount (now (table .entry)))) c) uniq c (valuesOf (tableOf connectionCount (now (table .entry)))) ⌝ }
+    ensures { λ r. ⌜ r ≡ planGrab (best (tableOf connectionCount (now (table .entry))) c) uniq c (valuesOf (tableOf connectionCount (now (table .entry)))) ⌝ }
 {
     plan_jobs::grab(table, plan_find_rows::best_row(table, c), uniq, c)
 }
@@ -86,7 +86,7 @@ fn grab(table: &[u8], uniq: bool, c: usize) -> Plan
 // The plan of a request that was read.
 pub fn plan_request(table: &[u8], c: usize, kind: u32, packet: &[u8], ends: Ends) -> Plan
     requires { ⌜ (isSound connectionCount (now table) ≡ true) × (tableSize connectionCount ≤ length (now table)) × (c < connectionCount) × (answerOf (read requests (now packet)) ≡ RV.Packet kind ends) ⌝ }
-    ensures { λ r. ⌜ r ≡ planServed c (asked (sends c (now (packet .entry)))) (tableOf connectionCount (now (table .entry))) ⌝ }
+    ensures { λ r. ⌜ r ≡ planServed c (requestIn (now (packet .entry))) (tableOf connectionCount (now (table .entry))) ⌝ }
 {
     let first = packet_read::argument(packet, ends, 0);
     match kind {

@@ -7,7 +7,7 @@ use mathlib.Core.Option.{Option, none, some}
 use mathlib.Core.List.{List, [], _∷_, map}
 use lib.ListN.{length}
 use lib.Dec.{ltb}
-use borrow.Author.Tests.{ltb-true}
+use borrow.Author.Tests.{ltb-true, lt-ltb}
 use Rattle.octets.specs.Bytes.{Bytes, same}
 use Rattle.lists.specs.Lists.{find, filter}
 use Rattle.lists.proofs.Cases.{cond-cases}
@@ -166,3 +166,18 @@ unfolding decided
 outcome (opens c) s = if-closed (s .table) c _ (by-open c) (opensTwice c) (opened c) _ _ refl refl
 outcome (closes c) s = if-open (s .table) c _ (by-close c) (closesNone c) (closed c) _ _ refl refl
 outcome (sends c b) s = if-open (s .table) c _ (by-packet c b) (sendsClosed c b) (λ o. serves c b _ o (served-by c (s .table) (requestIn b))) _ _ refl refl
+
+-- ---- what is decided where the connection stands as the event asks
+
+module _ (s : Server) (c : ℕ) where
+  pub opening-decided : Stands (s .table) c false → decided (opens c) s ≡ settle [] (opening c (s .table))
+  unfolding decided onlyIfClosed
+  opening-decided o = rw (lt-ltb c (length (s .table .connections)) (o .inside), o .state)
+
+  pub closing-decided : Stands (s .table) c true → decided (closes c) s ≡ settle [] (closing c (s .table))
+  unfolding decided onlyIfOpen
+  closing-decided o = rw (lt-ltb c (length (s .table .connections)) (o .inside), o .state)
+
+  pub served-decided : (b : Bytes) → Stands (s .table) c true → decided (sends c b) s ≡ served c (requestIn b) (s .table)
+  unfolding decided onlyIfOpen
+  served-decided b o = rw (lt-ltb c (length (s .table .connections)) (o .inside), o .state)

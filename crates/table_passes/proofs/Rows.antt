@@ -7,13 +7,15 @@ use native.Mathlib.Nat.{add-zero}
 use native.Mathlib.Numerals.{add-one}
 use native.Mathlib.Omega.{arith}
 use borrow.Author.Tests.{eqb-true}
-use lib.ListN.{length, getD, List·getD-eq-default}
+use lib.ListN.{length, getD, List·getD-eq-default, List·getD-map}
 use lib.Dec.{eqb}
 use Rattle.octets.specs.Bytes.{Bytes}
 use Rattle.server.specs.declared.Connection.{Connection}
+use Rattle.server.specs.declared.JobRow.{JobRow}
 use Rattle.lists.specs.Lists.{any, all, pairwise, numbers}
+use Rattle.lists.proofs.Maps.{any-map}
 use Rattle.server.specs.Sizes.{connectionCount, functionCount, jobCount}
-use Rattle.server.specs.Table.{Function, Job, closed, noFunction, connectionAt, functionAt, live, wanted}
+use Rattle.server.specs.Table.{Function, Job, closed, noFunction, connectionAt, functionAt, rowsOf, ablesOf, live, wanted}
 use Rattle.server.specs.Layout.{littleAt, connectionIn, functionIn, rowIn, jobIn, tableOf, serialsAt}
 use Rattle.server.specs.Rules.{isKnown, asDefined, functionsAsDefined, sleeperIdle, sleepersIdleFrom, sleepersIdle}
 use Rattle.table_laws.proofs.Columns.{length-places, places-at}
@@ -64,6 +66,9 @@ module _ (n : ℕ) (b : Bytes) where
   unfolding tableOf
   jobs-any p = any-read (jobIn n b) p (numbers 0 jobCount)
 
+  pub rows-any : (p : JobRow → Bool) → any p (rowsOf (tableOf n b)) ≡ any (λ k. p (rowIn n b k)) (numbers 0 jobCount)
+  rows-any p = any-map p (λ (j : Job). j .row) (tableOf n b .jobs) ∙ jobs-any (λ j. p (j .row))
+
   pub jobs-pairs : (apart : Job → Job → Bool) → pairwise apart (tableOf n b .jobs) ≡ pairwise (λ i k. apart (jobIn n b i) (jobIn n b k)) (numbers 0 jobCount)
   unfolding tableOf
   jobs-pairs apart = pairs-read (jobIn n b) apart (numbers 0 jobCount)
@@ -98,6 +103,9 @@ module _ (n : ℕ) (b : Bytes) where
   unfolding tableOf
   function-at q h = places-at (functionIn n b) noFunction functionCount q h
 
+  pub able-at : (q : ℕ) → q < functionCount → getD (ablesOf (tableOf n b)) q 0 ≡ functionIn n b q .able
+  able-at q h = List·getD-map (λ (x : Function). x .able) (tableOf n b .functions) q noFunction ∙ ap (λ (x : Function). x .able) (function-at q h)
+
   -- past the last function there is none
   pub no-function : (q : ℕ) → 16 ≤ q → functionAt (tableOf n b) q ≡ noFunction
   unfolding tableOf
@@ -105,16 +113,16 @@ module _ (n : ℕ) (b : Bytes) where
 
   -- ---- functions as defined, and sleepers
 
-  defined-from : (js : List Job) (q m : ℕ)
-      → asDefined js q (map (functionIn n b) (numbers q m)) ≡ all (λ k. cond (isKnown (functionIn n b k)) (wanted js k (functionIn n b k)) (not (wanted js k (functionIn n b k)))) (numbers q m)
-  defined-from js q zero = refl
-  defined-from js q (suc m) =
-      ap (λ (x : Bool). cond (isKnown (functionIn n b q)) (wanted js q (functionIn n b q)) (not (wanted js q (functionIn n b q))) && x) (defined-from js (suc q) m)
+  defined-from : (rs : List JobRow) (q m : ℕ)
+      → asDefined rs q (map (functionIn n b) (numbers q m)) ≡ all (λ k. cond (isKnown (functionIn n b k)) (wanted rs k (functionIn n b k .able)) (not (wanted rs k (functionIn n b k .able)))) (numbers q m)
+  defined-from rs q zero = refl
+  defined-from rs q (suc m) =
+      ap (λ (x : Bool). cond (isKnown (functionIn n b q)) (wanted rs q (functionIn n b q .able)) (not (wanted rs q (functionIn n b q .able))) && x) (defined-from rs (suc q) m)
 
   pub defined-all : functionsAsDefined (tableOf n b)
-      ≡ all (λ q. cond (isKnown (functionIn n b q)) (wanted (tableOf n b .jobs) q (functionIn n b q)) (not (wanted (tableOf n b .jobs) q (functionIn n b q)))) (numbers 0 functionCount)
+      ≡ all (λ q. cond (isKnown (functionIn n b q)) (wanted (rowsOf (tableOf n b)) q (functionIn n b q .able)) (not (wanted (rowsOf (tableOf n b)) q (functionIn n b q .able)))) (numbers 0 functionCount)
   unfolding tableOf
-  defined-all = defined-from (map (jobIn n b) (numbers 0 jobCount)) 0 16
+  defined-all = defined-from (rowsOf (tableOf n b)) 0 functionCount
 
   sleepers-from : (c m : ℕ) → sleepersIdleFrom (tableOf n b) c (map (connectionIn n b) (numbers c m)) ≡ all (λ x. sleeperIdle (tableOf n b) x (connectionIn n b x)) (numbers c m)
   sleepers-from c zero = refl

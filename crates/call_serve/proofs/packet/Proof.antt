@@ -3,8 +3,8 @@ use mathlib.Core.Path.{refl, sym, _∙_}
 use mathlib.Core.Bool.{false}
 use borrow.Author.Needs.{needs}
 use Rattle.server.specs.Requests.{sends}
-use Rattle.call_laws.proofs.Admitted.{is-admitted, refused-call}
-use Rattle.call_laws.proofs.Events.{never-opens, unread-small, unread-call}
+use Rattle.call_laws.proofs.Admitted.{asks-packet, is-admitted, refused-call}
+use Rattle.call_laws.proofs.Events.{unread-small, unread-call}
 use Rattle.call_serve.proofs.Read.{unread-left}
 use Rattle.call_serve.proofs.packet.Statement.{statement}
 use Rattle.call_serve.proofs.packet.Tie as tie
@@ -25,7 +25,7 @@ same-length-3 : tie.Need-same-length-3
 same-length-3 c = search needs
 
 returns : tie.Need-returns
-returns c = rw (c .refused .ensures) (refused-call false _ _ _ _ (sends _ _) refl (never-opens _ _) _ (c .before .before .admission .ensures) (c .before .if1 .taken))
+returns c = rw (c .refused .ensures) (refused-call false _ _ _ _ (sends _ _) (asks-packet _ _) _ (c .before .before .admission .ensures) (c .before .if1 .taken))
 
 read-request-requires : tie.Need-read-request-requires
 read-request-requires c κs = search needs

@@ -35,7 +35,7 @@ of-step-requires c κs = search needs
 send-order-requires : tie.Need-send-order-requires
 send-order-requires c κs =
     let s = c .before .before .before .before .before .before .before .before .before .before .before .before .before .before .before in
-    let v : Values = stepped (s .args .brief .step) (valuesOf (tableOf connectionCount (s .args .table .now))) in
+    let v : Values = stepped (s .args .plan .step) (valuesOf (tableOf connectionCount (s .args .table .now))) in
     let a = c .before .before .before .before .before .before .before .before .before .before .argument .ensures in
     (s .pre .0, s .pre .1, s .pre .2, rw a (s .pre .4 .orderly), rw a (order-room _ _ _ _ _ _ _ v _ (s .pre .4 .room)))
 
@@ -43,9 +43,9 @@ wake-requires : tie.Need-wake-requires
 wake-requires c κs =
     let s = c .before .before .before .before .before .before .before .before .before .before .before .before .before .before .before .before .before .before .before in
     let g = s .args in
-    let v : Values = stepped (g .brief .step) (valuesOf (tableOf connectionCount (g .table .now))) in
+    let v : Values = stepped (g .plan .step) (valuesOf (tableOf connectionCount (g .table .now))) in
     let sent = rw (c .before .before .before .before .before .before .before .before .before .before .before .before .before .before .argument .ensures) at (c .before .before .before .send-order .ensures) in
-    noop-room _ _ _ _ _ _ _ v _ (lean-wakes (g .brief) (g .table .now) (g .workloads .now) (g .packet .now) (g .c) (g .kind) (g .ends) (s .pre .7) _ (c .before .before .before .before .before .before .before .of-step .ensures)) _ _ _ (sent .0) (sent .1) (s .pre .4 .room)
+    noop-room _ _ _ _ _ _ _ v _ (lean-wakes (g .plan) (g .table .now) (g .workloads .now) (g .packet .now) (g .c) (g .kind) (g .ends) (s .pre .7) _ (c .before .before .before .before .before .before .before .of-step .ensures)) _ _ _ (sent .0) (sent .1) (s .pre .4 .room)
 
 rework-requires : tie.Need-rework-requires
 rework-requires c κs =
@@ -73,15 +73,15 @@ returns : tie.Need-returns
 returns c =
     let s = c .before .before .before .before .before .before .before .before .before .before .before .before .before .before .before .before .before .before .before .before .before .before .before .before .before .before .before .before .before .before .before in
     let g = s .args in
-    let v : Values = stepped (g .brief .step) (valuesOf (tableOf connectionCount (g .table .now))) in
+    let v : Values = stepped (g .plan .step) (valuesOf (tableOf connectionCount (g .table .now))) in
     let a = c .before .before .before .before .before .before .before .before .before .before .before .before .before .before .before .before .before .before .before .before .before .before .before .before .before .before .argument .ensures in
     let b = c .before .before .before .before .before .before .before .before .before .before .before .before .before .before .before .before .before .before .before .before .before .before .before .before .before .argument2 .ensures in
     let d = c .before .before .before .before .before .before .before .before .before .before .before .before .before .before .before .before .before .before .before .before .before .before .before .before .argument3 .ensures in
     let o = opaque-taken _ _ _ _ _ _ (c .before .before .before .before .before .before .before .before .before .before .before .before .before .before .before .before .before .before .before .before .before .before .before .request-shape .ensures) (c .before .before .before .before .before .before .before .before .before .before .before .before .before .before .before .before .before .before .before .before .before .before .opaque-place .ensures) (c .before .before .before .before .before .before .before .before .before .before .before .before .before .before .before .before .before .before .before .before .before .argument4 .ensures) in
     let sent = rw a at (c .before .before .before .before .before .before .before .before .before .before .before .before .before .before .before .send-order .ensures) in
-    let woken = lean-wakes (g .brief) (g .table .now) (g .workloads .now) (g .packet .now) (g .c) (g .kind) (g .ends) (s .pre .7) _ (c .before .before .before .before .before .before .before .before .before .before .before .before .before .before .before .before .before .before .before .of-step .ensures) in
+    let woken = lean-wakes (g .plan) (g .table .now) (g .workloads .now) (g .packet .now) (g .c) (g .kind) (g .ends) (s .pre .7) _ (c .before .before .before .before .before .before .before .before .before .before .before .before .before .before .before .before .before .before .before .of-step .ensures) in
     let whole = answered _ _ _ _ _ _ _ v _ woken _ _ _ _ _ (sent .0) (sent .1) (c .before .before .before .before .before .before .before .before .before .before .before .wake .ensures) in
-    let work = lean-workloads (g .brief) (g .table .now) (g .workloads .now) (g .packet .now) (g .c) (g .kind) (g .ends) (s .pre .7) _ o in
+    let work = lean-workloads (g .plan) (g .table .now) (g .workloads .now) (g .packet .now) (g .c) (g .kind) (g .ends) (s .pre .7) _ o in
     done-concluded _ _ _ _ _ _ _ _ _ _ _ _ (s .pre .3) (whole .0, whole .1, rw (a, b, d) at (c .before .before .carry .ensures), rw work at (c .before .before .before .before .before .before .rework .ensures))
 
 pub perform-lean-spec : {M : Type 1} → statement M
