@@ -40,7 +40,7 @@ use Rattle.carry_packet.specs.Messages.{errorArguments, message}
 use Rattle.carry_packet.proofs.Rendered.{none-rendered, error-rendered}
 use Rattle.carry_workloads.specs.Reworked.{reworkedRows}
 use Rattle.carry_workloads.proofs.Rows.{rework-rows}
-use Rattle.carry_texts.specs.Fitting.{Fitting, Sized}
+use Rattle.carry_whole.specs.Fitting.{Fitting, Sized}
 use Rattle.carry_output.specs.Orderly.{Orderly}
 use Rattle.carry_output.specs.Ordered.{bytesSent, answerBytes}
 use Rattle.carry_laws.proofs.Requests.{wordsGiven}

@@ -41,8 +41,8 @@ use Rattle.plan.specs.Plans.{planServed, planOpening, planClosing}
 use Rattle.plan_laws.proofs.Decides.{Words, Planned, served-planned, opening-planned, closing-planned}
 use Rattle.carry_packet.proofs.Rendered.{data-whole, noops-rendered}
 use Rattle.carry_places.proofs.Laid.{Whole}
-use Rattle.carry_texts.specs.Fitting.{Fitting}
-use Rattle.carry_texts.proofs.Laid.{whole}
+use Rattle.carry_whole.specs.Fitting.{Fitting}
+use Rattle.carry_whole.proofs.Laid.{whole}
 use Rattle.carry_output.specs.Ordered.{bytesSent}
 use Rattle.carry_laws.proofs.Requests.{wordsGiven, request-suits}
 use Rattle.carry_laws.proofs.Sizes.{sized}

@@ -27,7 +27,7 @@ use Rattle.plan.specs.Settling.{droppedRows, settledValues}
 use Rattle.plan.specs.Parts.{changed, finalTable}
 use Rattle.carry_packet.specs.Messages.{errorArguments, message}
 use Rattle.carry_workloads.specs.Reworked.{reworkedRows}
-use Rattle.carry_texts.specs.Fitting.{Fitting, Sized}
+use Rattle.carry_whole.specs.Fitting.{Fitting, Sized}
 use Rattle.carry_output.specs.Orderly.{Orderly}
 use Rattle.carry_output.specs.Ordered.{answerBytes}
 

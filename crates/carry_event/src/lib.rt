@@ -144,7 +144,7 @@ fn perform_whole(
     );
     let after = v.rows;
     carry_workloads::rework(workloads, rows, plan_settle::dropped(after), opaque);
-    carry_texts::carry(table, change, v, first, second, third);
+    carry_whole::carry(table, change, v, first, second, third);
     length
 }
 

@@ -31,7 +31,7 @@ use Rattle.plan.specs.Plans.{planCanDo, planCantDo, planGrab, planJoin, planWor
 use Rattle.plan_laws.proofs.Draws.{planOf, Draws, refused, done, draws}
 use Rattle.plan_laws.proofs.Decides.{Words, Says, that-tells, that-reports, that-ends, that-throws, Suits, for-can, for-submit, for-work}
 use Rattle.carry_places.proofs.Laid.{Whole}
-use Rattle.carry_texts.specs.Fitting.{Fitting}
+use Rattle.carry_whole.specs.Fitting.{Fitting}
 
 -- ---- lengths
 

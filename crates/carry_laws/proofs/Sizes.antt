@@ -14,7 +14,7 @@ use Rattle.plan.specs.Values.{valuesOf, withAbles}
 use Rattle.plan.specs.Parts.{withConnection, putRow, leftRow}
 use Rattle.plan.specs.Steps.{stepped}
 use Rattle.carry_places.proofs.Laid.{Whole}
-use Rattle.carry_texts.specs.Fitting.{Sized}
+use Rattle.carry_whole.specs.Fitting.{Sized}
 
 -- ---- numbers put anew
 

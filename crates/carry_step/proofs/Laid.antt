@@ -31,8 +31,8 @@ use Rattle.plan.specs.Parts.{changed, finalTable}
 use Rattle.carry_places.specs.Laying.{laidRow, laidEach}
 use Rattle.carry_places.proofs.Laid.{Whole, set-own, row-laid, free-laid, flags-laid, forgotten-laid}
 use Rattle.carry_places.proofs.Each.{eachConnection, each-laid, each-none, all-connections, connection-whole}
-use Rattle.carry_texts.proofs.Laid.{whole}
-use Rattle.carry_texts.proofs.Carried.{changed-whole}
+use Rattle.carry_whole.proofs.Laid.{whole}
+use Rattle.carry_whole.proofs.Carried.{changed-whole}
 use Rattle.plan.specs.declared.Step as S′
 use Rattle.plan.specs.declared.Step.the-variants as SV
 use Rattle.plan.specs.declared.Ending.{Ending}

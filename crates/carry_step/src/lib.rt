@@ -23,7 +23,7 @@ ghost use Rattle.server.specs.Layout.{bytesOf, flagByte, little, tableOf, table
 ghost use Rattle.server.specs.Call.{isSound, placeOf};
 ghost use Rattle.plan.specs.Values.{valuesOf};
 ghost use Rattle.plan.specs.Parts.{changed, finalTable};
-ghost use Rattle.carry_texts.specs.Fitting.{Fitting};
+ghost use Rattle.carry_whole.specs.Fitting.{Fitting};
 ghost use Rattle.carry_workloads.specs.Reworked.{reworkedRows};
 ghost use Rattle.plan.specs.Steps.{Inside, Lean, Within, isLean};
 ghost use Rattle.plan.specs.Steps as S;
@@ -129,7 +129,7 @@ pub fn carry(
     ensures { λ _. ⌜ now (table .exit) ≡ put 0 (bytesOf (finalTable (S.stepped step (valuesOf (tableOf connectionCount (now (table .entry)))))
         (changed change (now (first .entry)) (now (second .entry)) (now (third .entry)) (tableOf connectionCount (now (table .entry)))))) (now (table .entry)) ⌝ }
 {
-    carry_texts::change_texts(table, change, first, second, third);
+    carry_whole::change_texts(table, change, first, second, third);
     put_step(table, step);
     put_ending(table, ending);
 }

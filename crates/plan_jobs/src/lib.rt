@@ -1,9 +1,9 @@
 // What an event comes to, as a plan: from what the searches found, and the row, set or connection of the lent table that it is about.
 // An inner crate: it asks for the table's 3,796 bytes, and refuses nothing; a plan carries the number of a refusal.
 use lists::Place;
-use plan::Plan;
 use plan::Change;
 use plan::Order;
+use plan::Plan;
 use plan::Step;
 use server::Connection;
 use server::JobRow;

@@ -3,9 +3,9 @@
 use handle::Serial;
 use lists::Place;
 use packet::Ends;
-use plan::Plan;
 use plan::Change;
 use plan::Order;
+use plan::Plan;
 use plan::Step;
 use plan_events::Work;
 ghost use mathlib.Core.Path.{_≡_};

@@ -19,8 +19,8 @@ use Rattle.plan_settle.proofs.Turns.{length-dropped}
 use Rattle.carry_places.specs.Written.{written}
 use Rattle.carry_places.proofs.Laid.{Whole}
 use Rattle.carry_places.proofs.Final.{final-bytes}
-use Rattle.carry_texts.specs.Fitting.{Sized}
-use Rattle.carry_texts.proofs.Laid.{whole}
+use Rattle.carry_whole.specs.Fitting.{Sized}
+use Rattle.carry_whole.proofs.Laid.{whole}
 
 -- a change keeps the table's size
 pub changed-whole : (x : C′.Change) (a u d : Bytes) (t : Table) → Whole t → Whole (changed x a u d t)

@@ -1,9 +1,9 @@
--- `carry_texts::change_texts` meets its contract, by the cases of the change and the law of each. Assumes nothing.
+-- `carry_whole::change_texts` meets its contract, by the cases of the change and the law of each. Assumes nothing.
 use mathlib.Core.Path.{_∙_}
 use borrow.Author.Needs.{needs}
-use Rattle.carry_texts.proofs.Laid.{nothing-laid, name-laid, job-laid, texts-laid, left-laid}
-use Rattle.carry_texts.proofs.change_texts.Statement.{statement}
-use Rattle.carry_texts.proofs.change_texts.Tie as tie
+use Rattle.carry_whole.proofs.Laid.{nothing-laid, name-laid, job-laid, texts-laid, left-laid}
+use Rattle.carry_whole.proofs.change_texts.Statement.{statement}
+use Rattle.carry_whole.proofs.change_texts.Tie as tie
 
 enum-told : tie.Need-enum-told
 enum-told c = search needs

@@ -11,7 +11,7 @@ ghost use Rattle.server.specs.Sizes.{connectionCount};
 ghost use Rattle.server.specs.Layout.{bytesOf, tableOf, tableSize};
 ghost use Rattle.server.specs.Call.{isSound};
 ghost use Rattle.plan.specs.Parts.{changed, finalTable};
-ghost use Rattle.carry_texts.specs.Fitting.{Fitting, Sized};
+ghost use Rattle.carry_whole.specs.Fitting.{Fitting, Sized};
 
 // Lays the texts of a change over the table.
 pub fn change_texts(table: &mut [u8], change: Change, first: &[u8], second: &[u8], third: &[u8])

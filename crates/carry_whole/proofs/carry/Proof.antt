@@ -1,9 +1,9 @@
--- `carry_texts::carry` meets its contract: the change laid, then the end of the event, which is the final table. Assumes nothing.
+-- `carry_whole::carry` meets its contract: the change laid, then the end of the event, which is the final table. Assumes nothing.
 use mathlib.Core.Path.{_∙_}
 use borrow.Author.Needs.{needs}
-use Rattle.carry_texts.proofs.Carried.{carried-bytes}
-use Rattle.carry_texts.proofs.carry.Statement.{statement}
-use Rattle.carry_texts.proofs.carry.Tie as tie
+use Rattle.carry_whole.proofs.Carried.{carried-bytes}
+use Rattle.carry_whole.proofs.carry.Statement.{statement}
+use Rattle.carry_whole.proofs.carry.Tie as tie
 
 change-texts-requires : tie.Need-change-texts-requires
 change-texts-requires c κs = search needs
