@@ -5,13 +5,22 @@
  * takes no memory, reads no clock and makes no system call. What it needs beside the lent memory is stack:
  * docs/SPEED.md says how much.
  *
- * Each function's promise is one proved equation over all lent bytes, for every input (crates/lap/src/lib.rt);
- * document 01 is the paper that these promises follow. Link with liblap.a, which `rt staticlib lap` writes to
- * target/staticlib/.
+ * The promise of each of the four functions is one proved equation over all lent bytes, for every input
+ * (crates/lap/src/lib.rt); document 01 is the paper that these promises follow. The small functions that stand here
+ * with their bodies are plain C. Link with liblap.a, x86-64 code for Linux, which `rt staticlib lap` writes to
+ * target/staticlib/; it needs memcpy and memset from the C library and nothing else.
  *
  * WHAT THE HOST HAS TO SEE TO. Nothing else is asked of it: whatever the bytes are, a call answers by a number.
  *  - Each pointer leads to as many bytes as the length beside it says; no pointer is null, not even with a length of 0.
+ *    Any alignment will do.
  *  - table, workloads, output, packet and *length do not overlap. No one else touches them during the call.
+ *
+ * TWO WARNINGS, because the core cannot see to these. docs/HOST.md says more, and host/hub/hub.c shows how.
+ *  - RESTART. A fresh table gives the handles from H:lap:1 on again, and a worker's late result from before the restart
+ *    can then meet another job. Keep the last serial, bytes 0 to 3 of the table, before you send what a call has
+ *    written, and write it into the fresh table when you start again.
+ *  - CONNECTION NUMBERS ARE USED AGAIN. Drop the bytes that are still unsent to a closed connection before you open its
+ *    number for another one, which would get them.
  */
 #ifndef LAP_H
 #define LAP_H
@@ -30,8 +39,8 @@ enum {
     LAP_OUTPUT_BYTES = 16592     /* the packets that one call sends */
 };
 
-/* Connections are numbered from 0 to 15. */
-enum { LAP_CONNECTIONS = 16 };
+/* Connections are numbered from 0 to 15. At most so many functions are known, and so many jobs unfinished. */
+enum { LAP_CONNECTIONS = 16, LAP_MOST_FUNCTIONS = 16, LAP_MOST_JOBS = 32 };
 
 /*
  * The numbers that a call answers. Checked in this order: the first that applies is given. All refusals keep table
@@ -59,48 +68,92 @@ enum lap_number {
     LAP_LINE = 16          /* replay program only: line isn't a frame */
 };
 
+/* A number's reason in words, for a host's messages. */
+static inline const char *lap_number_text(uint32_t number) {
+    static const char *const texts[] = {
+        "done", "a lent buffer is too short, or the table breaks a rule", "connection above 15", "connection not open",
+        "connection already open", "packet under 12 bytes", "not the magic of a request", "size above 1,024",
+        "packet length is not 12 + size", "type not served", "bad arguments", "16 functions are known already",
+        "32 jobs are unfinished", "serials used up", "not a job held by this connection", "unknown option",
+        "line is not a frame"
+    };
+    return number < sizeof texts / sizeof texts[0] ? texts[number] : "no such number";
+}
+
 /*
- * PACKETS. Four bytes of magic, 00 52 45 51 for a request or 00 52 45 53 for a response; four bytes of type; four
- * bytes of size, both numbers big-endian; then size bytes of data. Arguments are separated by one zero byte; the last
- * runs to the end.
- *
- * Requests that are served:
- *    1 CAN_DO, 2 CANT_DO                                       function
- *    3 RESET_ABILITIES, 4 PRE_SLEEP                            (empty)
- *    7 SUBMIT_JOB, 18 .._BG, 21 .._HIGH, 32 .._HIGH_BG,
- *   33 .._LOW, 34 .._LOW_BG                                    function, unique, workload
- *    9 GRAB_JOB, 30 GRAB_JOB_UNIQ                              (empty)
- *   12 WORK_STATUS                                             handle, numerator, denominator
- *   13 WORK_COMPLETE, 25 WORK_EXCEPTION,
- *   28 WORK_DATA, 29 WORK_WARNING                              handle, data
- *   14 WORK_FAIL, 15 GET_STATUS                                handle
- *   16 ECHO_REQ                                                anything
- *   26 OPTION_REQ                                              option name
- *
- * Responses that are sent:
- *    6 NOOP, 10 NO_JOB                                         (empty)
- *    8 JOB_CREATED                                             handle
- *   11 JOB_ASSIGN                                              handle, function, workload
- *   17 ECHO_RES                                                the data of the echo
- *   19 ERROR                                                   number, text
- *   20 STATUS_RES                                              handle, known, running, numerator, denominator
- *   27 OPTION_RES                                              option name
- *   31 JOB_ASSIGN_UNIQ                                         handle, function, unique, workload
- *   12, 13, 14, 25, 28, 29                                     the data as it came from the worker
- *
- * Sizes: data of a request 0 to 1,024 bytes; function 1 to 32; unique 0 to 64; handle 1 to 63; numerator and
- * denominator 1 to 10 digits.
- *
+ * PACKETS. Twelve bytes of header: four of magic, 00 52 45 51 for a request or 00 52 45 53 for a response; four of
+ * type; four of size, both numbers big-endian. Then size bytes of data. Arguments are separated by one zero byte; the
+ * last runs to the end.
+ */
+enum {
+    LAP_MAGIC_AT = 0,
+    LAP_TYPE_AT = 4,
+    LAP_SIZE_AT = 8,
+    LAP_HEADER_BYTES = 12,
+    LAP_DATA_BYTES = 1024,          /* the most data of a request */
+    LAP_PACKET_BYTES = 1036,        /* the longest request: header and data */
+    LAP_RESPONSE_DATA_BYTES = 1088, /* the most data of a response; the core sends 1,041 at most */
+    LAP_RESPONSE_BYTES = 1100       /* the longest response: header and data */
+};
+
+/* The most bytes of each argument. A function and a handle have at least 1, a numerator and a denominator 1 digit. */
+enum { LAP_FUNCTION_BYTES = 32, LAP_UNIQUE_BYTES = 64, LAP_HANDLE_BYTES = 63, LAP_DIGITS = 10 };
+
+/* The types that are served or sent, and their arguments. Every other one is refused by LAP_TYPE. */
+enum lap_type {
+    LAP_TYPE_CAN_DO = 1,              /* request: function */
+    LAP_TYPE_CANT_DO = 2,             /* request: function */
+    LAP_TYPE_RESET_ABILITIES = 3,     /* request: (empty) */
+    LAP_TYPE_PRE_SLEEP = 4,           /* request: (empty) */
+    LAP_TYPE_NOOP = 6,                /* response: (empty) */
+    LAP_TYPE_SUBMIT_JOB = 7,          /* request: function, unique, workload */
+    LAP_TYPE_JOB_CREATED = 8,         /* response: handle */
+    LAP_TYPE_GRAB_JOB = 9,            /* request: (empty) */
+    LAP_TYPE_NO_JOB = 10,             /* response: (empty) */
+    LAP_TYPE_JOB_ASSIGN = 11,         /* response: handle, function, workload */
+    LAP_TYPE_WORK_STATUS = 12,        /* request: handle, numerator, denominator; response: the same data */
+    LAP_TYPE_WORK_COMPLETE = 13,      /* request: handle, data; response: the same data */
+    LAP_TYPE_WORK_FAIL = 14,          /* request: handle; response: the same data */
+    LAP_TYPE_GET_STATUS = 15,         /* request: handle */
+    LAP_TYPE_ECHO_REQ = 16,           /* request: anything */
+    LAP_TYPE_ECHO_RES = 17,           /* response: the data of the echo */
+    LAP_TYPE_SUBMIT_JOB_BG = 18,      /* request: as SUBMIT_JOB */
+    LAP_TYPE_ERROR = 19,              /* response: number, text */
+    LAP_TYPE_STATUS_RES = 20,         /* response: handle, known, running, numerator, denominator */
+    LAP_TYPE_SUBMIT_JOB_HIGH = 21,    /* request: as SUBMIT_JOB */
+    LAP_TYPE_WORK_EXCEPTION = 25,     /* request: handle, data; response: the same data */
+    LAP_TYPE_OPTION_REQ = 26,         /* request: option name */
+    LAP_TYPE_OPTION_RES = 27,         /* response: option name */
+    LAP_TYPE_WORK_DATA = 28,          /* request: handle, data; response: the same data */
+    LAP_TYPE_WORK_WARNING = 29,       /* request: handle, data; response: the same data */
+    LAP_TYPE_GRAB_JOB_UNIQ = 30,      /* request: (empty) */
+    LAP_TYPE_JOB_ASSIGN_UNIQ = 31,    /* response: handle, function, unique, workload */
+    LAP_TYPE_SUBMIT_JOB_HIGH_BG = 32, /* request: as SUBMIT_JOB */
+    LAP_TYPE_SUBMIT_JOB_LOW = 33,     /* request: as SUBMIT_JOB */
+    LAP_TYPE_SUBMIT_JOB_LOW_BG = 34   /* request: as SUBMIT_JOB */
+};
+
+/* The type and the size that a packet's header states. The packet has LAP_HEADER_BYTES at least. */
+static inline uint32_t lap_type_of(const uint8_t *packet) {
+    const uint8_t *at = packet + LAP_TYPE_AT;
+    return (uint32_t)at[0] << 24 | (uint32_t)at[1] << 16 | (uint32_t)at[2] << 8 | at[3];
+}
+
+static inline uint32_t lap_size_of(const uint8_t *packet) {
+    const uint8_t *at = packet + LAP_SIZE_AT;
+    return (uint32_t)at[0] << 24 | (uint32_t)at[1] << 16 | (uint32_t)at[2] << 8 | at[3];
+}
+
+/*
  * THE OUTPUT. A call that reports n bytes has written addressed packets to the first n bytes of the output, one after
  * the other, and has left the rest of the output as it was. An addressed packet is one byte, the connection that it
- * goes to, and then the packet: 13 bytes and as many more as bytes 9 to 12 say, counted from the connection's byte as
- * byte 0.
+ * goes to, and then the packet. Copy all of them before the next call, which writes from the start again.
  */
 
 /*
- * Makes a fresh table: no connection is open, no function known, no job there. Sets the first LAP_TABLE_BYTES of the
- * table and the first LAP_WORKLOADS_BYTES of the workloads to zero. Answers LAP_DONE, or LAP_LENT if a buffer is too
- * short: then nothing is written.
+ * Makes a fresh table: no connection is open, no function known, no job there, no serial given out. Sets the first
+ * LAP_TABLE_BYTES of the table and the first LAP_WORKLOADS_BYTES of the workloads to zero. Answers LAP_DONE, or
+ * LAP_LENT if a buffer is too short: then nothing is written. At a restart see the warning above.
  */
 uint32_t lap_fresh(uint8_t *table, size_t table_len, uint8_t *workloads, size_t workloads_len);
 

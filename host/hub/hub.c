@@ -1,28 +1,275 @@
-/* The README's host: one connection opens and asks for a job. A real host has sockets where this one prints. */
+/*
+ * hub.c: a small host over liblap.a, to start from. It owns sockets and memory, keeps the last serial over restarts and
+ * writes a capture (system.c); what packets mean is the core's business. It is no part of the core: nothing here is
+ * proved, host/tests/hub.sh tries it. docs/HOST.md says why each thing is done as it is.
+ *
+ * usage: hub [-a ADDRESS] [-p PORT] [-c CAPTURE] [-w] SERIAL_FILE
+ *   -a   the IPv4 address to listen at (127.0.0.1)
+ *   -p   the port (4730); 0 takes one that the system chooses. Address and port are printed.
+ *   -c   a new file that gets every event as a line, for replay and show. It holds all workloads.
+ *   -w   unmodified workers: hand type 39 on as 30, drop type 22 (docs/CLIENTS.md)
+ */
+#define _GNU_SOURCE
+#include <errno.h>
+#include <netinet/in.h>
+#include <netinet/tcp.h>
+#include <poll.h>
+#include <stdbool.h>
 #include <stdio.h>
+#include <string.h>
+#include <sys/socket.h>
+#include <unistd.h>
 
 #include "lap.h"
+#include "system.h"
 
+/* Types that document 01 does not serve and that workers open with: SET_CLIENT_ID, and GRAB_JOB_ALL of libgearman. */
+enum { SET_CLIENT_ID = 22, GRAB_JOB_ALL = 39 };
+
+/* A queue that a reader cannot fill in one round if it takes what the round before has sent (docs/HOST.md). */
+enum { QUEUE_BYTES = 65536 };
+
+static struct connection {
+    int socket; /* -1: the number is free */
+    bool lost;  /* to be closed at the end of the round; nothing more is read or queued */
+    size_t received, queued;
+    uint8_t in[LAP_PACKET_BYTES]; /* the start of the next packet */
+    uint8_t out[QUEUE_BYTES];     /* what is still to be sent */
+} connections[LAP_CONNECTIONS];
+
+/* What is lent on each call. */
 static uint8_t table[LAP_TABLE_BYTES], workloads[LAP_WORKLOADS_BYTES], output[LAP_OUTPUT_BYTES];
+#define LENT table, sizeof table, workloads, sizeof workloads, output, sizeof output
 
-/* Send: one addressed packet after the other. Byte 0 is the connection, bytes 9 to 12 the size of the data. */
-static void send_all(uint32_t length) {
-    for (uint32_t at = 0; at < length;) {
-        const uint8_t *p = output + at;
-        uint32_t size = (uint32_t)p[9] << 24 | (uint32_t)p[10] << 16 | (uint32_t)p[11] << 8 | p[12];
-        printf("to connection %u: type %u, %u bytes\n", p[0], p[8], 12 + size);
-        at += 13 + size;
+static const uint8_t magic[] = {0, 'R', 'E', 'Q'};
+static bool unmodified_workers;
+
+static void lose(unsigned c, const char *why) {
+    fprintf(stderr, "hub: connection %u is closed: %s\n", c, why);
+    connections[c].lost = true;
+}
+
+/* Copies the call's packets to the queues of their connections. None is closed here: a close would overwrite them. */
+static void queue_packets(size_t length) {
+    for (size_t at = 0; at < length;) {
+        unsigned c = output[at];
+        struct connection *to = &connections[c];
+        const uint8_t *packet = output + at + 1;
+        size_t bytes = LAP_HEADER_BYTES + lap_size_of(packet);
+        if (!to->lost && bytes > sizeof to->out - to->queued) {
+            lose(c, "its queue is full");
+        }
+        if (!to->lost) {
+            memcpy(to->out + to->queued, packet, bytes);
+            to->queued += bytes;
+        }
+        at += 1 + bytes;
     }
 }
 
-int main(void) {
-    static const uint8_t grab_job[12] = {0, 'R', 'E', 'Q', 0, 0, 0, 9};
-    uint32_t length;
-    lap_fresh(table, sizeof table, workloads, sizeof workloads);
-    lap_open(table, sizeof table, workloads, sizeof workloads, output, sizeof output, 1, &length);
-    uint32_t number = lap_packet(table, sizeof table, workloads, sizeof workloads, output, sizeof output, 1,
-                                 grab_job, sizeof grab_job, &length);
-    send_all(length);
-    printf("number %u\n", number);
+/* One event: into the capture and the core, its serial to the disk, its packets into the queues. */
+static uint32_t event(enum kind kind, unsigned c, const uint8_t *packet, size_t count) {
+    uint32_t length, number;
+    record(kind, c, packet, count);
+    if (kind == OPEN) {
+        number = lap_open(LENT, c, &length);
+    } else if (kind == CLOSE) {
+        number = lap_close(LENT, c, &length);
+    } else {
+        number = lap_packet(LENT, c, packet, count, &length);
+    }
+    if (number >= LAP_LENT && number <= LAP_ALREADY_OPEN) {
+        fail("a fault of this program", lap_number_text(number));
+    }
+    keep_serial(table);
+    queue_packets(length);
+    return number;
+}
+
+/* -w: what unmodified workers need. Answers whether the packet is to be handed over; what is no packet always is. */
+static bool adapt(uint8_t *packet, size_t bytes) {
+    if (bytes < LAP_HEADER_BYTES || bytes != LAP_HEADER_BYTES + lap_size_of(packet)
+        || memcmp(packet, magic, sizeof magic) != 0) {
+        return true;
+    }
+    if (lap_type_of(packet) == GRAB_JOB_ALL) {
+        packet[LAP_TYPE_AT + 3] = LAP_TYPE_GRAB_JOB_UNIQ;
+    }
+    return lap_type_of(packet) != SET_CLIENT_ID;
+}
+
+/* How many of these bytes to hand over: a whole packet, or those that show that there is none; 0: wait for more. */
+static size_t ready(const uint8_t *in, size_t received) {
+    if (memcmp(in, magic, received < sizeof magic ? received : sizeof magic) != 0) {
+        return received < LAP_HEADER_BYTES ? received : LAP_HEADER_BYTES;
+    }
+    if (received < LAP_HEADER_BYTES) {
+        return 0;
+    }
+    size_t bytes = LAP_HEADER_BYTES + (size_t)lap_size_of(in);
+    if (bytes > LAP_PACKET_BYTES) {
+        return LAP_HEADER_BYTES;
+    }
+    return received < bytes ? 0 : bytes;
+}
+
+/* Hands over what is ready. 5 to 8: the stream is out of step, and the connection is closed. */
+static void take_packets(unsigned c) {
+    struct connection *from = &connections[c];
+    size_t at = 0, bytes;
+    while (!from->lost && (bytes = ready(from->in + at, from->received - at)) > 0) {
+        uint8_t *packet = from->in + at;
+        at += bytes;
+        if (unmodified_workers && !adapt(packet, bytes)) {
+            continue;
+        }
+        uint32_t number = event(PACKET, c, packet, bytes);
+        if (number >= LAP_SHORT_PACKET && number <= LAP_PACKET_LENGTH) {
+            lose(c, lap_number_text(number));
+        }
+    }
+    memmove(from->in, from->in + at, from->received - at);
+    from->received -= at;
+}
+
+static void receive(unsigned c) {
+    struct connection *from = &connections[c];
+    ssize_t n = recv(from->socket, from->in + from->received, sizeof from->in - from->received, MSG_DONTWAIT);
+    if (n > 0) {
+        from->received += (size_t)n;
+        take_packets(c);
+    } else if (n == 0 || (errno != EAGAIN && errno != EINTR)) {
+        from->lost = true;
+    }
+}
+
+/* Sends as much of the queue as the socket takes. */
+static void send_queued(unsigned c) {
+    struct connection *to = &connections[c];
+    ssize_t n = send(to->socket, to->out, to->queued, MSG_DONTWAIT | MSG_NOSIGNAL);
+    if (n >= 0) {
+        to->queued -= (size_t)n;
+        memmove(to->out, to->out + n, to->queued);
+    } else if (errno != EAGAIN && errno != EINTR) {
+        to->lost = true;
+    }
+}
+
+/* Closes a connection. What its socket does not take at once is dropped, before its number can be used again. */
+static void leave(unsigned c) {
+    send_queued(c);
+    close(connections[c].socket);
+    connections[c].socket = -1;
+    connections[c].queued = 0;
+    connections[c].lost = false;
+    event(CLOSE, c, NULL, 0);
+}
+
+/* Opens the lowest free number for the next client. The 17th client is turned away, so that it hears of it. */
+static void admit(int listener) {
+    const int on = 1;
+    unsigned c = 0;
+    int socket = accept(listener, NULL, NULL);
+    if (socket < 0) {
+        return;
+    }
+    while (c < LAP_CONNECTIONS && connections[c].socket >= 0) {
+        c++;
+    }
+    if (c == LAP_CONNECTIONS) {
+        fprintf(stderr, "hub: a client is turned away: all connections are in use\n");
+        close(socket);
+        return;
+    }
+    setsockopt(socket, IPPROTO_TCP, TCP_NODELAY, &on, sizeof on);
+    setsockopt(socket, SOL_SOCKET, SO_KEEPALIVE, &on, sizeof on);
+    connections[c].socket = socket;
+    connections[c].received = connections[c].queued = 0;
+    event(OPEN, c, NULL, 0);
+}
+
+/* Reads, sends and closes, as poll has found. All packets are queued before any is sent or any connection closed. */
+static void serve(const struct pollfd *polled) {
+    for (unsigned c = 0; c < LAP_CONNECTIONS; c++) {
+        if (!connections[c].lost && (polled[c].revents & ~POLLOUT) != 0) {
+            receive(c);
+        }
+    }
+    for (unsigned c = 0; c < LAP_CONNECTIONS; c++) {
+        if (!connections[c].lost && connections[c].queued > 0) {
+            send_queued(c);
+        }
+    }
+    for (unsigned c = 0; c < LAP_CONNECTIONS; c++) {
+        if (connections[c].lost) {
+            leave(c);
+            c = -1U; /* from the first again: a close sends packets, and they can fill a queue */
+        }
+    }
+}
+
+/* Round after round until a signal comes. Clients are admitted last: what was polled of a number is then done with. */
+static void run(int listener, int signals) {
+    struct pollfd polled[LAP_CONNECTIONS + 2];
+    struct pollfd *listening = &polled[LAP_CONNECTIONS], *signalled = &polled[LAP_CONNECTIONS + 1];
+    *listening = (struct pollfd){.fd = listener, .events = POLLIN};
+    *signalled = (struct pollfd){.fd = signals, .events = POLLIN};
+    do {
+        for (unsigned c = 0; c < LAP_CONNECTIONS; c++) {
+            polled[c].fd = connections[c].socket; /* poll passes over -1 */
+            polled[c].events = connections[c].queued > 0 ? POLLIN | POLLOUT : POLLIN;
+        }
+        if (poll(polled, LAP_CONNECTIONS + 2, -1) < 0) {
+            fail("poll", strerror(errno)); /* not EINTR: no signal has a handler */
+        }
+        serve(polled);
+        if (listening->revents != 0) {
+            admit(listener);
+        }
+    } while (signalled->revents == 0);
+}
+
+/* Makes a table that goes on after this serial: bytes 0 to 3 are the last one, little-endian. */
+static void start_table(uint32_t serial) {
+    uint32_t number = lap_fresh(table, sizeof table, workloads, sizeof workloads);
+    if (number != LAP_DONE) {
+        fail("a fault of this program", lap_number_text(number));
+    }
+    for (int i = 0; i < 4; i++) {
+        table[i] = (uint8_t)(serial >> 8 * i);
+    }
+}
+
+int main(int count, char **words) {
+    const char *address = "127.0.0.1", *port = "4730", *capture = NULL;
+    for (int option; (option = getopt(count, words, "a:p:c:w")) != -1;) {
+        switch (option) {
+        case 'a': address = optarg; break;
+        case 'p': port = optarg; break;
+        case 'c': capture = optarg; break;
+        case 'w': unmodified_workers = true; break;
+        default: return 2;
+        }
+    }
+    if (optind + 1 != count) {
+        fprintf(stderr, "usage: hub [-a ADDRESS] [-p PORT] [-c CAPTURE] [-w] SERIAL_FILE\n");
+        return 2;
+    }
+    for (unsigned c = 0; c < LAP_CONNECTIONS; c++) {
+        connections[c].socket = -1;
+    }
+    uint32_t serial = open_serial(words[optind]);
+    start_table(serial);
+    int signals = start_signals();
+    int listener = start_listening(address, port);
+    if (capture != NULL) {
+        open_capture(capture, serial);
+    }
+    run(listener, signals);
+    for (unsigned c = 0; c < LAP_CONNECTIONS; c++) {
+        if (connections[c].socket >= 0) {
+            leave(c);
+        }
+    }
     return 0;
 }

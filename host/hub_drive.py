@@ -1,0 +1,327 @@
+#!/usr/bin/env python3
+"""Drives the hub of host/hub over sockets of 127.0.0.1 and compares what it sent with a replay of its capture.
+
+usage: hub_drive.py FOLDER REPLAY HUB     the folder for its files, and two commands, each one word: "qemu-x86_64 target/hub/hub"
+
+The first fault is printed and ends it with status 1. It takes a few seconds, and never more than LIMIT.
+"""
+import os
+import shlex
+import signal
+import socket
+import subprocess
+import sys
+import time
+
+from hub_client import (CAN_DO, ECHO_REQ, ECHO_RES, ERROR, GRAB_JOB, GRAB_JOB_ALL, GRAB_JOB_UNIQ, HEADER, JOB_ASSIGN, JOB_ASSIGN_UNIQ,
+                        JOB_CREATED, NO_JOB, NOOP, PRE_SLEEP, SET_CLIENT_ID, SUBMIT_JOB, SUBMIT_JOB_BG, WORK_COMPLETE, WORK_DATA, Client,
+                        Fault, Hub, expect, header, lives, request, wait_until)
+
+LIMIT = 180
+FUNCTION = b"reverse"
+
+
+def asleep(worker):
+    """The worker grabs nothing and sleeps; its echo says that the hub has taken PRE_SLEEP."""
+    worker.send(request(GRAB_JOB), request(PRE_SLEEP))
+    worker.reads(NO_JOB)
+    worker.quiet()
+
+
+def worker_of(hub, name):
+    worker = hub.client(name)
+    worker.send(request(CAN_DO, FUNCTION))
+    asleep(worker)
+    return worker
+
+
+def submit(board, workload, kind=SUBMIT_JOB):
+    return board.ask(request(kind, FUNCTION, b"", workload), JOB_CREATED)
+
+
+def grab(worker):
+    """The handle and the workload of the next job."""
+    handle, function, workload = worker.ask(request(GRAB_JOB), JOB_ASSIGN).split(b"\0", 2)
+    expect(f"{worker.name}: the job's function", function, FUNCTION)
+    return handle, workload
+
+
+def two_workers_three_boards(hub):
+    """All at once: nobody reads before everybody has sent."""
+    workers = [worker_of(hub, f"worker {n}") for n in (1, 2)]
+    boards = [hub.client(f"board {n}") for n in (1, 2, 3)]
+    for board in boards:
+        board.send(*[request(SUBMIT_JOB, FUNCTION, b"", board.mark + digit) for digit in (b"0", b"1")])
+    wanted = {}
+    for board in boards:
+        for digit in (b"0", b"1"):
+            wanted[board.read()[1]] = (board, (board.mark + digit)[::-1])
+    expect("different handles", len(wanted), 6)
+    for worker in workers:
+        worker.reads(NOOP)
+        worker.send(*[request(GRAB_JOB)] * 3)
+    for worker in workers:
+        for _ in range(3):
+            handle, _, workload = worker.read()[1].split(b"\0", 2)
+            worker.send(request(WORK_COMPLETE, handle, workload[::-1]))
+    for board in boards:
+        for _ in range(2):
+            kind, data = board.read()
+            handle, result = data.split(b"\0", 1)
+            expect(f"{board.name}: a result", (kind, wanted[handle]), (WORK_COMPLETE, (board, result)))
+    for client in workers + boards:
+        client.quiet()
+    for worker in workers:
+        asleep(worker)
+    return workers, boards
+
+
+def pieces(board, worker):
+    """A packet in many pieces, several packets in one, and a piece that ends in the middle of a packet."""
+    for byte in request(SUBMIT_JOB, FUNCTION, b"", b"in pieces"):
+        board.send(bytes([byte]))
+        time.sleep(0.001)
+    handle = board.read()[1]
+    worker.reads(NOOP)
+    expect("the job in pieces", grab(worker), (handle, b"in pieces"))
+    worker.send(request(WORK_COMPLETE, handle, b""))
+    board.reads(WORK_COMPLETE, handle, b"")
+    echoes = [request(ECHO_REQ, text) for text in (b"one", b"", b"three", b"x" * 1024)]
+    board.send(*echoes, echoes[0][:5])
+    for text in (b"one", b"", b"three", b"x" * 1024):
+        board.reads(ECHO_RES, text)
+    board.send(echoes[0][5:])
+    board.reads(ECHO_RES, b"one")
+    asleep(worker)
+
+
+def bad_streams(hub):
+    """What is no stream of requests is closed, at once and by what came so far; what stood before it is answered."""
+    for name, text, number in (("size 1,025", header(ECHO_REQ, 1025), 7), ("greatest size", header(ECHO_REQ, 2**32 - 1), 7),
+                               ("oversize", header(ECHO_REQ, 5000) + b"x" * 5000, 7), ("text line", b"status\n", 5),
+                               ("long line", b"x" * 3000, 6), ("one byte", b"\n", 5), ("nearly", b"\0RE\0", 5),
+                               ("response", header(ECHO_RES, 0, b"\0RES"), 6), ("garbage", bytes(range(0, 256, 3)) * 9, 6)):
+        client = hub.client(name)
+        client.refused = [number]
+        client.send(text)
+        client.closed()
+    client = hub.client("foreign types")
+    for kind in (SET_CLIENT_ID, GRAB_JOB_ALL):
+        expect("a type that is not served", client.ask(request(kind, b""), ERROR), b"09\0type")
+    client.refused = [9, 9]
+    hub.client("gone in the middle of a packet").socket.sendall(request(ECHO_REQ, b"half")[:14])
+    hub.clients[-1].kill()
+
+
+def killed_worker(board, workers):
+    """The job of a killed worker returns to the queue, and the other gets it under the same handle."""
+    handle = submit(board, b"of a killed worker")
+    for worker in workers:
+        worker.reads(NOOP)
+    asleep_again = workers[1].ask(request(ECHO_REQ, b"!"), ECHO_RES)
+    expect("echo", asleep_again, b"!")
+    expect("the first worker's job", grab(workers[0]), (handle, b"of a killed worker"))
+    workers[1].send(request(PRE_SLEEP))
+    workers[1].quiet()
+    workers[0].kill()
+    workers[1].reads(NOOP)
+    expect("the second worker's job", grab(workers[1]), (handle, b"of a killed worker"))
+    workers[1].send(request(WORK_COMPLETE, handle, b"done"))
+    board.reads(WORK_COMPLETE, handle, b"done")
+    asleep(workers[1])
+
+
+def slow_reader(hub, board, worker):
+    """A board that does not read is closed when its queue is full; the others are served. The next board gets its number, not its bytes."""
+    slow = hub.client("slow board", receive_buffer=4096)
+    slow.slow = True
+    handle = submit(slow, b"much")
+    worker.reads(NOOP)
+    expect("the slow board's job", grab(worker), (handle, b"much"))
+    for _ in range(2000):
+        worker.send(*[request(WORK_DATA, handle, b"d" * 1000)] * 16)
+        worker.quiet()
+        board.quiet()
+        if "its queue is full" in hub.stderr():
+            break
+    else:
+        raise Fault("the slow board was not closed after 32 megabytes")
+    following = hub.client("board after the slow one")
+    worker.send(request(WORK_DATA, handle, b"nobody listens"), request(WORK_COMPLETE, handle, b"nobody listens"))
+    worker.quiet()
+    following.quiet()
+    slow.drain()
+    asleep(worker)
+    return slow, following
+
+
+def seventeenth(hub):
+    """Sixteen are served. The 17th is closed at once, and served when it comes again after another has left."""
+    number = 0
+    here = [client for client in hub.clients if not client.ended]
+    while len(here) < 16:
+        number += 1
+        here.append(hub.client(f"guest {number}"))
+    turned_away = Client(hub.port, "17th")
+    turned_away.closed()
+    here[-1].socket.shutdown(socket.SHUT_WR)
+    here[-1].drain()
+    hub.client("17th again")
+    for client in here[:-1]:
+        client.quiet()
+
+
+def compare(hub, replay, leading=0):
+    """Each client got the bytes that a replay of the capture sends to its connection. Returns the number of each client."""
+    found = lives(replay, hub.capture)[leading:]
+    expect("connections in the capture", len(found), len(hub.clients))
+    numbers = {}
+    for client in hub.clients:
+        mark = request(ECHO_REQ, client.mark)
+        life = [life for life in found if life["packets"][1:2] == [mark]]
+        expect(f"{client.name}: lives in the capture", len(life), 1)
+        sent, came = bytes(life[0]["sent"]), bytes(client.came)
+        expect(f"{client.name}: refusals", life[0]["refused"], getattr(client, "refused", []))
+        if getattr(client, "slow", False):
+            expect("what the slow board got, a part from the start", (sent.startswith(came), len(sent) > len(came)), (True, True))
+        else:
+            expect(f"{client.name}: all bytes as replayed", came, sent)
+        numbers[client.name] = life[0]["number"]
+    return numbers
+
+
+def serial_in(path):
+    with open(path, encoding="ascii") as file:
+        return int(file.read())
+
+
+def first_life(start, replay, serial):
+    hub = start("first", serial)
+    workers, boards = two_workers_three_boards(hub)
+    pieces_worker_sleeps(boards[0], workers)
+    bad_streams(hub)
+    killed_worker(boards[1], workers)
+    slow_reader(hub, boards[2], workers[1])
+    seventeenth(hub)
+    late = submit(boards[0], b"the pupil's profile")
+    workers[1].reads(NOOP)
+    expect("the job that is held at the end", grab(workers[1]), (late, b"the pupil's profile"))
+    expect("the kept serial", b"H:lap:%d" % serial_in(serial), late)
+    hub.end()
+    numbers = compare(hub, replay)
+    expect("the number after the slow board", numbers["board after the slow one"], numbers["slow board"])
+    return late
+
+
+def pieces_worker_sleeps(board, workers):
+    """The second worker is woken by the same job; it finds nothing and sleeps again."""
+    pieces(board, workers[0])
+    workers[1].reads(NOOP)
+    asleep(workers[1])
+
+
+def late_result(hub, late):
+    """After a restart: a board's new job is held by the worker whose result of the life before comes late."""
+    board, worker = hub.client("board"), worker_of(hub, "worker")
+    handle = submit(board, b"the default")
+    worker.reads(NOOP)
+    expect("the new job", grab(worker), (handle, b"the default"))
+    worker.send(request(WORK_COMPLETE, late, b"the pupil's profile, done"))
+    return board, worker, handle
+
+
+def second_life(start, replay, serial, late):
+    """With the kept serial the late result is refused, and the new job has another handle."""
+    before = serial_in(serial)
+    hub = start("second", serial)
+    board, worker, handle = late_result(hub, late)
+    worker.reads(ERROR, b"14", b"handle")
+    worker.refused = [14]
+    expect("the next serial", handle, b"H:lap:%d" % (before + 1))
+    board.quiet()
+    worker.send(request(WORK_COMPLETE, handle, b"the default, done"))
+    board.reads(WORK_COMPLETE, handle, b"the default, done")
+    hub.end(signal.SIGINT)
+    compare(hub, replay, leading=-(-before // 32))
+
+
+def without_the_serial(start, serial, late):
+    """Why it is kept: a hub that starts at 0 gives the old handles again, and a late result meets another's job."""
+    hub = start("without", serial)
+    filler = hub.client("filler")
+    for _ in range(int(late.split(b":")[2]) - 1):
+        submit(filler, b"")
+        filler.socket.shutdown(socket.SHUT_WR)
+        filler.drain()
+        filler = hub.client("filler")
+    board, _, handle = late_result(hub, late)
+    expect("the handle that is given again", handle, late)
+    board.reads(WORK_COMPLETE, late, b"the pupil's profile, done")
+    hub.end()
+
+
+def unmodified_workers(start, replay, serial):
+    """-w: type 39 is answered as 30, type 22 is dropped; the capture has what was handed over."""
+    hub = start("unmodified", serial, "-w")
+    board, worker = hub.client("board"), hub.client("worker")
+    worker.send(request(SET_CLIENT_ID, b"name"), request(CAN_DO, FUNCTION), request(GRAB_JOB_ALL))
+    worker.reads(NO_JOB)
+    handle = submit(board, b"text", SUBMIT_JOB_BG)
+    expect("the job", worker.ask(request(GRAB_JOB_ALL), JOB_ASSIGN_UNIQ), b"\0".join((handle, FUNCTION, b"", b"text")))
+    long_name = hub.client("too long a name")
+    long_name.refused = [7]
+    long_name.send(header(SET_CLIENT_ID, 1025))
+    long_name.closed()
+    hub.end()
+    compare(hub, replay)
+    expect("type 39 in the capture", [], [life for life in lives(replay, hub.capture) if header(GRAB_JOB_ALL, 0) in life["packets"]])
+
+
+def refuses_to_start(command, folder):
+    """A serial file that is in use or not understood, a capture that is there already, a bad port: status 1, and a word."""
+    taken, broken = os.path.join(folder, "taken"), os.path.join(folder, "broken")
+    with open(broken, "w", encoding="ascii") as file:
+        file.write("12\n")
+    hub = Hub(command, folder, "holder", taken)
+    try:
+        for words in (["-p", "0", taken], ["-p", "0", broken], ["-p", "0", "-c", hub.capture, taken + "2"], ["-p", "x", taken + "2"]):
+            ended = subprocess.run([*command, *words], stdout=subprocess.PIPE, stderr=subprocess.PIPE, timeout=20, check=False)
+            expect(f"status of hub {words}, and a message", (ended.returncode, ended.stderr.startswith(b"hub: ")), (1, True))
+        hub.end()
+    finally:
+        hub.kill()
+
+
+def drive(folder, replay, command):
+    hubs = []
+
+    def start(name, serial, *options):
+        hubs.append(Hub(command, folder, name, serial, *options))
+        return hubs[-1]
+
+    paths = [os.path.join(folder, name) for name in ("serial", "other-serial", "third-serial")]
+    for path in paths:
+        if os.path.exists(path):
+            os.remove(path)
+    try:
+        late = first_life(start, replay, paths[0])
+        second_life(start, replay, paths[0], late)
+        without_the_serial(start, paths[1], late)
+        unmodified_workers(start, replay, paths[2])
+        refuses_to_start(command, folder)
+    finally:
+        for hub in hubs:
+            hub.kill()
+
+
+def too_long(_number, _frame):
+    raise Fault(f"all of it takes more than {LIMIT} seconds")
+
+
+if __name__ == "__main__":
+    signal.signal(signal.SIGALRM, too_long)
+    signal.alarm(LIMIT)
+    try:
+        drive(sys.argv[1], shlex.split(sys.argv[2]), shlex.split(sys.argv[3]))
+    except (Fault, OSError, subprocess.SubprocessError) as fault:
+        sys.exit(f"hub: {fault}")
