@@ -6,13 +6,12 @@ import os
 import signal
 import socket
 import subprocess
-import time
 
 SECONDS = 20.0
 HEADER = 12
 CAN_DO, PRE_SLEEP, NOOP, SUBMIT_JOB, JOB_CREATED, GRAB_JOB, NO_JOB, JOB_ASSIGN = 1, 4, 6, 7, 8, 9, 10, 11
 WORK_COMPLETE, ECHO_REQ, ECHO_RES, SUBMIT_JOB_BG, ERROR, SET_CLIENT_ID = 13, 16, 17, 18, 19, 22
-WORK_DATA, GRAB_JOB_UNIQ, JOB_ASSIGN_UNIQ, GRAB_JOB_ALL = 28, 30, 31, 39
+WORK_DATA, JOB_ASSIGN_UNIQ, GRAB_JOB_ALL = 28, 31, 39
 
 
 class Fault(Exception):
@@ -168,7 +167,7 @@ def answers(replay, capture):
 
 
 def lives(replay, capture):
-    """What a replay of the capture sends, for each life of a connection in turn: its number, its packets, its bytes sent, refusals."""
+    """Each life of a connection from open to close: its number, the packets that came, the bytes that a replay sends, its refusals."""
     open_now, ended = {}, []
     with open(capture, encoding="ascii") as text:
         lines = [bytes.fromhex(line) for line in text.read().splitlines()]
@@ -189,9 +188,25 @@ def lives(replay, capture):
     return ended
 
 
-def wait_until(what, done):
-    until = time.monotonic() + SECONDS
-    while not done():
-        if time.monotonic() > until:
-            raise Fault(f"{what}: not within {SECONDS} seconds")
-        time.sleep(0.01)
+def compare(hub, replay, leading=0):
+    """Each client got the bytes that a replay of the capture sends to its connection. Returns the number of each client."""
+    found = lives(replay, hub.capture)[leading:]
+    expect("connections in the capture", len(found), len(hub.clients))
+    numbers = {}
+    for client in hub.clients:
+        mark = request(ECHO_REQ, client.mark)
+        life = [life for life in found if life["packets"][1:2] == [mark]]
+        expect(f"{client.name}: lives in the capture", len(life), 1)
+        sent, came = bytes(life[0]["sent"]), bytes(client.came)
+        expect(f"{client.name}: refusals", life[0]["refused"], getattr(client, "refused", []))
+        if getattr(client, "slow", False):
+            expect("what the slow board got, a part from the start", (sent.startswith(came), len(sent) > len(came)), (True, True))
+        else:
+            expect(f"{client.name}: all bytes as replayed", came, sent)
+        numbers[client.name] = life[0]["number"]
+    return numbers
+
+
+def serial_in(path):
+    with open(path, encoding="ascii") as file:
+        return int(file.read())

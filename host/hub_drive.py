@@ -13,9 +13,9 @@ import subprocess
 import sys
 import time
 
-from hub_client import (CAN_DO, ECHO_REQ, ECHO_RES, ERROR, GRAB_JOB, GRAB_JOB_ALL, GRAB_JOB_UNIQ, HEADER, JOB_ASSIGN, JOB_ASSIGN_UNIQ,
-                        JOB_CREATED, NO_JOB, NOOP, PRE_SLEEP, SET_CLIENT_ID, SUBMIT_JOB, SUBMIT_JOB_BG, WORK_COMPLETE, WORK_DATA, Client,
-                        Fault, Hub, expect, header, lives, request, wait_until)
+from hub_client import (CAN_DO, ECHO_REQ, ECHO_RES, ERROR, GRAB_JOB, GRAB_JOB_ALL, JOB_ASSIGN, JOB_ASSIGN_UNIQ, JOB_CREATED,
+                        NO_JOB, NOOP, PRE_SLEEP, SET_CLIENT_ID, SUBMIT_JOB, SUBMIT_JOB_BG, WORK_COMPLETE, WORK_DATA, Client,
+                        Fault, Hub, compare, expect, header, lives, request, serial_in)
 
 LIMIT = 180
 FUNCTION = b"reverse"
@@ -76,23 +76,25 @@ def two_workers_three_boards(hub):
     return workers, boards
 
 
-def pieces(board, worker):
+def pieces(board, workers):
     """A packet in many pieces, several packets in one, and a piece that ends in the middle of a packet."""
     for byte in request(SUBMIT_JOB, FUNCTION, b"", b"in pieces"):
         board.send(bytes([byte]))
         time.sleep(0.001)
     handle = board.read()[1]
-    worker.reads(NOOP)
-    expect("the job in pieces", grab(worker), (handle, b"in pieces"))
-    worker.send(request(WORK_COMPLETE, handle, b""))
+    for worker in workers:
+        worker.reads(NOOP)
+    expect("the job in pieces", grab(workers[0]), (handle, b"in pieces"))
+    workers[0].send(request(WORK_COMPLETE, handle, b""))
     board.reads(WORK_COMPLETE, handle, b"")
-    echoes = [request(ECHO_REQ, text) for text in (b"one", b"", b"three", b"x" * 1024)]
-    board.send(*echoes, echoes[0][:5])
-    for text in (b"one", b"", b"three", b"x" * 1024):
+    texts = (b"one", b"", b"three", b"x" * 1024)
+    board.send(*[request(ECHO_REQ, text) for text in texts], request(ECHO_REQ, b"cut")[:5])
+    for text in texts:
         board.reads(ECHO_RES, text)
-    board.send(echoes[0][5:])
-    board.reads(ECHO_RES, b"one")
-    asleep(worker)
+    board.send(request(ECHO_REQ, b"cut")[5:])
+    board.reads(ECHO_RES, b"cut")
+    for worker in workers:
+        asleep(worker)
 
 
 def bad_streams(hub):
@@ -105,6 +107,11 @@ def bad_streams(hub):
         client.refused = [number]
         client.send(text)
         client.closed()
+    client = hub.client("a packet and a line")
+    client.refused = [5]
+    client.send(request(ECHO_REQ, b"before"), b"status\n")
+    client.reads(ECHO_RES, b"before")
+    client.closed()
     client = hub.client("foreign types")
     for kind in (SET_CLIENT_ID, GRAB_JOB_ALL):
         expect("a type that is not served", client.ask(request(kind, b""), ERROR), b"09\0type")
@@ -118,8 +125,6 @@ def killed_worker(board, workers):
     handle = submit(board, b"of a killed worker")
     for worker in workers:
         worker.reads(NOOP)
-    asleep_again = workers[1].ask(request(ECHO_REQ, b"!"), ECHO_RES)
-    expect("echo", asleep_again, b"!")
     expect("the first worker's job", grab(workers[0]), (handle, b"of a killed worker"))
     workers[1].send(request(PRE_SLEEP))
     workers[1].quiet()
@@ -152,7 +157,6 @@ def slow_reader(hub, board, worker):
     following.quiet()
     slow.drain()
     asleep(worker)
-    return slow, following
 
 
 def seventeenth(hub):
@@ -171,34 +175,10 @@ def seventeenth(hub):
         client.quiet()
 
 
-def compare(hub, replay, leading=0):
-    """Each client got the bytes that a replay of the capture sends to its connection. Returns the number of each client."""
-    found = lives(replay, hub.capture)[leading:]
-    expect("connections in the capture", len(found), len(hub.clients))
-    numbers = {}
-    for client in hub.clients:
-        mark = request(ECHO_REQ, client.mark)
-        life = [life for life in found if life["packets"][1:2] == [mark]]
-        expect(f"{client.name}: lives in the capture", len(life), 1)
-        sent, came = bytes(life[0]["sent"]), bytes(client.came)
-        expect(f"{client.name}: refusals", life[0]["refused"], getattr(client, "refused", []))
-        if getattr(client, "slow", False):
-            expect("what the slow board got, a part from the start", (sent.startswith(came), len(sent) > len(came)), (True, True))
-        else:
-            expect(f"{client.name}: all bytes as replayed", came, sent)
-        numbers[client.name] = life[0]["number"]
-    return numbers
-
-
-def serial_in(path):
-    with open(path, encoding="ascii") as file:
-        return int(file.read())
-
-
 def first_life(start, replay, serial):
     hub = start("first", serial)
     workers, boards = two_workers_three_boards(hub)
-    pieces_worker_sleeps(boards[0], workers)
+    pieces(boards[0], workers)
     bad_streams(hub)
     killed_worker(boards[1], workers)
     slow_reader(hub, boards[2], workers[1])
@@ -211,13 +191,6 @@ def first_life(start, replay, serial):
     numbers = compare(hub, replay)
     expect("the number after the slow board", numbers["board after the slow one"], numbers["slow board"])
     return late
-
-
-def pieces_worker_sleeps(board, workers):
-    """The second worker is woken by the same job; it finds nothing and sleeps again."""
-    pieces(board, workers[0])
-    workers[1].reads(NOOP)
-    asleep(workers[1])
 
 
 def late_result(hub, late):
@@ -261,19 +234,22 @@ def without_the_serial(start, serial, late):
 
 
 def unmodified_workers(start, replay, serial):
-    """-w: type 39 is answered as 30, type 22 is dropped; the capture has what was handed over."""
+    """-w: type 39 is answered as 30, type 22 is dropped; the capture has what was handed over. Serials go on after 70."""
+    with open(serial, "w", encoding="ascii") as file:
+        file.write("0000000070\n")
     hub = start("unmodified", serial, "-w")
     board, worker = hub.client("board"), hub.client("worker")
     worker.send(request(SET_CLIENT_ID, b"name"), request(CAN_DO, FUNCTION), request(GRAB_JOB_ALL))
     worker.reads(NO_JOB)
     handle = submit(board, b"text", SUBMIT_JOB_BG)
+    expect("the handle after 70", handle, b"H:lap:71")
     expect("the job", worker.ask(request(GRAB_JOB_ALL), JOB_ASSIGN_UNIQ), b"\0".join((handle, FUNCTION, b"", b"text")))
     long_name = hub.client("too long a name")
     long_name.refused = [7]
     long_name.send(header(SET_CLIENT_ID, 1025))
     long_name.closed()
     hub.end()
-    compare(hub, replay)
+    compare(hub, replay, leading=3)
     expect("type 39 in the capture", [], [life for life in lives(replay, hub.capture) if header(GRAB_JOB_ALL, 0) in life["packets"]])
 
 

@@ -123,7 +123,7 @@ int start_signals(void) {
     sigaddset(&both, SIGTERM);
     sigaddset(&both, SIGINT);
     int signals = sigprocmask(SIG_BLOCK, &both, NULL) == 0 ? signalfd(-1, &both, SFD_CLOEXEC) : -1;
-    if (signals < 0) {
+    if (signals < 0 || signal(SIGPIPE, SIG_IGN) == SIG_ERR) {
         fail("signals", strerror(errno));
     }
     return signals;

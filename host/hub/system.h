@@ -26,7 +26,7 @@ void record(enum kind kind, unsigned connection, const uint8_t *packet, size_t c
 /* Listens at an IPv4 address and prints where; port 0 is one that the system chooses. Ends the program if it cannot. */
 int start_listening(const char *address, const char *port);
 
-/* Turns SIGTERM and SIGINT into something to poll for: the answer is readable when one has come. */
+/* Turns SIGTERM and SIGINT into something to poll for: the answer is readable when one has come. Ignores SIGPIPE. */
 int start_signals(void);
 
 #endif

@@ -11,9 +11,6 @@
 
 enum { MOST_DIGITS = 2080, MOST_BYTES = MOST_DIGITS / 2 };
 
-/* Where the size of an addressed packet stands, and how long it is without its data. */
-enum { SIZE_AT = 9, ADDRESSED_HEADER = 13 };
-
 /* The memory that is lent, and the line that is read. */
 static uint8_t table[LAP_TABLE_BYTES];
 static uint8_t workloads[LAP_WORKLOADS_BYTES];
@@ -77,20 +74,11 @@ static uint32_t run(size_t bytes, uint32_t *length) {
     return LAP_LINE;
 }
 
-/* The bytes of the addressed packet that starts here. */
-static size_t addressed_length(const uint8_t *packet) {
-    size_t size = 0;
-    for (int i = 0; i < 4; i++) {
-        size = size * 256 + packet[SIZE_AT + i];
-    }
-    return ADDRESSED_HEADER + size;
-}
-
-/* Prints so many bytes of the output, an addressed packet a line. */
+/* Prints so many bytes of the output, an addressed packet a line: the connection's byte and the packet. */
 static void print_packets(size_t length) {
     size_t at = 0;
     while (at < length) {
-        size_t end = at + addressed_length(output + at);
+        size_t end = at + 1 + LAP_HEADER_BYTES + lap_size_of(output + at + 1);
         for (; at < end; at++) {
             printf("%02x", output[at]);
         }
