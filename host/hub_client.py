@@ -12,6 +12,7 @@ HEADER = 12
 CAN_DO, PRE_SLEEP, NOOP, SUBMIT_JOB, JOB_CREATED, GRAB_JOB, NO_JOB, JOB_ASSIGN = 1, 4, 6, 7, 8, 9, 10, 11
 WORK_COMPLETE, ECHO_REQ, ECHO_RES, SUBMIT_JOB_BG, ERROR, SET_CLIENT_ID = 13, 16, 17, 18, 19, 22
 WORK_DATA, JOB_ASSIGN_UNIQ, GRAB_JOB_ALL = 28, 31, 39
+FUNCTION = b"reverse"
 
 
 class Fault(Exception):
@@ -151,6 +152,31 @@ class Client:
         self.socket.setsockopt(socket.SOL_SOCKET, socket.SO_LINGER, b"\1\0\0\0\0\0\0\0")
         self.socket.close()
         self.ended = self.cut = True
+
+
+def asleep(worker):
+    """The worker grabs nothing and sleeps; its echo says that the hub has taken PRE_SLEEP."""
+    worker.send(request(GRAB_JOB), request(PRE_SLEEP))
+    worker.reads(NO_JOB)
+    worker.quiet()
+
+
+def worker_of(hub, name):
+    worker = hub.client(name)
+    worker.send(request(CAN_DO, FUNCTION))
+    asleep(worker)
+    return worker
+
+
+def submit(board, workload, kind=SUBMIT_JOB):
+    return board.ask(request(kind, FUNCTION, b"", workload), JOB_CREATED)
+
+
+def grab(worker):
+    """The handle and the workload of the next job."""
+    handle, function, workload = worker.ask(request(GRAB_JOB), JOB_ASSIGN).split(b"\0", 2)
+    expect(f"{worker.name}: the job's function", function, FUNCTION)
+    return handle, workload
 
 
 def answers(replay, capture):

@@ -13,37 +13,11 @@ import subprocess
 import sys
 import time
 
-from hub_client import (CAN_DO, ECHO_REQ, ECHO_RES, ERROR, GRAB_JOB, GRAB_JOB_ALL, JOB_ASSIGN, JOB_ASSIGN_UNIQ, JOB_CREATED,
-                        NO_JOB, NOOP, PRE_SLEEP, SET_CLIENT_ID, SUBMIT_JOB, SUBMIT_JOB_BG, WORK_COMPLETE, WORK_DATA, Client,
-                        Fault, Hub, compare, expect, header, lives, request, serial_in)
+from hub_client import (CAN_DO, ECHO_REQ, ECHO_RES, ERROR, FUNCTION, GRAB_JOB, GRAB_JOB_ALL, JOB_ASSIGN_UNIQ, NO_JOB, NOOP, PRE_SLEEP,
+                        SET_CLIENT_ID, SUBMIT_JOB, SUBMIT_JOB_BG, WORK_COMPLETE, WORK_DATA, Client, Fault, Hub, asleep, compare, expect,
+                        grab, header, lives, request, serial_in, submit, worker_of)
 
 LIMIT = 180
-FUNCTION = b"reverse"
-
-
-def asleep(worker):
-    """The worker grabs nothing and sleeps; its echo says that the hub has taken PRE_SLEEP."""
-    worker.send(request(GRAB_JOB), request(PRE_SLEEP))
-    worker.reads(NO_JOB)
-    worker.quiet()
-
-
-def worker_of(hub, name):
-    worker = hub.client(name)
-    worker.send(request(CAN_DO, FUNCTION))
-    asleep(worker)
-    return worker
-
-
-def submit(board, workload, kind=SUBMIT_JOB):
-    return board.ask(request(kind, FUNCTION, b"", workload), JOB_CREATED)
-
-
-def grab(worker):
-    """The handle and the workload of the next job."""
-    handle, function, workload = worker.ask(request(GRAB_JOB), JOB_ASSIGN).split(b"\0", 2)
-    expect(f"{worker.name}: the job's function", function, FUNCTION)
-    return handle, workload
 
 
 def two_workers_three_boards(hub):
