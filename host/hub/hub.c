@@ -26,15 +26,15 @@
 /* Types that document 01 does not serve and that workers open with: SET_CLIENT_ID, and GRAB_JOB_ALL of libgearman. */
 enum { SET_CLIENT_ID = 22, GRAB_JOB_ALL = 39 };
 
-/* A queue that a reader cannot fill in one round if it takes what the round before has sent (docs/HOST.md). */
+/* More than one round can bring to a connection: only a client that does not read fills it (docs/HOST.md). */
 enum { QUEUE_BYTES = 65536 };
 
+/* The core's connections, by number: what was received of the next packet, and what is still to be sent. */
 static struct connection {
     int socket; /* -1: the number is free */
     bool lost;  /* to be closed at the end of the round; nothing more is read or queued */
     size_t received, queued;
-    uint8_t in[LAP_PACKET_BYTES]; /* the start of the next packet */
-    uint8_t out[QUEUE_BYTES];     /* what is still to be sent */
+    uint8_t in[LAP_PACKET_BYTES], out[QUEUE_BYTES];
 } connections[LAP_CONNECTIONS];
 
 /* What is lent on each call. */

@@ -103,8 +103,11 @@ int start_listening(const char *address, const char *port) {
     struct sockaddr_in at = {.sin_family = AF_INET, .sin_port = htons((uint16_t)number)};
     socklen_t size = sizeof at;
     const int on = 1;
-    if (*port == '\0' || *end != '\0' || number > UINT16_MAX || inet_pton(AF_INET, address, &at.sin_addr) != 1) {
-        fail("no IPv4 address and port", address);
+    if (*port == '\0' || *end != '\0' || number > UINT16_MAX) {
+        fail(port, "is no port");
+    }
+    if (inet_pton(AF_INET, address, &at.sin_addr) != 1) {
+        fail(address, "is no IPv4 address");
     }
     int listener = socket(AF_INET, SOCK_STREAM | SOCK_NONBLOCK | SOCK_CLOEXEC, 0);
     if (listener < 0 || setsockopt(listener, SOL_SOCKET, SO_REUSEADDR, &on, sizeof on) != 0
