@@ -47,6 +47,9 @@ enum { LAP_CONNECTIONS = 16, LAP_MOST_FUNCTIONS = 16, LAP_MOST_JOBS = 32 };
  * and workloads. LAP_LENT to LAP_PACKET_LENGTH write nothing and report length 0. LAP_TYPE to LAP_OPTION write one
  * ERROR packet to the sender: the number as two decimal digits, a zero byte, and the text that is given here in
  * quotes.
+ *
+ * What a host does: 1 to 4 are faults of its own; after 5 to 8 it closes the connection, whose stream is out of step;
+ * after 9 to 15 it sends the ERROR packet and goes on.
  */
 enum lap_number {
     LAP_DONE = 0,
@@ -86,20 +89,20 @@ static inline const char *lap_number_text(uint32_t number) {
  * last runs to the end.
  */
 enum {
-    LAP_MAGIC_AT = 0,
+    LAP_MAGIC_AT = 0, /* bytes of the header */
     LAP_TYPE_AT = 4,
     LAP_SIZE_AT = 8,
     LAP_HEADER_BYTES = 12,
     LAP_DATA_BYTES = 1024,          /* the most data of a request */
-    LAP_PACKET_BYTES = 1036,        /* the longest request: header and data */
+    LAP_PACKET_BYTES = 1036,        /* the longest request, header and data */
     LAP_RESPONSE_DATA_BYTES = 1088, /* the most data of a response; the core sends 1,041 at most */
-    LAP_RESPONSE_BYTES = 1100       /* the longest response: header and data */
+    LAP_RESPONSE_BYTES = 1100       /* the longest response, header and data */
 };
 
 /* The most bytes of each argument. A function and a handle have at least 1, a numerator and a denominator 1 digit. */
 enum { LAP_FUNCTION_BYTES = 32, LAP_UNIQUE_BYTES = 64, LAP_HANDLE_BYTES = 63, LAP_DIGITS = 10 };
 
-/* The types that are served or sent, and their arguments. Every other one is refused by LAP_TYPE. */
+/* The types that are served or sent, and their arguments. LAP_TYPE refuses a request of every other type. */
 enum lap_type {
     LAP_TYPE_CAN_DO = 1,              /* request: function */
     LAP_TYPE_CANT_DO = 2,             /* request: function */
@@ -147,7 +150,8 @@ static inline uint32_t lap_size_of(const uint8_t *packet) {
 /*
  * THE OUTPUT. A call that reports n bytes has written addressed packets to the first n bytes of the output, one after
  * the other, and has left the rest of the output as it was. An addressed packet is one byte, the connection that it
- * goes to, and then the packet. Copy all of them before the next call, which writes from the start again.
+ * goes to, and then the packet: 13 bytes and lap_size_of(packet) more. Copy all of them before the next call, which
+ * writes from the start again.
  */
 
 /*
