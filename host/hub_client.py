@@ -235,4 +235,7 @@ def compare(hub, replay, leading=0):
 
 def serial_in(path):
     with open(path, encoding="ascii") as file:
-        return int(file.read())
+        text = file.read()
+    if len(text) != 11 or not text[:10].isdigit():
+        raise Fault(f"{path} holds {text!r} and no serial")
+    return int(text)

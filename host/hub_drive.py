@@ -192,6 +192,18 @@ def second_life(start, replay, serial, late):
     compare(hub, replay, leading=-(-before // 32))
 
 
+def mains_off(start, serial):
+    """A hub that is killed has kept every serial of which it spoke, and the next one goes on after it."""
+    hub = start("killed", serial)
+    handles = [submit(hub.client("board"), b"", SUBMIT_JOB_BG) for _ in range(3)]
+    hub.kill()
+    hub = start("after", serial)
+    handles.append(submit(hub.client("board"), b"", SUBMIT_JOB_BG))
+    serials = [int(handle.split(b":")[2]) for handle in handles]
+    expect("serials over the cut", serials, list(range(serials[0], serials[0] + 4)))
+    hub.end()
+
+
 def without_the_serial(start, serial, late):
     """Why it is kept: a hub that starts at 0 gives the old handles again, and a late result meets another's job."""
     hub = start("without", serial)
@@ -256,6 +268,7 @@ def drive(folder, replay, command):
     try:
         late = first_life(start, replay, paths[0])
         second_life(start, replay, paths[0], late)
+        mains_off(start, paths[0])
         without_the_serial(start, paths[1], late)
         unmodified_workers(start, replay, paths[2])
         refuses_to_start(command, folder)

@@ -169,21 +169,21 @@ static void leave(unsigned c) {
 static void admit(int listener) {
     const int on = 1;
     unsigned c = 0;
-    int socket = accept(listener, NULL, NULL);
-    if (socket < 0) {
-        return;
+    int client = accept(listener, NULL, NULL);
+    if (client < 0) {
+        return; /* it has left already */
     }
     while (c < LAP_CONNECTIONS && connections[c].socket >= 0) {
         c++;
     }
     if (c == LAP_CONNECTIONS) {
         fprintf(stderr, "hub: a client is turned away: all connections are in use\n");
-        close(socket);
+        close(client);
         return;
     }
-    setsockopt(socket, IPPROTO_TCP, TCP_NODELAY, &on, sizeof on);
-    setsockopt(socket, SOL_SOCKET, SO_KEEPALIVE, &on, sizeof on);
-    connections[c].socket = socket;
+    setsockopt(client, IPPROTO_TCP, TCP_NODELAY, &on, sizeof on);
+    setsockopt(client, SOL_SOCKET, SO_KEEPALIVE, &on, sizeof on);
+    connections[c].socket = client;
     connections[c].received = connections[c].queued = 0;
     event(OPEN, c, NULL, 0);
 }
@@ -200,10 +200,12 @@ static void serve(const struct pollfd *polled) {
             send_queued(c);
         }
     }
-    for (unsigned c = 0; c < LAP_CONNECTIONS; c++) {
+    for (unsigned c = 0; c < LAP_CONNECTIONS;) {
         if (connections[c].lost) {
             leave(c);
-            c = -1U; /* from the first again: a close sends packets, and they can fill a queue */
+            c = 0; /* from the first again: a close sends packets, and they can fill a queue */
+        } else {
+            c++;
         }
     }
 }
