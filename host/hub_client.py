@@ -86,7 +86,8 @@ class Client:
 
     def __init__(self, port, name, receive_buffer=None):
         self.name, self.mark = name, b"this is " + name.encode()
-        self.came, self.at, self.ended, self.cut = bytearray(), 0, False, False
+        self.came, self.at, self.ended = bytearray(), 0, False
+        self.refused, self.slow = [], False  # what a scenario expects: numbers of refusals; a client that does not read
         self.socket = socket.socket()
         self.socket.settimeout(SECONDS)
         if receive_buffer:
@@ -106,7 +107,7 @@ class Client:
         except socket.timeout:
             raise Fault(f"{self.name}: {what} does not come within {SECONDS} seconds") from None
         except ConnectionError:
-            piece, self.cut = b"", True
+            piece = b""
         self.ended = piece == b""
         self.came += piece
         return not self.ended
@@ -151,7 +152,7 @@ class Client:
         """Leaves as a killed program does: at once."""
         self.socket.setsockopt(socket.SOL_SOCKET, socket.SO_LINGER, b"\1\0\0\0\0\0\0\0")
         self.socket.close()
-        self.ended = self.cut = True
+        self.ended = True
 
 
 def asleep(worker):
@@ -224,8 +225,8 @@ def compare(hub, replay, leading=0):
         life = [life for life in found if life["packets"][1:2] == [mark]]
         expect(f"{client.name}: lives in the capture", len(life), 1)
         sent, came = bytes(life[0]["sent"]), bytes(client.came)
-        expect(f"{client.name}: refusals", life[0]["refused"], getattr(client, "refused", []))
-        if getattr(client, "slow", False):
+        expect(f"{client.name}: refusals", life[0]["refused"], client.refused)
+        if client.slow:
             expect("what the slow board got, a part from the start", (sent.startswith(came), len(sent) > len(came)), (True, True))
         else:
             expect(f"{client.name}: all bytes as replayed", came, sent)
