@@ -1,32 +1,24 @@
 #!/usr/bin/env python3
-"""The printed cases, docs/CASES.md, against the files in captures/.
+"""The printed cases, docs/CASES.md, and the class sheet, docs/SHEET.md, made from captures/ and from the prose in host/cases/.
 
-usage: cases.py        each line that it prints is a fault and names the file or the block
+usage: cases.py            each line that it prints is a fault: a case without its three files or its entry, a page that is not what is made
+       cases.py --write    makes both pages anew
 
-A case is three files: NAME.capture, NAME.answer and NAME.shown. Each has one block in the document: a line `<!-- captures/FILE -->`
-and a code block after it, which holds the file's text. Where the file's last line has no line end, the mark says so:
-`<!-- captures/FILE, no line end -->`.
+A case is three files, captures/NAME.capture, NAME.answer and NAME.shown, and one entry in host/cases/cases.txt.
 """
 import os
 import re
 import sys
 
-ROOT = os.path.dirname(os.path.dirname(os.path.abspath(__file__)))
-FOLDER = os.path.join(ROOT, "captures")
-DOCUMENT = os.path.join(ROOT, "docs", "CASES.md")
-ENDINGS = ("capture", "answer", "shown")
+from case_files import ENDINGS, FOLDER, ROOT, text_of
+from case_page import entry_faults, page, page_faults
+
+PAGES = {"page.md": "docs/CASES.md", "sheet.md": "docs/SHEET.md"}
 FILE = r"[a-z0-9-]+\.(?:" + "|".join(ENDINGS) + ")"
-NO_LINE_END = ", no line end"
-
-
-def text_of(path):
-    """The text as it is: no line end is changed."""
-    with open(path, encoding="utf-8", newline="") as file:
-        return file.read()
 
 
 def blocks(document):
-    """The marks with their code blocks' text, in the document's order."""
+    """A document's marks `<!-- FILE -->` with the text of the code block after each, in its order. host/readme.py asks for them."""
     lines, found, at = document.split("\n"), [], 0
     while at < len(lines):
         mark = re.fullmatch(r"<!-- (.*) -->", lines[at])
@@ -43,74 +35,55 @@ def blocks(document):
     return found
 
 
-def should_be(mark):
-    """The text that the block with this mark must hold."""
-    file = re.fullmatch(f"captures/({FILE})({NO_LINE_END})?", mark)
-    if not file:
-        raise ValueError("a mark of no known form")
-    text = text_of(os.path.join(FOLDER, file[1]))
-    if text.endswith("\n") or text == "":
-        if file[2]:
-            raise ValueError("the mark says 'no line end', the file has one or is empty")
-        return text
-    if not file[2]:
-        raise ValueError("the file's last line has no line end, and the mark does not say so")
-    return text + "\n"
+def case_names(files):
+    return sorted({file.rsplit(".", 1)[0] for file in files if re.fullmatch(FILE, file)})
 
 
-def file_faults(names):
+def file_faults(files):
     """Files of other names, and cases that lack one of their three files."""
-    for name in names:
-        if not re.fullmatch(FILE, name):
-            yield f"captures/{name}: its ending is none of {', '.join(ENDINGS)}"
-    for name in wanted(names):
-        if name not in names:
-            yield f"captures/{name}: there is no such file"
+    for file in files:
+        if not re.fullmatch(FILE, file):
+            yield f"captures/{file}: its ending is none of {', '.join(ENDINGS)}"
+    for name in case_names(files):
+        for ending in ENDINGS:
+            if f"{name}.{ending}" not in files:
+                yield f"captures/{name}.{ending}: there is no such file"
 
 
-def wanted(names):
-    """The three files of every case that has one of them."""
-    cases = sorted({name.rsplit(".", 1)[0] for name in names if re.fullmatch(FILE, name)})
-    return [f"{case}.{ending}" for case in cases for ending in ENDINGS]
-
-
-def block_faults(names, found):
-    """Files without their one block, and blocks that do not hold their file's text."""
-    marks = [mark.removesuffix(NO_LINE_END) for mark, _ in found]
-    for name in wanted(names):
-        count = marks.count(f"captures/{name}")
-        if count != 1:
-            yield f"captures/{name}: {count} blocks in the document, one is right"
-    for mark, text in found:
-        try:
-            right = should_be(mark)
-        except (OSError, ValueError) as error:
-            yield f"{mark}: {error}"
-            continue
-        if text != right:
-            yield f"{mark}: line {first_difference(text, right)} of the block is not the file's"
-
-
-def first_difference(text, right):
-    here, there = text.split("\n"), right.split("\n")
-    return next(at for at in range(len(here) + 1) if here[at:at + 1] != there[at:at + 1]) + 1
-
-
-def faults():
-    names = sorted(os.listdir(FOLDER))
-    yield from file_faults(names)
-    try:
-        found = blocks(text_of(DOCUMENT))
-    except ValueError as error:
-        yield f"docs/CASES.md: {error}"
+def stale(path, text):
+    """Where the page is not what is made, the first line that differs."""
+    if not os.path.exists(os.path.join(ROOT, path)):
+        yield f"{path}: there is no such file; python3 host/cases.py --write makes it"
         return
-    yield from block_faults(names, found)
+    here, there = text_of(os.path.join(ROOT, path)).split("\n"), text.split("\n")
+    if here != there:
+        number = next(at for at in range(len(here) + 1) if here[at:at + 1] != there[at:at + 1]) + 1
+        yield f"{path}: line {number} is not what is made from captures/ and host/cases/; python3 host/cases.py --write makes the page"
+
+
+def faults(write):
+    files = sorted(os.listdir(FOLDER))
+    found = [*file_faults(files), *entry_faults(case_names(files))]
+    yield from found
+    if found:
+        return
+    for frame, path in PAGES.items():
+        text = page(frame)
+        yield from page_faults(frame, text)
+        if write:
+            with open(os.path.join(ROOT, path), "w", encoding="utf-8", newline="") as file:
+                file.write(text)
+        else:
+            yield from stale(path, text)
 
 
 def main():
-    if sys.argv[1:]:
+    if sys.argv[1:] not in ([], ["--write"]):
         sys.exit(__doc__)
-    found = list(faults())
+    try:
+        found = list(faults(bool(sys.argv[1:])))
+    except ValueError as error:
+        found = [str(error)]
     for fault in found:
         print(fault)
     sys.exit(1 if found else 0)

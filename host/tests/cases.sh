@@ -1,5 +1,6 @@
 #!/usr/bin/env bash
-# Every case has a capture, an answer and both in words, and docs/CASES.md prints each of these files as it is (host/cases.py).
+# Every case has a capture, an answer, both in words and an entry in host/cases/cases.txt; docs/CASES.md and docs/SHEET.md are what
+# host/cases.py makes of them, in lines of at most 120 characters.
 set -euo pipefail
 cd "$(dirname "$0")/../.."
 python3 -B host/cases.py
