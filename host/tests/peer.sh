@@ -1,4 +1,5 @@
 #!/usr/bin/env bash
+# usage: peer.sh [--events N] [--seed N]. Both go on to the long comparison: N random events instead of 300,000, from another seed than 1.
 # The archive does what an ordinary job server in Rust does, written from the documents alone: the same number, length, output, table and
 # workloads, byte for byte, in fixed and random histories, on damaged tables and on buffers that are too short. The ordinary server passes
 # its own tests first. The program show prints what the ordinary server's show prints, on random captures; SHOW names it, or else it is
@@ -18,7 +19,7 @@ programs=$CARGO_TARGET_DIR/$programs_of
 
 # The long comparison runs beside what follows and is waited for at the end.
 compared=$PWD/target/compared
-"${run[@]}" "$programs/compare" > "$compared" &
+"${run[@]}" "$programs/compare" "$@" > "$compared" &
 comparing=$!
 trap 'kill "$comparing" 2> /dev/null || true' EXIT
 
