@@ -31,8 +31,11 @@ def lines_of(name):
     lines = [Line(at + 1, digits, end == "\n") for at, (digits, end) in enumerate(re.findall(r"([^\n]*)(\n|\Z)", capture))]
     if lines[-1].digits == "" and not lines[-1].ended:
         lines.pop()
-    read_answer(lines, answer)
-    read_words(lines, shown)
+    try:
+        read_answer(lines, answer)
+        read_words(lines, shown)
+    except ValueError as error:
+        raise ValueError(f"the case {name}: {error}") from None
     return lines
 
 
@@ -84,5 +87,5 @@ def held_to_answer(line):
         raise ValueError(f"line {line.number}: {len(line.sent)} packets in words, {len(line.packets)} in the answer")
     number = int(line.code, 16)
     right = "done" if number == 0 else f"refused {number}"
-    if (line.verdict + " ").startswith(right + " ") is False:
+    if not (line.verdict + " ").startswith(right + " "):
         raise ValueError(f"line {line.number}: '{line.verdict}' in words, {line.code} in the answer")

@@ -129,6 +129,8 @@ def page(frame):
         mark = re.fullmatch(r"\{\{(.*)\}\}", row)
         if mark:
             name, *words = mark[1].split(" ")
+            if name not in MADE:
+                raise ValueError(f"host/cases/{frame}: nothing is made for {row}")
             made = list(MADE[name](*words))
             rows += made[:-1] if made[-1] == "" else made
         else:

@@ -16,8 +16,9 @@ def cut(text, width):
     """The text, or its first and last bytes around the number of those left out; a byte takes `width` characters."""
     if len(text) <= LONGEST * width:
         return text
-    left_out = len(text) // width - KEPT_HEAD - KEPT_TAIL
-    return f"{text[:KEPT_HEAD * width]}[{left_out}{HARD}bytes]{text[len(text) - KEPT_TAIL * width:]}"
+    left_out = len(text) - (KEPT_HEAD + KEPT_TAIL) * width
+    count = f"{left_out // width}{HARD}bytes" if left_out % width == 0 else f"{left_out}{HARD}digits"
+    return f"{text[:KEPT_HEAD * width]}[{count}]{text[len(text) - KEPT_TAIL * width:]}"
 
 
 def frame_digits(line):
@@ -92,7 +93,7 @@ def run_from(lines, asleep):
     if count < SHORTEST_RUN or not changed or lines[0].asleep != asleep:
         return 1, []
     changes = ", ".join(f"{second} to {last} for {first}" for first, second, last in changed)
-    mark = f"{lines[1].number:3} to {lines[count - 1].number}: the words of line {lines[0].number} with {changes}, each one more a line"
+    mark = f"{lines[1].number:3} to {lines[count - 1].number}: the words of line {lines[0].number} with {changes}, rising by one a line"
     return count, textwrap.wrap(mark, WIDTH, subsequent_indent=" " * NUMBER, drop_whitespace=False, break_on_hyphens=False)
 
 
