@@ -140,5 +140,5 @@ argument-none s ends i h =
 -- ---- what a reader asks of its parts
 
 -- the data of a packet with a good header is short
-pub data-short : (magic : Bytes) (most : ℕ) (s : Bytes) (kind : ℕ) → most ≤ 1088 → HV.Good kind ≡ headerOf magic most s → length (take (length s - 12) (drop 12 s)) < 2 ^ 31
+pub data-short : (magic : Bytes) (most : ℕ) (s : Bytes) (kind : ℕ) → most < 65536 → HV.Good kind ≡ headerOf magic most s → length (take (length s - 12) (drop 12 s)) < 2 ^ 31
 data-short magic most s kind h e = let l = good-length magic most s kind e in rw rest-part (omega (arith, length-drop 12 s, l .0, l .1))
