@@ -1,8 +1,8 @@
 -- The plans of the events, as the code makes them, concluded on the lent bytes: each is the call of its event. Assumes nothing.
 use Prim.Native.Nat.{ℕ, _<_, _≤_, zero-le}
-use mathlib.Core.Path.{_≡_, refl, ap, sym, _∙_}
+use mathlib.Core.Path.{_≡_, refl, ap, ap₂, sym, _∙_}
 use mathlib.Core.Bool.{Bool, true, false, cond}
-use mathlib.Core.List.{List, []}
+use mathlib.Core.List.{List, [], _∷_, map}
 use native.Mathlib.Omega.{arith}
 use borrow.Author.Tests.{le-ltb}
 use lib.ListN.{length, drop, length-append, length-drop}
@@ -21,28 +21,29 @@ use Rattle.packet_laws.proofs.Packets.{Headed, header-good, read-got, requests-
 use Rattle.packet_laws.proofs.Blindness.{opaque-at, opaque-none, answer-masked}
 use Rattle.packet_laws.proofs.Places.{argument-read}
 use Rattle.packet_kinds.proofs.Shapes.{at-most-five}
+use Rattle.lists.proofs.Cases.{All, all-append}
 use Rattle.server.specs.Sizes.{connectionCount}
 use Rattle.server.specs.Requests.{Event, opens, closes, sends, Request, bad, requested, fromReading, requestIn}
-use Rattle.server.specs.Events.{refuse, served, toWakeIn}
-use Rattle.server.specs.Server.{opaqueOf, decided}
+use Rattle.server.specs.Events.{Send, plain, assign, noop, refuse, served, toWakeIn}
+use Rattle.server.specs.Server.{Server, render, opaqueOf, decided}
 use Rattle.server.specs.Layout.{tableOf}
-use Rattle.server.specs.Call.{serverIn, call, left}
+use Rattle.server.specs.Call.{sentBytes, serverIn, call, left}
 use Rattle.server.specs.Refusals.{lastNumber}
 use Rattle.server_laws.proofs.Refusals.{bad-within}
 use Rattle.server_laws.proofs.Outcome.{opening-decided, closing-decided, served-decided}
 use Rattle.plan.specs.declared.Plan.{Plan}
 use Rattle.plan.specs.declared.Values.{Values}
-use Rattle.plan.specs.declared.Order.the-variants as OV
 use Rattle.plan.specs.Values.{valuesOf}
 use Rattle.plan.specs.Settling.{droppedRows}
-use Rattle.plan.specs.Parts.{ordered}
 use Rattle.plan.specs.Steps.{stepped}
+use Rattle.plan.specs.Parts.{ordered}
 use Rattle.plan.specs.Plans.{planServed, planOpening, planClosing}
 use Rattle.plan_laws.proofs.Decides.{Words, Planned, served-planned, opening-planned, closing-planned}
-use Rattle.carry_packet.proofs.Rendered.{data-whole, noops-rendered}
+use Rattle.carry_packet.proofs.Rendered.{data-whole}
 use Rattle.carry_places.proofs.Laid.{Whole}
 use Rattle.carry_whole.specs.Fitting.{Fitting}
 use Rattle.carry_whole.proofs.Laid.{whole}
+use Rattle.carry_output.specs.Orderly.{Orderly}
 use Rattle.carry_output.specs.Ordered.{bytesSent}
 use Rattle.carry_laws.proofs.Requests.{wordsGiven, request-suits}
 use Rattle.carry_laws.proofs.Sizes.{sized}
@@ -162,22 +163,37 @@ pub record Concludes (e : Event) (plan : Plan) (c : ℕ) (t w o : Bytes) (ends :
   pub carried : plan .number ≡ 0 → Ready plan c 0 [] ends t w o
   pub is : concluded plan c 0 [] ends t w o ≡ call connectionCount e t w o
 
--- an event without a packet: it sends NOOPs alone
+-- ---- packets that are no copy are the same whatever came
+
+data Uncopied : Send → Type 0 where
+  is-plain : {to kind : ℕ} {arguments : List Bytes} → Uncopied (plain to kind arguments)
+  is-assignment : {uniq : Bool} {to p : ℕ} → Uncopied (assign uniq to p)
+
+uncopied-same : (e f : Event) (s : Server) {ss : List Send} → All Uncopied ss → map (render e s) ss ≡ map (render f s) ss
+unfolding render
+uncopied-same e f s All.none = refl
+uncopied-same e f s (All.more is-plain xs) = ap₂ _∷_ refl (uncopied-same e f s xs)
+uncopied-same e f s (All.more is-assignment xs) = ap₂ _∷_ refl (uncopied-same e f s xs)
+
+noops-uncopied : (ls : List ℕ) → All Uncopied (map noop ls)
+noops-uncopied [] = All.none
+noops-uncopied (l ∷ ls) = All.more is-plain (noops-uncopied ls)
+
+-- an event without a packet: whatever it sends, no copy is among it
 module _ (e : Event) (way : Bool) (c : ℕ) (t w o : Bytes) (h : Admitted way c t w o) (plan : Plan)
-    (plans : (v : Words) → Planned v c (tableOf connectionCount t) plan (decided e (serverIn connectionCount t w))) (bare : opaqueOf e ≡ []) (silent : plan .order ≡ OV.Nothing)
+    (plans : (v : Words) → Planned v c (tableOf connectionCount t) plan (decided e (serverIn connectionCount t w))) (bare : opaqueOf e ≡ [])
+    (uncopied : All Uncopied (ordered (plan .order) connectionCount c 0 (argumentAt [] noEnds 0) (tableOf connectionCount t)))
+    (orderly : Orderly (plan .order) (tableOf connectionCount t) [] noEnds 0 (argumentAt [] noEnds 0))
     (fits : Fitting (plan .change) (argumentAt [] noEnds 0) (argumentAt [] noEnds 1) (argumentAt [] noEnds 2)) where
   abbrev after : Values
   after = stepped (plan .step) (valuesOf (tableOf connectionCount t))
 
-  abbrev woken : List ℕ
-  woken = toWakeIn (after .able) (droppedRows (after .rows)) (after .connections)
-
   quiet-follows : Follows e t w o (h .bytes) plan c 0 [] noEnds
-  unfolding bytesSent ordered
+  unfolding bytesSent
   quiet-follows =
       record {
         plans = plans _;
-        shows = rw silent (sym (noops-rendered (sends c []) (serverIn connectionCount t w) woken) ∙ noops-rendered e (serverIn connectionCount t w) woken);
+        shows = ap sentBytes (uncopied-same (sends c []) e (serverIn connectionCount t w) (all-append uncopied (noops-uncopied (toWakeIn (after .able) (droppedRows (after .rows)) (after .connections)))));
         hides = sym (bare ∙ nothing-opaque);
       }
 
@@ -187,23 +203,27 @@ module _ (e : Event) (way : Bool) (c : ℕ) (t w o : Bytes) (h : Admitted way c 
         small = small-number e t w o (h .bytes) plan c 0 [] noEnds quiet-follows;
         carried = λ z.
             ready e t w o (h .bytes) plan c 0 [] noEnds quiet-follows z fits (sized (plan .step) (tableOf connectionCount t) (whole t (sound (h .bytes))))
-            (rw silent zero-le) (omega (arith, ap length nothing-opaque));
+            orderly (omega (arith, ap length nothing-opaque));
         is = concluded-performed e t w o (h .bytes) plan c 0 [] noEnds quiet-follows ∙ call-performed e t w o (h .usable);
       }
 
+-- an open and a close order no packet
 module _ (c : ℕ) (t w o : Bytes) (plan : Plan) (ends : Ends) (none : ends ≡ noEnds) where
+  abbrev noWords : Words
+  noWords = wordsGiven 0 (argumentAt [] noEnds 0) (argumentAt [] noEnds 1) (argumentAt [] noEnds 2)
+
   pub opening-concludes : Admitted true c t w o → plan ≡ planOpening c → Concludes (opens c) plan c t w o ends
-  unfolding opaqueOf serverIn
+  unfolding opaqueOf serverIn ordered
   opening-concludes h e =
       rw (none, e)
       (quiet-concludes (opens c) true c t w o h (planOpening c)
-      (λ v. rw (opening-decided (serverIn connectionCount t w) c (stands h)) (opening-planned v c (tableOf connectionCount t) (h .bytes .rules))) refl refl
-      (opening-fitting (wordsGiven 0 (argumentAt [] noEnds 0) (argumentAt [] noEnds 1) (argumentAt [] noEnds 2)) c (tableOf connectionCount t) (whole t (sound (h .bytes)))))
+      (λ v. rw (opening-decided (serverIn connectionCount t w) c (stands h)) (opening-planned v c (tableOf connectionCount t) (h .bytes .rules))) refl All.none zero-le
+      (opening-fitting noWords c (tableOf connectionCount t) (whole t (sound (h .bytes)))))
 
   pub closing-concludes : Admitted false c t w o → plan ≡ planClosing c → Concludes (closes c) plan c t w o ends
-  unfolding opaqueOf serverIn
+  unfolding opaqueOf serverIn ordered
   closing-concludes h e =
       rw (none, e)
       (quiet-concludes (closes c) false c t w o h (planClosing c)
-      (λ v. rw (closing-decided (serverIn connectionCount t w) c (stands h)) (closing-planned v c (tableOf connectionCount t) (h .bytes .rules))) refl refl
-      (closing-fitting (wordsGiven 0 (argumentAt [] noEnds 0) (argumentAt [] noEnds 1) (argumentAt [] noEnds 2)) c (tableOf connectionCount t) (whole t (sound (h .bytes))) (h .inside)))
+      (λ v. rw (closing-decided (serverIn connectionCount t w) c (stands h)) (closing-planned v c (tableOf connectionCount t) (h .bytes .rules))) refl All.none zero-le
+      (closing-fitting noWords c (tableOf connectionCount t) (whole t (sound (h .bytes))) (h .inside)))
