@@ -9,7 +9,7 @@ use Rattle.server.specs.Table.{closed}
 use Rattle.server.specs.Layout.{tableOf}
 use Rattle.server.specs.Call.{tooShort, isSound}
 
--- 01: "3: connection not open", "4: open for an open connection": by whether it is open and whether it is to be opened
+-- 01, rows 3 and 4: "packet or close, connection not open", "open, already open": by whether it is open and whether it is to be opened
 unfoldable pub stateRefusal : Bool → Bool → ℕ
 stateRefusal isOpen toOpen = cond isOpen (cond toOpen 4 0) (cond toOpen 0 3)
 

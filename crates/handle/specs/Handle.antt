@@ -4,7 +4,7 @@ use mathlib.Core.Bool.{cond, _&&_}
 use mathlib.Core.List.{[], _∷_, _++_}
 use lib.ListN.{length, take, drop, replicate}
 use lib.Dec.{ltb}
-use Rattle.octets.specs.Bytes.{Bytes, same, within}
+use Rattle.octets.specs.Bytes.{Bytes, same, within, text}
 use Rattle.handle.specs.declared.Handle as H
 use Rattle.handle.specs.declared.Serial as S
 use Rattle.handle.specs.declared.Serial.the-variants as SV
@@ -24,7 +24,7 @@ handle name serial = 72 ∷ 58 ∷ (name ++ (58 ∷ decimal serial))
 
 -- the name that document 01 gives
 abbrev pub lap : Bytes
-lap = 108 ∷ 97 ∷ 112 ∷ []
+lap = text "lap"
 
 -- the number that digits make, after the number a
 unfoldable pub value : ℕ → Bytes → ℕ
@@ -33,9 +33,9 @@ value a (d ∷ ds) = value (a * 10 + (d - 48)) ds
 
 -- the serial of which a text is the handle. A handle matches as exact text: no leading zero, no sign, nothing after it.
 unfoldable pub serialOf : Bytes → Bytes → S.Serial
-serialOf name text =
-    let n = value 0 (drop (3 + length name) text) in
-    cond (within 1 4294967295 n && same (handle name n) text) (SV.Of n) SV.None
+serialOf name s =
+    let n = value 0 (drop (3 + length name) s) in
+    cond (within 1 4294967295 n && same (handle name n) s) (SV.Of n) SV.None
 
 -- a text in exactly n bytes, followed by zeros
 abbrev pub padded : ℕ → Bytes → Bytes

@@ -159,16 +159,17 @@ isOwn StatusAnswer = true
 abbrev pub separatorsOf : Shape → ℕ
 separatorsOf s = length (rulesOf s) - 1
 
--- 000: "Jobs submitted with one of the HIGH versions always take precedence, and jobs submitted with the normal versions take
--- precedence over the LOW versions." High is 2, normal 1; low, and what is no submission, 0.
+-- the number is one of these
 abbrev pub oneOf : List ℕ → ℕ → Bool
 oneOf [] kind = false
 oneOf (k ∷ ks) kind = eqb k kind || oneOf ks kind
 
+-- 000: "Jobs submitted with one of the HIGH versions always take precedence, and jobs submitted with the normal versions take
+-- precedence over the LOW versions." High is 2, normal 1; low, and what is no submission, 0.
 unfoldable pub priorityOf : ℕ → ℕ
 priorityOf kind = cond (oneOf (21 ∷ 32 ∷ []) kind) 2 (cond (oneOf (7 ∷ 18 ∷ []) kind) 1 0)
 
--- 01: "18 (BG), 32 (HIGH_BG), 34 (LOW_BG)"
+-- 01: "7, 18 (BG), 21 (HIGH), 32 (HIGH_BG), 33 (LOW), 34 (LOW_BG) SUBMIT_JOB"
 unfoldable pub backgroundOf : ℕ → Bool
 backgroundOf kind = oneOf (18 ∷ 32 ∷ 34 ∷ []) kind
 

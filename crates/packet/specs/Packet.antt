@@ -10,7 +10,8 @@ use Rattle.packet.specs.declared.Shape.{Shape}
 use Rattle.packet.specs.Layout.{requestShape, responseShape, isOwn, rulesOf}
 use Rattle.packet.specs.Arguments.{Parts, bad, parts, split, fitAll, join}
 
--- one way of the line: its magic, the most data that a packet of it has, and the shape of each of its types
+-- one way of the line: its magic, the most data that a packet of it has, and the shape of each of its types. 01: "For a response, 6, 7
+-- and 9 mean its own magic, its own limit and the sent types."
 pub record Direction : Type 0 where
   pub magic : Bytes
   pub most : ℕ
@@ -18,11 +19,11 @@ pub record Direction : Type 0 where
 
 -- 01: "00 52 45 51 for a request", "request data 0 to 1,024"
 abbrev pub requests : Direction
-requests = record { magic = 0 ∷ 82 ∷ 69 ∷ 81 ∷ []; most = 1024; shape = requestShape }
+requests = record { magic = 0x00 ∷ 0x52 ∷ 0x45 ∷ 0x51 ∷ []; most = 1024; shape = requestShape }
 
 -- 01: "00 52 45 53 for a response", "response data 0 to 1,088"
 abbrev pub responses : Direction
-responses = record { magic = 0 ∷ 82 ∷ 69 ∷ 83 ∷ []; most = 1088; shape = responseShape }
+responses = record { magic = 0x00 ∷ 0x52 ∷ 0x45 ∷ 0x53 ∷ []; most = 1088; shape = responseShape }
 
 -- ---- reading
 
@@ -62,7 +63,8 @@ read w s = afterHeader (header (w .magic) (w .most) s) (body (w .shape (numberAt
 unfoldable pub packet : Bytes → ℕ → Bytes → Bytes
 packet magic kind d = magic ++ (bigEndian kind ++ (bigEndian (length d) ++ d))
 
--- the first `count` of five arguments; a count above five stands for empty ones, which no type has
+-- a writer is handed five arguments and how many of them count. Above five there are only empty ones: no type has so many, so that such
+-- a count is refused
 unfoldable pub given : ℕ → Bytes → Bytes → Bytes → Bytes → Bytes → List Bytes
 given count a b c d e = take count (a ∷ b ∷ c ∷ d ∷ e ∷ replicate count [])
 

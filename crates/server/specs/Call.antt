@@ -1,4 +1,4 @@
--- Each public call as one function of the lent bytes: number, length, output, table, workloads. 01, "What should be built" and
+-- Each public call as one function of the lent bytes: number, length, output, table, workloads. 01, "The hub's part" and
 -- "Refusal numbers". Assumes nothing.
 use Prim.Native.Nat.{ℕ, _*_}
 use mathlib.Core.Bool.{Bool, not, cond, _&&_, _||_}

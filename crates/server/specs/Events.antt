@@ -82,7 +82,8 @@ forgot t = withFunctions (mapFrom (λ q x. cond (wanted (rowsOf t) q (x .able)) 
 abbrev pub noop : ℕ → Send
 noop c = plain c 6 []
 
--- done: lost jobs are dropped, sleepers with a grabbable job are woken, functions that nobody wants are forgotten
+-- done: lost jobs are dropped, sleepers with a grabbable job are woken, functions that nobody wants are forgotten. 01: "Requests with no
+-- packet named here or in document 000 send none."
 unfoldable pub settle : List Send → Table → Decision
 settle ss t = record { number = 0; packets = ss ++ map noop (toWake (dropped t)); table = forgot (woken (dropped t)) }
 
@@ -91,10 +92,12 @@ settle ss t = record { number = 0; packets = ss ++ map noop (toWake (dropped t))
 unfoldable pub opening : ℕ → Table → Table
 opening c t = setConnection t c justOpened
 
--- a job that connection c leaves. 01: "leave all listener sets"; "held jobs return to the queue"; its two texts are then "`0` and `0`"
+-- 01: "Close, in this order: leave all listener sets"
 abbrev pub deafTo : ℕ → JobRow → JobRow
 deafTo c r = withListeners (remove (r .listeners) c) r
 
+-- a job that connection c leaves. 01: "held jobs return to the queue"; the two texts are "`0` and `0` at first and after a return to the
+-- queue". 01: "A held job with no listener otherwise stays held."
 abbrev pub leftBy : ℕ → Job → Job
 leftBy c j =
     cond (heldBy c (j .row))
@@ -114,10 +117,12 @@ abbrev pub ableTo : ℕ → Bytes → Function → Function
 ableTo c f x = withName f (withAble (insert (x .able) c) x)
 
 -- 01: "11: CAN_DO or a new job names an unknown function while 16 are known"
+-- 01: "CAN_DO by a sleeper with such a job answers NOOP and wakes it": at the end of the event
 unfoldable pub canDoAt : Option ℕ → ℕ → Bytes → Table → Decision
 canDoAt none c f t = refuse c 11 t
 canDoAt (some q) c f t = settle [] (setFunction t q (ableTo c f (functionAt t q)))
 
+-- 01: "Giving up an ability leaves held jobs."
 unfoldable pub cantDoAt : Option ℕ → ℕ → Table → Decision
 cantDoAt none c t = settle [] t
 cantDoAt (some q) c t = settle [] (setFunction t q (unable c (functionAt t q)))
@@ -131,7 +136,7 @@ unableToAll c t = withFunctions (map (unable c) (t .functions)) t
 unfoldable pub sleeping : Bool → ℕ → Table → Table
 sleeping b c t = setConnection t c (withAsleep b (connectionAt t c))
 
--- 01: "NO_JOB exactly if there is none"
+-- 01: "Grabbing ends sleep." "NO_JOB exactly if there is none. A connection may hold several."
 unfoldable pub grabAt : Option ℕ → Bool → ℕ → Table → Decision
 grabAt none uniq c t = settle (plain c 10 [] ∷ []) t
 grabAt (some p) uniq c t = settle (assign uniq c p ∷ []) (setJob t p (withRow (withHolder (suc c) (jobAt t p .row)) (jobAt t p)))
@@ -146,14 +151,15 @@ submittedBy c false r = withListeners (insert (r .listeners) c) r
 abbrev pub created : ℕ → ℕ → Send
 created c serial = plain c 8 (handle lap serial ∷ [])
 
--- 01: "takes [..] the next serial"
+-- 01: "a new job takes the lowest free place and the next serial"; "Serials are never used again."
 abbrev pub newJob : ℕ → ℕ → Bool → ℕ → Bytes → ℕ → ℕ → Job
 newJob c priority background q u size serial = unstarted (submittedBy c background (freshRow serial q priority size)) u
 
 abbrev pub accepted : ℕ → Bytes → ℕ → Job → Table → Table
 accepted q f p j t = withLastSerial (suc (t .last)) (setJob (setFunction t q (withName f (functionAt t q))) p j)
 
--- refusals 11 to 13 in order: a place for the function, a place for the job, a serial
+-- refusals 11 to 13 in order: a place for the function, a place for the job, a serial. 01: "JOB_CREATED goes out first. For a new job, NOOP
+-- then goes to each sleeper able to do it": at the end of the event
 unfoldable pub submitNew : Option ℕ → Option ℕ → ℕ → ℕ → Bool → Bytes → Bytes → ℕ → Table → Decision
 submitNew none place c priority background f u size t = refuse c 11 t
 submitNew (some q) none c priority background f u size t = refuse c 12 t

@@ -15,6 +15,7 @@ use Rattle.server.specs.Table.{Function, Job, Table, connectionAt, funct
 
 -- ---- serials: "serials distinct, from 1 and below the next, which is at most 4,294,967,296"
 
+-- four bytes hold no greater last serial, so that this is true of every table that comes from bytes
 abbrev pub nextSmall : Table → Bool
 nextSmall t = ltb (t .last) 4294967296
 

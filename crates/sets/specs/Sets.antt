@@ -15,7 +15,7 @@ insert s c = cond (has s c) s (s + 2 ^ c)
 unfoldable pub remove : ℕ → ℕ → ℕ
 remove s c = cond (has s c) (s - 2 ^ c) s
 
--- the connections of both sets
+-- the connections of the one set and of the other
 unfoldable pub union : ℕ → ℕ → ℕ
 union s t = bitOr s t
 
