@@ -35,9 +35,9 @@ module _ (t w o : Bytes) where
     sent-few = omega (arith, length-take-le l p sent-inside, output-few t w o v (left n l p u s) q)
 
     pub frame-told : (room : ℕ) (say : Speech) (line x : Bytes) → room ≤ length x → v ≡ frame line → (r : ℕ) (y : Bytes)
-        → (r ≡ 0 + length (say v (packetsIn (take l p)) n (tableOf connectionCount u))) × (y ≡ put 0 (say v (packetsIn (take l p)) n (tableOf connectionCount u)) x)
+        → (r ≡ 0 + length (say v (packetsIn (take l p)) n (tableOf connectionCount t) (tableOf connectionCount u))) × (y ≡ put 0 (say v (packetsIn (take l p)) n (tableOf connectionCount t) (tableOf connectionCount u)) x)
         → telling r y p u s ≡ told room say line t w o x
     unfolding told toldOf
     frame-told room say line x h e r y g =
         rw (le-ltb (length x) room h, ← e, g .0, zero-add, g .1, output-packets t w o v (left n l p u s) q)
-        (ap (λ (z : Result). saying (say v (packetsTo v t w o) (z .number) (tableOf connectionCount (z .table))) x (z .output) (z .table) (z .workloads)) q)
+        (ap (λ (z : Result). saying (say v (packetsTo v t w o) (z .number) (tableOf connectionCount t) (tableOf connectionCount (z .table))) x (z .output) (z .table) (z .workloads)) q)

@@ -36,7 +36,7 @@ laid-start s b h = ap (take (length s)) (put-start s b h) ∙ take-append-seam s
 -- ---- words that fit into a text: those of packets that fit into the output
 
 abbrev pub Fits : ℕ → Speech → Type 0
-Fits room say = (f : Option Event) (ps : List Bytes) (n : ℕ) (t : Table) → Addressed ps → length (concat ps) ≤ outputSize connectionCount → length (say f ps n t) ≤ room
+Fits room say = (f : Option Event) (ps : List Bytes) (n : ℕ) (u t : Table) → Addressed ps → length (concat ps) ≤ outputSize connectionCount → length (say f ps n u t) ≤ room
 
 -- ---- one frame
 
@@ -51,8 +51,8 @@ module _ (s : Server) (h : Running connectionCount s) where
 
   spoken-short : (room : ℕ) (say : Speech) → Fits room say → (f : Option Event) → length (spokenTo say f s) ≤ room
   unfolding sentBytes
-  spoken-short room say k none = k none [] 16 (s .table) tt (omega arith)
-  spoken-short room say k (some e) = k (some e) _ _ _ (sent-addressed e) (sent-few e)
+  spoken-short room say k none = k none [] 16 (s .table) (s .table) tt (omega arith)
+  spoken-short room say k (some e) = k (some e) _ _ _ _ (sent-addressed e) (sent-few e)
 
   running-after : (f : Option Event) → Running connectionCount (serverAfter f s)
   running-after none = h
@@ -89,15 +89,16 @@ module _ (s : Server) (h : Running connectionCount s) where
         → toldOf say f (tableWith s t) (workloadsWith s w) o x
         ≡ saying (spokenTo say f s) x (outputAfter f) (tableWith (serverAfter f s) t) (workloadsWith (serverAfter f s) w)
     unfolding toldOf outputAfter performed answeredTo packetsTo refusedBy
-    frame-follows say none x = ap (λ (u : Table). saying (say none [] 16 u) x o (tableWith s t) (workloadsWith s w)) (table-back none)
+    frame-follows say none x = ap (λ (u : Table). saying (say none [] 16 u u) x o (tableWith s t) (workloadsWith s w)) (table-back none)
     frame-follows say (some e) x =
         let r = answeredTo (some e) (tableWith s t) (workloadsWith s w) o in
         let n = answer e s .number in
-        ap (λ (ps : List Bytes). saying (say (some e) ps (r .number) (tableOf connectionCount (r .table))) x (r .output) (r .table) (r .workloads)) (packets-sent e)
-        ∙ ap (λ (z : Result). saying (say (some e) (map addressed (answer e s .sent)) (z .number) (tableOf connectionCount (z .table))) x (z .output) (z .table) (z .workloads))
+        let b = tableOf connectionCount (tableWith s t) in
+        ap (λ (ps : List Bytes). saying (say (some e) ps (r .number) b (tableOf connectionCount (r .table))) x (r .output) (r .table) (r .workloads)) (packets-sent e)
+        ∙ ap (λ (z : Result). saying (say (some e) (map addressed (answer e s .sent)) (z .number) b (tableOf connectionCount (z .table))) x (z .output) (z .table) (z .workloads))
         (call-follows connectionCount (omega arith) s h t w lt lw e o lo)
-        ∙ ap (λ (u : Table). saying (say (some e) (map addressed (answer e s .sent)) n u) x (outputAfter (some e)) (tableWith (next e s) t) (workloadsWith (next e s) w))
-        (table-back (some e))
+        ∙ ap₂ {C = Told} (λ (v u : Table). saying (say (some e) (map addressed (answer e s .sent)) n v u) x (outputAfter (some e)) (tableWith (next e s) t) (workloadsWith (next e s) w))
+        (table-back none) (table-back (some e))
 
     line-follows : (room : ℕ) (say : Speech) (line x : Bytes) → room ≤ length x
         → told room say line (tableWith s t) (workloadsWith s w) o x

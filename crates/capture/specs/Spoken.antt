@@ -30,9 +30,9 @@ packetsTo (some e) t w o = cond (tooShort connectionCount t w o || not (isSound 
 
 -- ---- what is said
 
--- what is said of a line: from its frame's event, the packets that are sent, the number, and the table after it
+-- what is said of a line: from its frame's event, the packets that are sent, the number, and the tables before and after it
 abbrev pub Speech : Type 0
-Speech = Option Event → List Bytes → ℕ → Table → Bytes
+Speech = Option Event → List Bytes → ℕ → Table → Table → Bytes
 
 -- what a line says and leaves
 pub record Told : Type 0 where
@@ -52,7 +52,7 @@ saying words text output table workloads = telling (length words) (put 0 words t
 unfoldable pub toldOf : Speech → Option Event → Bytes → Bytes → Bytes → Bytes → Told
 toldOf say f t w o x =
     let r = answeredTo f t w o in
-    saying (say f (packetsTo f t w o) (r .number) (tableOf connectionCount (r .table))) x (r .output) (r .table) (r .workloads)
+    saying (say f (packetsTo f t w o) (r .number) (tableOf connectionCount t) (tableOf connectionCount (r .table))) x (r .output) (r .table) (r .workloads)
 
 -- a text with too little room: nothing is said, and nothing changed
 unfoldable pub told : ℕ → Speech → Bytes → Bytes → Bytes → Bytes → Bytes → Told
@@ -69,8 +69,8 @@ said room says k (line ∷ lines) t w o x =
 
 -- by the server itself
 abbrev pub spokenTo : Speech → Option Event → Server → Bytes
-spokenTo say none s = say none [] 16 (s .table)
-spokenTo say (some e) s = say (some e) (map addressed (answer e s .sent)) (answer e s .number) (next e s .table)
+spokenTo say none s = say none [] 16 (s .table) (s .table)
+spokenTo say (some e) s = say (some e) (map addressed (answer e s .sent)) (answer e s .number) (s .table) (next e s .table)
 
 abbrev pub serverAfter : Option Event → Server → Server
 serverAfter none s = s

@@ -45,9 +45,9 @@ unfolding answerLines packetLines hex
 lines-answer ps n = refl
 
 -- what isn't a frame is answered by 16 alone
-pub no-frame-digits : (t : Table) → inDigits none [] 16 t ≡ noFrame
+pub no-frame-digits : (u t : Table) → inDigits none [] 16 u t ≡ noFrame
 unfolding answerLines
-no-frame-digits t = refl
+no-frame-digits u t = refl
 
 module _ (ps : List Bytes) (n end : ℕ) (e : end ≡ 0 + length (packetLines lineOf ps)) where
   pub answer-place : (r : ℕ) → r ≡ end + length (lineOf (n ∷ [])) → r ≡ 0 + length (answerLines ps n)

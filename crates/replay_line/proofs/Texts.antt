@@ -16,7 +16,7 @@ use Rattle.replay_line.specs.Replayed.{lineOf, inDigits, textSize, repla
 use Rattle.replay_line.proofs.Digits.{line-length, line-short, lines-answer}
 
 digits-fit : Fits textSize inDigits
-digits-fit f ps n t a h =
+digits-fit f ps n u t a h =
     omega (arith, ap length (lines-answer ps n), length-append (packetLines lineOf ps) (lineOf (n ∷ [])), lines-short lineOf 3 line-short ps a, line-length (n ∷ []))
 
 pub replay-text : (t w : Bytes) → tableSize connectionCount ≤ length t → workloadsSize ≤ length w → (lines : List Bytes) (o x : Bytes) → outputSize connectionCount ≤ length o → textSize ≤ length x

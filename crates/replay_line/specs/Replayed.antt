@@ -14,7 +14,7 @@ lineOf p = hex p ++ (10 ∷ [])
 
 -- the lines of the answer; the number of what isn't a frame is 16
 abbrev pub inDigits : Speech
-inDigits f ps n t = answerLines ps n
+inDigits f ps n u t = answerLines ps n
 
 -- room for what any line says: two digits for each byte of the longest output, less than one line end for each of them, and the
 -- number's line

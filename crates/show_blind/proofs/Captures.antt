@@ -8,6 +8,7 @@ use lib.ListN.{length}
 use Rattle.octets.specs.Bytes.{Bytes}
 use Rattle.server.specs.Sizes.{connectionCount, workloadsSize, outputSize}
 use Rattle.server.specs.Requests.{Event}
+use Rattle.server.specs.Table.{Table}
 use Rattle.server.specs.Server.{Server, start}
 use Rattle.server.specs.Layout.{tableSize}
 use Rattle.server.specs.Call.{make}
@@ -41,7 +42,7 @@ record Pair (s r : Server) : Type 0 where
 
 module _ (s r : Server) (p : Pair s r) where
   spoken-alike : {f g : Option Event} → AlikeFrames f g → (k : ℕ) → spokenTo (lineText k) f s ≡ spokenTo (lineText k) g r
-  spoken-alike nothing k = ap (lineText k none [] 16) (p .tables)
+  spoken-alike nothing k = ap (λ (t : Table). lineText k none [] 16 t t) (p .tables)
   spoken-alike (alike a) k = words-alike a s r (p .first) (p .second) (p .tables) k
 
   pair-after : {f g : Option Event} → AlikeFrames f g → Pair (serverAfter f s) (serverAfter g r)

@@ -22,8 +22,8 @@ use Rattle.show_packet.proofs.Blind.{request-line-alike, response-line-alike}
 use Rattle.show_table.specs.Standing.{below}
 use Rattle.capture.specs.Packets.{packetLines}
 use Rattle.capture.specs.Spoken.{spokenTo}
-use Rattle.show_parts.specs.Parts.{answerText, eventText, headingText, jobsAfter, namedText, sentText, tableText}
-use Rattle.show_line.specs.Shown.{lineText}
+use Rattle.show_parts.specs.Parts.{answerText, eventText, headingText, jobsAfter, packetJobs, sentText, tableText}
+use Rattle.show_line.specs.Shown.{lineText, lineWith}
 use Rattle.show_blind.proofs.Concerned.{concerned-alike}
 use Rattle.show_blind.proofs.Headers.{digits-alike}
 
@@ -51,15 +51,15 @@ packets-alike (All2.more {a = p} {b = q} a rest) = ap₂ {C = Bytes} (λ (x y : 
 -- ---- the jobs, and the line
 
 module _ {ps qs : List Sent} (r : All2 AlikeSent ps qs) where
-  jobs-alike : {e f : Event} → Alike e f → (n : ℕ) (rs : List JobRow) → jobsAfter (some e) (map addressed ps) n rs ≡ jobsAfter (some f) (map addressed qs) n rs
+  jobs-alike : {e f : Event} → Alike e f → (n : ℕ) (u v : List JobRow) → jobsAfter (some e) (map addressed ps) n u v ≡ jobsAfter (some f) (map addressed qs) n u v
   unfolding jobsAfter
-  jobs-alike opening n rs = refl
-  jobs-alike closing n rs = refl
-  jobs-alike (sending {a = a} {b = b} v l) n rs = ap (λ (s : S.Serial). namedText s rs) (concerned-alike a b v l r)
+  jobs-alike opening n u v = refl
+  jobs-alike closing n u v = refl
+  jobs-alike (sending {a = a} {b = b} w l) n u v = ap (λ (s : S.Serial). packetJobs s u v) (concerned-alike a b w l r)
 
-  line-alike : {e f : Event} → Alike e f → (k n : ℕ) (t : Table) → lineText k (some e) (map addressed ps) n t ≡ lineText k (some f) (map addressed qs) n t
-  unfolding lineText headingText answerText tableText
-  line-alike a k n t = rw (digits-alike a, event-alike a, packets-alike r, jobs-alike a n _)
+  line-alike : {e f : Event} → Alike e f → (k n : ℕ) (u t : Table) → lineText k (some e) (map addressed ps) n u t ≡ lineText k (some f) (map addressed qs) n u t
+  unfolding lineWith headingText answerText tableText
+  line-alike a k n u t = rw (digits-alike a, event-alike a, packets-alike r, jobs-alike a n _ _)
 
 -- ---- two servers
 
@@ -68,5 +68,6 @@ pub words-alike : {e f : Event} → Alike e f → (s r : Server) → Running con
 words-alike {e} {f} a s r h g q k =
     let b = answer-alike a s r q in
     let ps : All2 AlikeSent (answer e s .sent) (answer f r .sent) = all-alike (b .sent) (sent-apt 16 e s h) (sent-apt 16 f r g) in
-    line-alike ps a k (answer e s .number) (next e s .table)
-    ∙ ap₂ {C = Bytes} (λ (n : ℕ) (t : Table). lineText k (some f) (map addressed (answer f r .sent)) n t) (b .number) (table-alike a s r q)
+    line-alike ps a k (answer e s .number) (s .table) (next e s .table)
+    ∙ ap (λ (u : Table). lineText k (some f) (map addressed (answer f r .sent)) (answer e s .number) u (next e s .table)) q
+    ∙ ap₂ {C = Bytes} (λ (n : ℕ) (t : Table). lineText k (some f) (map addressed (answer f r .sent)) n (r .table) t) (b .number) (table-alike a s r q)

@@ -3,12 +3,13 @@
 use Prim.Native.Nat.{ℕ, _+_, _*_, _≤_}
 use mathlib.Core.Path.{_≡_, ap, _∙_}
 use mathlib.Core.Option.{Option}
-use mathlib.Core.List.{_++_}
+use mathlib.Core.List.{List, _++_}
 use native.Mathlib.Omega.{arith}
 use lib.ListN.{length}
 use Rattle.octets.specs.Bytes.{Bytes}
 use Rattle.octets.specs.Put.{put}
 use Rattle.octets.proofs.Laying.{length-put}
+use Rattle.server.specs.declared.JobRow.{JobRow}
 use Rattle.server.specs.Sizes.{connectionCount, outputSize}
 use Rattle.server.specs.Table.{Table}
 use Rattle.server.specs.Requests.{Event}
@@ -17,10 +18,10 @@ use Rattle.capture.proofs.Cutting.{packets-in}
 use Rattle.octets.proofs.Runs.{laid-then, laid-third, room-first, room-second, room-then, room-third}
 use Rattle.show_parts.specs.Parts.{answerText, headingText, tableText}
 use Rattle.show_parts.proofs.Bounds.{heading-short}
-use Rattle.show_line.specs.Shown.{lineEnd, lineText, textSize}
-use Rattle.show_line.proofs.Bounds.{line-fits}
+use Rattle.show_line.specs.Shown.{lineEnd, lineWith, textSize}
+use Rattle.show_line.proofs.Bounds.{line-short}
 
-module _ (k : ℕ) (f : Option Event) (b : Bytes) (n : ℕ) (t : Table) (x : Bytes) where
+module _ (k : ℕ) (f : Option Event) (b : Bytes) (n : ℕ) (before : List JobRow) (t : Table) (x : Bytes) where
   abbrev heading : Bytes
   heading = headingText k f
 
@@ -28,21 +29,21 @@ module _ (k : ℕ) (f : Option Event) (b : Bytes) (n : ℕ) (t : Table) (x : Byt
   answer = answerText (packetsIn b) n
 
   abbrev standing : Bytes
-  standing = tableText f (packetsIn b) n t
+  standing = tableText f (packetsIn b) n before t
 
   -- x is laid over the text from `at` on, up to the place p
   abbrev Laid : ℕ → Bytes → Bytes → ℕ → Bytes → Type 0
   Laid at y z p o = (p ≡ at + length y) × (o ≡ put at y z)
 
   module _ (packed : Packed b) (few : length b ≤ outputSize connectionCount) (long : textSize ≤ length x) where
-    all : 0 + length (lineText k f (packetsIn b) n t) ≤ length x
+    all : 0 + length (lineWith k f (packetsIn b) n before t) ≤ length x
     all =
         let q : packetsIn b ≡ packed .packets = packets-in b (packed .packets) (packed .formed) (packed .whole) in
-        let l : length (lineText k f (packetsIn b) n t) ≤ textSize = rw q (line-fits k f (packed .packets) n t (packed .formed) (omega (arith, ap length (packed .whole)))) in
+        let l : length (lineWith k f (packetsIn b) n before t) ≤ textSize = rw q (line-short k f (packed .packets) n before t (packed .formed) (omega (arith, ap length (packed .whole)))) in
         omega (arith, l)
 
     pub heading-room : 0 + length heading ≤ length x
-    unfolding lineText
+    unfolding lineWith
     heading-room = room-first 0 heading (answer ++ (standing ++ lineEnd)) (length x) all
 
     module _ (p : ℕ) (o : Bytes) (e : Laid 0 heading x p o) where
@@ -50,12 +51,12 @@ module _ (k : ℕ) (f : Option Event) (b : Bytes) (n : ℕ) (t : Table) (x : Byt
       packets-room = omega (arith, e .0, ap length (e .1) ∙ length-put 0 heading x, heading-short k f)
 
       pub answer-room : p + length answer ≤ length o
-      unfolding lineText
+      unfolding lineWith
       answer-room = room-second 0 heading answer (standing ++ lineEnd) x p o e all
 
       module _ (q : ℕ) (u : Bytes) (g : Laid p answer o q u) where
         rest-room : q + length (standing ++ lineEnd) ≤ length u
-        unfolding lineText
+        unfolding lineWith
         rest-room = room-third 0 heading answer (standing ++ lineEnd) x p o e q u g all
 
         pub table-room : q + length standing ≤ length u
@@ -65,6 +66,6 @@ module _ (k : ℕ) (f : Option Event) (b : Bytes) (n : ℕ) (t : Table) (x : Byt
         end-room r v h = room-then q standing lineEnd u r v h rest-room
 
   pub line-laid : (p : ℕ) (o : Bytes) → Laid 0 heading x p o → (q : ℕ) (u : Bytes) → Laid p answer o q u → (r : ℕ) (v : Bytes) → Laid q standing u r v → (i : ℕ) (z : Bytes) → Laid r lineEnd v i z
-      → Laid 0 (lineText k f (packetsIn b) n t) x i z
-  unfolding lineText
+      → Laid 0 (lineWith k f (packetsIn b) n before t) x i z
+  unfolding lineWith
   line-laid p o e q u g r v h i z l = laid-third 0 heading answer (standing ++ lineEnd) x p o e q u g i z (laid-then q standing lineEnd u r v h i z l)

@@ -1,26 +1,27 @@
 -- The words as the code keeps them: a row of zeros after each, and the word read back from its row. Assumes nothing.
 use Prim.Native.Nat.{ℕ, zero, suc, _+_, _<_, _≤_}
 use mathlib.Core.Path.{_≡_, refl, sym, ap, _∙_}
-use mathlib.Core.Bool.{Bool, true, false, _&&_}
+use mathlib.Core.Bool.{Bool, true, false, cond, _&&_}
 use mathlib.Core.List.{List, [], _∷_, _++_, map}
 use native.Mathlib.Nat.{le-of-suc-le-suc, not-suc-le-zero, zero-add}
 use native.Mathlib.Omega.{arith}
+use borrow.Author.Tests.{le-leb, lt-leb}
 use lib.Dec.{T, eqb, eqb→eq}
 use lib.ListN.{length, getD, take, replicate, List·getD-eq-default, length-append, length-replicate, length-take}
 use lib.Seq.{length-take-le}
 use mir.Facts.{and-yes}
-use Rattle.octets.specs.Bytes.{Bytes, same, firstZero}
+use Rattle.octets.specs.Bytes.{Bytes, same, firstZero, within}
 use Rattle.octets.specs.Put.{put}
 use Rattle.octets.proofs.Strings.{same-is}
 use Rattle.packet.specs.declared.Shape.{Shape}
 use Rattle.packet.specs.declared.Shape.the-variants.{Foreign, Empty, Function, Submission, WorkStatus, WorkData, Handle, Echo, OptionName, Assignment, UniqueAssignment, Error, StatusAnswer}
 use Rattle.handle.specs.Handle.{decimal, decimalIn, padded}
-use Rattle.handle.proofs.Decimal.{decimal-in-most}
+use Rattle.handle.proofs.Decimal.{decimal-in-most, decimal-most}
 use Rattle.handle.proofs.Printing.{put-padded, take-padded}
 use Rattle.packet.specs.Layout.{rulesOf}
 use Rattle.packet_kinds.proofs.Shapes.{at-most-five}
 use Rattle.packet_kinds.proofs.Tests.{at-place, each}
-use Rattle.show_names.specs.Names.{labelOf, labelRows, labelsOf, nameOf, names, reasonOf, reasons, unknown, word}
+use Rattle.show_names.specs.Names.{labelOf, labelRows, labelsOf, nameOf, names, reasonOf, reasons, typeWord, unknown, word}
 
 -- a word in a row of this width is read back from it: a test that antt computes for each word of a list
 readable : ℕ → Bytes → Bool
@@ -34,9 +35,23 @@ words-readable : (width : ℕ) (l : List Bytes) (d : Bytes) → T (readable widt
 unfolding readable
 words-readable width l d t ts i = same-is _ _ (told _ (at-place (readable width) l d t ts i))
 
-pub name-word : (kind : ℕ) → word (padded 18 (nameOf kind)) ≡ nameOf kind
-unfolding nameOf readable word same firstZero
-name-word kind = words-readable 18 names unknown tt tt kind
+pub name-word : (kind : ℕ) → word (padded 18 (getD names kind [])) ≡ getD names kind []
+unfolding readable word same firstZero
+name-word kind = words-readable 18 names [] tt tt kind
+
+-- by the tests of the code
+module _ (kind : ℕ) where
+  pub type-low : kind < 1 → typeWord ++ decimal kind ≡ nameOf kind
+  unfolding nameOf
+  type-low h = rw (lt-leb 1 kind h)
+
+  pub type-high : 36 < kind → typeWord ++ decimal kind ≡ nameOf kind
+  unfolding nameOf
+  type-high h = rw (le-leb 1 kind (omega arith), lt-leb kind 36 h)
+
+  pub type-named : 1 ≤ kind → kind ≤ 36 → getD names kind [] ≡ nameOf kind
+  unfolding nameOf
+  type-named l h = rw (le-leb 1 kind l, le-leb kind 36 h)
 
 pub reason-word : (number : ℕ) → word (padded 23 (reasonOf number)) ≡ reasonOf number
 unfolding reasonOf readable word same firstZero
@@ -122,7 +137,12 @@ word-short width t e =
     omega (arith, ap length e, length-take (firstZero (padded width t)) (padded width t), length-take width (t ++ replicate width 0))
 
 pub name-short : (kind : ℕ) → length (nameOf kind) ≤ 18
-name-short kind = word-short 18 (nameOf kind) (name-word kind)
+unfolding nameOf
+name-short kind = either (within 1 36 kind)
+  where
+    either : (b : Bool) → length (cond b (getD names kind []) (typeWord ++ decimal kind)) ≤ 18
+    either true = word-short 18 (getD names kind []) (name-word kind)
+    either false = omega (arith, decimal-most kind)
 
 pub reason-short : (number : ℕ) → length (reasonOf number) ≤ 23
 reason-short number = word-short 23 (reasonOf number) (reason-word number)

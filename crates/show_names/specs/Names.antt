@@ -1,25 +1,26 @@
 -- The words of a line that shows a packet: the protocol's name of each type, the label of each argument, and the reason of each
 -- refusal, as byte strings. Assumes nothing.
 use Prim.Native.Nat.{ℕ}
+use mathlib.Core.Bool.{cond}
 use mathlib.Core.List.{List, [], _∷_, _++_, map}
 use lib.ListN.{getD, take, replicate}
-use Rattle.octets.specs.Bytes.{Bytes, firstZero}
+use Rattle.octets.specs.Bytes.{Bytes, firstZero, within}
 use Rattle.packet.specs.declared.Shape.{Shape}
 use Rattle.packet.specs.declared.Shape.the-variants.{Foreign, Empty, Function, Submission, WorkStatus, WorkData, Handle, Echo, OptionName, Assignment, UniqueAssignment, Error, StatusAnswer}
-use Rattle.handle.specs.Handle.{padded}
+use Rattle.handle.specs.Handle.{decimal, padded}
 
 -- between two words
 abbrev pub space : Bytes
 space = 32 ∷ []
 
--- the word for a number that has none
+-- the reason of a number that has none
 abbrev pub unknown : Bytes
 unknown = 63 ∷ []  -- ?
 
--- 000, "an enumerated packet type": the names by number
+-- 000, "an enumerated packet type": the names by number, from 1 to 36
 abbrev pub names : List Bytes
 names =
-    (63 ∷ [])  -- 0 ?
+    []  -- 0 is no type
     ∷ (67 ∷ 65 ∷ 78 ∷ 95 ∷ 68 ∷ 79 ∷ [])  -- 1 CAN_DO
     ∷ (67 ∷ 65 ∷ 78 ∷ 84 ∷ 95 ∷ 68 ∷ 79 ∷ [])  -- 2 CANT_DO
     ∷ (82 ∷ 69 ∷ 83 ∷ 69 ∷ 84 ∷ 95 ∷ 65 ∷ 66 ∷ 73 ∷ 76 ∷ 73 ∷ 84 ∷ 73 ∷ 69 ∷ 83 ∷ [])  -- 3 RESET_ABILITIES
@@ -58,8 +59,12 @@ names =
     ∷ (83 ∷ 85 ∷ 66 ∷ 77 ∷ 73 ∷ 84 ∷ 95 ∷ 74 ∷ 79 ∷ 66 ∷ 95 ∷ 69 ∷ 80 ∷ 79 ∷ 67 ∷ 72 ∷ [])  -- 36 SUBMIT_JOB_EPOCH
     ∷ []
 
+abbrev pub typeWord : Bytes
+typeWord = 116 ∷ 121 ∷ 112 ∷ 101 ∷ 32 ∷ []  -- type, and a space
+
+-- the name of a type; one that has none goes by its number: `type 39`
 unfoldable pub nameOf : ℕ → Bytes
-nameOf kind = getD names kind unknown
+nameOf kind = cond (within 1 36 kind) (getD names kind []) (typeWord ++ decimal kind)
 
 -- 01's refusals by number: the ERROR text from 9 to 15, and the words of the row for the others, which have no such text
 abbrev pub reasons : List Bytes

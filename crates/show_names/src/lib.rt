@@ -4,14 +4,15 @@
 use packet::Shape;
 ghost use mathlib.Core.Path.{_≡_};
 ghost use Prim.Native.Nat.{_+_, _≤_};
-ghost use lib.ListN.{length};
+ghost use mathlib.Core.List.{[], _++_};
+ghost use lib.ListN.{length, getD};
 ghost use Rattle.octets.specs.Put.{put};
 ghost use Rattle.handle.specs.Handle.{decimal, padded};
-ghost use Rattle.show_names.specs.Names.{labelOf, labelRows, nameOf, reasonOf, word};
+ghost use Rattle.show_names.specs.Names.{labelOf, labelRows, nameOf, names, reasonOf, typeWord, word};
 
-// The protocol's names of the types by number, each followed by zeros.
+// The protocol's names of the types 1 to 36, each followed by zeros.
 const NAMES: [[u8; 18]; 37] = [
-    *b"?\0\0\0\0\0\0\0\0\0\0\0\0\0\0\0\0\0",
+    [0; 18],
     *b"CAN_DO\0\0\0\0\0\0\0\0\0\0\0\0",
     *b"CANT_DO\0\0\0\0\0\0\0\0\0\0\0",
     *b"RESET_ABILITIES\0\0\0",
@@ -109,20 +110,33 @@ fn put_word(out: &mut [u8], at: usize, row: &[u8]) -> usize
 
 // The name of a type, followed by zeros.
 fn name_row(kind: u32) -> [u8; 18]
-    ensures { λ r. ⌜ r ≡ padded 18 (nameOf kind) ⌝ }
+    requires { ⌜ kind ≤ 36 ⌝ }
+    ensures { λ r. ⌜ r ≡ padded 18 (getD names kind []) ⌝ }
 {
-    if 36 < kind {
-        return NAMES[0];
-    }
     let row = kind as usize;
     NAMES[row]
 }
 
-// Lays the protocol's name of a type; `?` for a number that is no type.
+// Lays a type by its number.
+fn put_type(out: &mut [u8], at: usize, kind: u32) -> usize
+    requires { ⌜ at + length (typeWord ++ decimal kind) ≤ length (now out) ⌝ }
+    ensures { λ r. ⌜ (r ≡ at + length (typeWord ++ decimal kind)) × (now (out .exit) ≡ put at (typeWord ++ decimal kind) (now (out .entry))) ⌝ }
+{
+    let place = octets::put(out, at, b"type ");
+    put_number(out, place, kind)
+}
+
+// Lays the protocol's name of a type; the number of one that has none.
 pub fn put_name(out: &mut [u8], at: usize, kind: u32) -> usize
     requires { ⌜ at + length (nameOf kind) ≤ length (now out) ⌝ }
     ensures { λ r. ⌜ (r ≡ at + length (nameOf kind)) × (now (out .exit) ≡ put at (nameOf kind) (now (out .entry))) ⌝ }
 {
+    if kind < 1 {
+        return put_type(out, at, kind);
+    }
+    if 36 < kind {
+        return put_type(out, at, kind);
+    }
     let row = name_row(kind);
     put_word(out, at, &row)
 }

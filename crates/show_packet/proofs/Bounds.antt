@@ -25,7 +25,7 @@ use Rattle.show_names.specs.Pieces.{pieces}
 use Rattle.show_names.proofs.Pieces.{more-long}
 use Rattle.show_names.proofs.Words.{label-short, name-short, reason-short}
 use Rattle.show_packet.proofs.Seen.{length-seen}
-use Rattle.show_packet.specs.Lines.{argumentText, argumentTexts, bytesWord, fromServer, labelBefore, packetText, readText, refusalText, refusedText, requestLine, responseLine, saying, shown, sized, toServer, valueOf}
+use Rattle.show_packet.specs.Lines.{argumentText, argumentTexts, byteWord, bytesWord, closing, fromServer, labelBefore, packetText, readText, refusalText, refusedText, requestLine, responseLine, saying, shown, sized, toServer, unreadableText, valueOf}
 
 -- ---- one argument
 
@@ -34,12 +34,20 @@ unfolding shown
 shown-short [] = omega arith
 shown-short (x ∷ a) = omega (arith, length-seen (x ∷ a))
 
+size-short : (n : ℕ) → length (sized n) ≤ 16
+unfolding sized
+size-short n = either (eqb n 1)
+  where
+    either : (b : Bool) → length (decimal n ++ cond b byteWord bytesWord) ≤ 16
+    either true = omega (arith, length-append (decimal n) byteWord, decimal-most n)
+    either false = omega (arith, length-append (decimal n) bytesWord, decimal-most n)
+
 value-short : (rule : Rule) (a : Bytes) → length (valueOf rule a) ≤ length a + 16
-unfolding valueOf sized
+unfolding valueOf
 value-short rule a = either (isOpaque rule)
   where
-    either : (b : Bool) → length (cond b (decimal (length a) ++ bytesWord) (shown a)) ≤ length a + 16
-    either true = omega (arith, length-append (decimal (length a)) bytesWord, decimal-most (length a))
+    either : (b : Bool) → length (cond b (sized (length a)) (shown a)) ≤ length a + 16
+    either true = omega (arith, size-short (length a))
     either false = omega (arith, shown-short a)
 
 label-before-short : (shape : Shape) (i : ℕ) → length (labelBefore shape i) ≤ 12
@@ -87,13 +95,17 @@ pub refusal-short : (n : ℕ) → length (refusalText n) ≤ 42
 unfolding refusalText
 refusal-short n = omega (arith, length-append (decimal n) (space ++ reasonOf n), decimal-most n, reason-short n)
 
-refused-short : (kind n : ℕ) → length (refusedText kind n) ≤ 61
+unreadable-short : (n : ℕ) → length (unreadableText n) ≤ 37
+unfolding unreadableText
+unreadable-short n = omega (arith, length-append (reasonOf n) closing, reason-short n)
+
+refused-short : (kind n : ℕ) → length (refusedText kind n) ≤ 56
 unfolding refusedText
 refused-short kind n = either (ltb n 9)
   where
-    either : (b : Bool) → length (cond b (refusalText n) (nameOf kind ++ (space ++ refusalText n))) ≤ 61
-    either true = omega (arith, refusal-short n)
-    either false = omega (arith, length-append (nameOf kind) (space ++ refusalText n), name-short kind, refusal-short n)
+    either : (b : Bool) → length (cond b (unreadableText n) (nameOf kind ++ (space ++ unreadableText n))) ≤ 56
+    either true = omega (arith, unreadable-short n)
+    either false = omega (arith, length-append (nameOf kind) (space ++ unreadableText n), name-short kind, unreadable-short n)
 
 module _ (w : Direction) (most : w .most ≤ 1088) (s : Bytes) where
   -- at most 1,251 bytes, and at most 151 more than the packet has

@@ -1,4 +1,4 @@
--- Visible bytes laid one by one, and what the tests of the code say of a byte, of an argument and of a refusal. Assumes nothing.
+-- Visible bytes laid one by one, and what the tests of the code say of a byte, of an argument, of its size and of a packet that cannot be read. Assumes nothing.
 use Prim.Native.Nat.{ℕ, suc, _+_, _<_, _≤_}
 use mathlib.Core.Path.{_≡_, refl, ap, _∙_, sym}
 use mathlib.Core.Bool.{false}
@@ -21,8 +21,9 @@ use Rattle.packet.specs.Layout.{rulesOf}
 use Rattle.packet.specs.Opaque.{isOpaque}
 use Rattle.packet.proofs.Rule.{the-type}
 use Rattle.packet_kinds.proofs.Tests.{bools, key-arm}
+use Rattle.handle.specs.Handle.{decimal}
 use Rattle.show_names.specs.Names.{labelOf, nameOf, space}
-use Rattle.show_packet.specs.Lines.{labelBefore, quotes, refusalText, refusedText, seenByte, seenBytes, shown, sized, valueOf}
+use Rattle.show_packet.specs.Lines.{byteWord, bytesWord, labelBefore, quotes, refusedText, seenByte, seenBytes, shown, sized, unreadableText, valueOf}
 
 -- ---- one byte
 
@@ -120,10 +121,20 @@ module _ (shape : Shape) (i count : ℕ) (e : count ≡ length (rulesOf shape)) 
 -- ---- a refusal of the header, and one of a packet whose type is known
 
 module _ (kind n : ℕ) where
-  pub refused-header : n < 9 → refusalText n ≡ refusedText kind n
+  pub refused-header : n < 9 → unreadableText n ≡ refusedText kind n
   unfolding refusedText
   refused-header h = rw (lt-ltb n 9 h)
 
-  pub refused-packet : (k : ℕ) → k ≡ kind → 9 ≤ n → nameOf k ++ (space ++ refusalText n) ≡ refusedText kind n
+  pub refused-packet : (k : ℕ) → k ≡ kind → 9 ≤ n → nameOf k ++ (space ++ unreadableText n) ≡ refusedText kind n
   unfolding refusedText
   refused-packet k e h = rw (e, le-ltb n 9 h)
+
+-- ---- how many bytes
+
+pub size-one : (n : ℕ) → n ≡ 1 → decimal n ++ byteWord ≡ sized n
+unfolding sized
+size-one n e = rw (eq-eqb n 1 e)
+
+pub size-many : (n : ℕ) → (n ≡ 1 → ⊥) → decimal n ++ bytesWord ≡ sized n
+unfolding sized
+size-many n e = rw (ne-eqb n 1 e)

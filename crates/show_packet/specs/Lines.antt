@@ -1,5 +1,5 @@
--- One packet in words: the connection, an arrow, the protocol's name of the type and the arguments; or that it is refused, and why.
--- An opaque argument is its length alone. Assumes nothing.
+-- One packet in words: the connection, an arrow, the protocol's name of the type and the arguments; or why it cannot be read. And the
+-- server's refusal. An opaque argument is its length alone. Assumes nothing.
 use Prim.Native.Nat.{ℕ}
 use mathlib.Core.Bool.{cond}
 use mathlib.Core.List.{[], _∷_, _++_}
@@ -21,11 +21,20 @@ use Rattle.show_names.specs.Pieces.{pieces}
 abbrev pub quotes : Bytes
 quotes = 34 ∷ 34 ∷ []  -- ""
 
+abbrev pub byteWord : Bytes
+byteWord = 32 ∷ 98 ∷ 121 ∷ 116 ∷ 101 ∷ []  -- byte, after a space
+
 abbrev pub bytesWord : Bytes
 bytesWord = 32 ∷ 98 ∷ 121 ∷ 116 ∷ 101 ∷ 115 ∷ []  -- bytes, after a space
 
 abbrev pub refusedWord : Bytes
 refusedWord = 114 ∷ 101 ∷ 102 ∷ 117 ∷ 115 ∷ 101 ∷ 100 ∷ 32 ∷ []  -- refused, and a space
+
+abbrev pub unreadableWord : Bytes
+unreadableWord = 40 ∷ 117 ∷ 110 ∷ 114 ∷ 101 ∷ 97 ∷ 100 ∷ 97 ∷ 98 ∷ 108 ∷ 101 ∷ 58 ∷ 32 ∷ []  -- (unreadable: and a space
+
+abbrev pub closing : Bytes
+closing = 41 ∷ []  -- )
 
 -- the arrows, each between spaces: `->` to the server, `<-` from it
 abbrev pub toServer : Bytes
@@ -49,9 +58,9 @@ unfoldable pub shown : Bytes → Bytes
 shown [] = quotes
 shown (x ∷ a) = seenBytes (x ∷ a)
 
--- how many bytes an opaque argument has: `4 bytes`
+-- how many bytes an opaque argument has: `4 bytes`, `1 byte`
 unfoldable pub sized : ℕ → Bytes
-sized n = decimal n ++ bytesWord
+sized n = decimal n ++ cond (eqb n 1) byteWord bytesWord
 
 unfoldable pub valueOf : Rule → Bytes → Bytes
 valueOf rule a = cond (isOpaque rule) (sized (length a)) (shown a)
@@ -74,13 +83,17 @@ argumentTexts shape f n = pieces (λ i. argumentText shape i (f i)) n
 unfoldable pub packetText : ℕ → Shape → (ℕ → Bytes) → Bytes
 packetText kind shape f = nameOf kind ++ argumentTexts shape f (length (rulesOf shape))
 
--- `refused 14 handle`
+-- what the server answers: `refused 14 handle`
 unfoldable pub refusalText : ℕ → Bytes
 refusalText n = refusedWord ++ (decimal n ++ (space ++ reasonOf n))
 
--- a packet that was refused: from 9 on its header was good, and the name of its type is shown too
+-- why a packet cannot be read: `(unreadable: under 12 bytes)`. The server may have refused it on another ground.
+unfoldable pub unreadableText : ℕ → Bytes
+unreadableText n = unreadableWord ++ (reasonOf n ++ closing)
+
+-- a packet that cannot be read: from 9 on its header was good, and the name of its type is shown too
 unfoldable pub refusedText : ℕ → ℕ → Bytes
-refusedText kind n = cond (ltb n 9) (refusalText n) (nameOf kind ++ (space ++ refusalText n))
+refusedText kind n = cond (ltb n 9) (unreadableText n) (nameOf kind ++ (space ++ unreadableText n))
 
 -- what a reading says; the type in the header is `kind`
 unfoldable pub readText : (ℕ → Shape) → ℕ → Reading → Bytes

@@ -11,7 +11,7 @@ ghost use Rattle.octets.specs.Bytes.{numberAt};
 ghost use Rattle.octets.specs.Put.{put};
 ghost use Rattle.packet.specs.Layout.{rulesOf};
 ghost use Rattle.packet.specs.Answers.{argumentAt};
-ghost use Rattle.show_packet.specs.Lines.{argumentText, argumentTexts, labelBefore, packetText, refusalText, refusedText, requestLine, responseLine, seenByte, seenBytes, shown, sized, valueOf};
+ghost use Rattle.show_packet.specs.Lines.{argumentText, argumentTexts, labelBefore, packetText, refusalText, refusedText, requestLine, responseLine, seenByte, seenBytes, shown, sized, unreadableText, valueOf};
 
 // A byte as it is shown: `?` for what is no visible character of ASCII.
 fn seen_byte(x: u8) -> u8
@@ -56,6 +56,9 @@ fn put_size(out: &mut [u8], at: usize, count: usize) -> usize
     ensures { λ r. ⌜ (r ≡ at + length (sized count)) × (now (out .exit) ≡ put at (sized count) (now (out .entry))) ⌝ }
 {
     let place = show_names::put_number(out, at, count as u32);
+    if count == 1 {
+        return octets::put(out, place, b" byte");
+    }
     octets::put(out, place, b" bytes")
 }
 
@@ -124,7 +127,7 @@ fn put_packet(
     put_arguments(out, place, shape, packet, ends)
 }
 
-// Lays a refusal: its number, and its reason.
+// Lays what the server answers where it refuses: the number, and the reason.
 pub fn put_refusal(out: &mut [u8], at: usize, number: u8) -> usize
     requires { ⌜ (at + length (refusalText number) ≤ length (now out)) ⌝ }
     ensures { λ r. ⌜ (r ≡ at + length (refusalText number)) × (now (out .exit) ≡ put at (refusalText number) (now (out .entry))) ⌝ }
@@ -135,17 +138,27 @@ pub fn put_refusal(out: &mut [u8], at: usize, number: u8) -> usize
     show_names::put_reason(out, reason, number)
 }
 
-// Lays a packet that was refused: the name of its type, if its header was good, and the refusal.
+// Lays why a packet cannot be read.
+fn put_unreadable(out: &mut [u8], at: usize, number: u8) -> usize
+    requires { ⌜ (at + length (unreadableText number) ≤ length (now out)) ⌝ }
+    ensures { λ r. ⌜ (r ≡ at + length (unreadableText number)) × (now (out .exit) ≡ put at (unreadableText number) (now (out .entry))) ⌝ }
+{
+    let place = octets::put(out, at, b"(unreadable: ");
+    let end = show_names::put_reason(out, place, number);
+    octets::put(out, end, b")")
+}
+
+// Lays a packet that cannot be read: the name of its type, if its header was good, and why.
 fn put_refused(out: &mut [u8], at: usize, packet: &[u8], number: u8) -> usize
     requires { ⌜ (9 ≤ number → 8 ≤ length (now packet)) × (at + length (refusedText (numberAt (now packet) 4) number) ≤ length (now out)) ⌝ }
     ensures { λ r. ⌜ (r ≡ at + length (refusedText (numberAt (now (packet .entry)) 4) number)) × (now (out .exit) ≡ put at (refusedText (numberAt (now (packet .entry)) 4) number) (now (out .entry))) ⌝ }
 {
     if number < 9 {
-        return put_refusal(out, at, number);
+        return put_unreadable(out, at, number);
     }
     let space = show_names::put_name(out, at, octets::number_at(packet, 4));
     let place = octets::put(out, space, b" ");
-    put_refusal(out, place, number)
+    put_unreadable(out, place, number)
 }
 
 // Lays a request as a line: who sends it, and what it says.

@@ -23,10 +23,10 @@ use Rattle.capture.specs.Packets.{Addressed, packetLines}
 use Rattle.capture.proofs.Lines.{lines-short}
 use Rattle.show_packet.specs.Lines.{refusalText}
 use Rattle.show_packet.proofs.Bounds.{refusal-short, request-line-short, response-line-near}
-use Rattle.show_table.specs.Standing.{below, jobsText, sleepersText, sleepersRoom, jobsRoom}
-use Rattle.show_table.proofs.Bounds.{jobs-short, serial-text-short, sleepers-short}
+use Rattle.show_table.specs.Standing.{below, goneText, jobsText, sleepersText, sleepersRoom, jobsRoom, goneRoom}
+use Rattle.show_table.proofs.Bounds.{gone-short, jobs-short, serial-text-short, sleepers-short}
 use Rattle.show_job.specs.Concerned.{concerned}
-use Rattle.show_parts.specs.Parts.{answerText, closesWord, digitsText, doneWord, eventText, frameDigits, headerIn, headerSeen, headingText, jobsAfter, namedText, numberText, opensWord, sentText, tableText}
+use Rattle.show_parts.specs.Parts.{answerText, closeJobs, closesWord, digitsText, doneWord, droppedWord, endedWord, eventText, frameDigits, headerIn, headerSeen, headingText, jobsAfter, namedText, numberText, opensWord, packetJobs, sentText, tableText}
 
 event-short : (f : Option Event) → length (eventText f) ≤ 1270
 unfolding eventText
@@ -74,25 +74,33 @@ pub answer-short : (ps : List Bytes) (n : ℕ) → Addressed ps → length (answ
 unfolding answerText
 answer-short ps n a = omega (arith, length-append (packetLines sentText ps) (numberText n), lines-short sentText 14 sent-short ps a, number-short n)
 
-named-short : (s : S.Serial) (rs : List JobRow) → length (namedText s rs) ≤ jobsRoom
-named-short SV.None rs = omega arith
-named-short (SV.Of n) rs = omega (arith, serial-text-short n rs)
+named-short : (s : S.Serial) (u v : List JobRow) → length (namedText s u v) ≤ jobsRoom
+named-short SV.None u v = omega arith
+named-short (SV.Of n) u v = omega (arith, serial-text-short n u v)
 
-jobs-after-short : (f : Option Event) (ps : List Bytes) (n : ℕ) (rs : List JobRow) → length (jobsAfter f ps n rs) ≤ jobsRoom
-unfolding jobsAfter
-jobs-after-short none ps n rs = omega arith
-jobs-after-short (some (opens c)) ps n rs = omega arith
-jobs-after-short (some (closes c)) ps n rs = either (eqb n 0)
+packet-jobs-short : (s : S.Serial) (u v : List JobRow) → length (packetJobs s u v) ≤ goneRoom + jobsRoom
+unfolding packetJobs
+packet-jobs-short s u v = omega (arith, length-append (goneText endedWord u v) (namedText s u v), gone-short endedWord u v (omega arith), named-short s u v)
+
+close-jobs-short : (n : ℕ) (u v : List JobRow) → length (closeJobs n u v) ≤ goneRoom + jobsRoom
+unfolding closeJobs
+close-jobs-short n u v = either (eqb n 0)
   where
-    either : (b : Bool) → length (cond b (jobsText connectionCount rs) []) ≤ jobsRoom
-    either true = jobs-short rs
+    either : (b : Bool) → length (cond b (goneText droppedWord u v ++ jobsText connectionCount v) []) ≤ goneRoom + jobsRoom
+    either true = omega (arith, length-append (goneText droppedWord u v) (jobsText connectionCount v), gone-short droppedWord u v (omega arith), jobs-short v)
     either false = omega arith
-jobs-after-short (some (sends c b)) ps n rs = named-short (concerned b ps) rs
 
-pub table-short : (f : Option Event) (ps : List Bytes) (n : ℕ) (t : Table) → length (tableText f ps n t) ≤ sleepersRoom + jobsRoom
+jobs-after-short : (f : Option Event) (ps : List Bytes) (n : ℕ) (u v : List JobRow) → length (jobsAfter f ps n u v) ≤ goneRoom + jobsRoom
+unfolding jobsAfter
+jobs-after-short none ps n u v = omega arith
+jobs-after-short (some (opens c)) ps n u v = omega arith
+jobs-after-short (some (closes c)) ps n u v = close-jobs-short n u v
+jobs-after-short (some (sends c b)) ps n u v = packet-jobs-short (concerned b ps) u v
+
+pub table-short : (f : Option Event) (ps : List Bytes) (n : ℕ) (u : List JobRow) (t : Table) → length (tableText f ps n u t) ≤ sleepersRoom + goneRoom + jobsRoom
 unfolding tableText
-table-short f ps n t = either (eqb n 1 || eqb n 16)
+table-short f ps n u t = either (eqb n 1 || eqb n 16)
   where
-    either : (b : Bool) → length (cond b [] (sleepersText connectionCount (t .connections) ++ jobsAfter f ps n (rowsOf t))) ≤ sleepersRoom + jobsRoom
+    either : (b : Bool) → length (cond b [] (sleepersText connectionCount (t .connections) ++ jobsAfter f ps n u (rowsOf t))) ≤ sleepersRoom + goneRoom + jobsRoom
     either true = omega arith
-    either false = omega (arith, length-append (sleepersText connectionCount (t .connections)) (jobsAfter f ps n (rowsOf t)), sleepers-short (t .connections), jobs-after-short f ps n (rowsOf t))
+    either false = omega (arith, length-append (sleepersText connectionCount (t .connections)) (jobsAfter f ps n u (rowsOf t)), sleepers-short (t .connections), jobs-after-short f ps n u (rowsOf t))

@@ -2,12 +2,10 @@
 -- found. Assumes nothing.
 use Prim.Native.Nat.{ℕ, _-_, _<_, _≤_}
 use mathlib.Core.Path.{_≡_, ap, sym}
-use mathlib.Core.Bool.{cond}
 use mathlib.Core.Option.{Option}
 use mathlib.Core.List.{List, [], _++_}
 use borrow.Author.Tests.{le-ltb, lt-ltb, ne-eqb}
 use lib.ListN.{length, getD, take, drop}
-use lib.Dec.{eqb}
 use Rattle.octets.specs.Bytes.{Bytes}
 use Rattle.octets.proofs.Strings.{rest-part}
 use Rattle.packet.specs.declared.Ends.{Ends}
@@ -28,9 +26,9 @@ use Rattle.capture.specs.declared.Frame as F
 use Rattle.capture.specs.declared.Frame.the-variants as FV
 use Rattle.capture.specs.Frames.{eventOf}
 use Rattle.show_packet.specs.Lines.{refusalText, requestLine, responseLine}
-use Rattle.show_table.specs.Standing.{below, jobsText, serialText, sleepersText}
+use Rattle.show_table.specs.Standing.{below, goneText, jobsText, serialText, sleepersText}
 use Rattle.show_job.specs.Concerned.{concerned}
-use Rattle.show_parts.specs.Parts.{closesWord, digitsText, doneWord, eventText, frameDigits, headerSeen, jobsAfter, namedText, numberText, opensWord, sentText, tableText}
+use Rattle.show_parts.specs.Parts.{closeJobs, closesWord, digitsText, doneWord, droppedWord, eventText, frameDigits, headerSeen, jobsAfter, namedText, numberText, opensWord, packetJobs, sentText, tableText}
 
 -- ---- by the kind of frame
 
@@ -44,9 +42,9 @@ module _ (f : F.Frame) (b : Bytes) where
     unfolding eventText
     nothing-event = rw e
 
-    pub nothing-jobs : (ps : List Bytes) (n : ℕ) (rs : List JobRow) → [] ≡ jobsAfter (eventOf f b) ps n rs
+    pub nothing-jobs : (ps : List Bytes) (n : ℕ) (u v : List JobRow) → [] ≡ jobsAfter (eventOf f b) ps n u v
     unfolding jobsAfter
-    nothing-jobs ps n rs = rw e
+    nothing-jobs ps n u v = rw e
 
   module _ (c : ℕ) where
     module _ (e : f ≡ FV.Open c) where
@@ -58,9 +56,9 @@ module _ (f : F.Frame) (b : Bytes) where
       unfolding eventText
       open-event = rw e
 
-      pub open-jobs : (ps : List Bytes) (n : ℕ) (rs : List JobRow) → [] ≡ jobsAfter (eventOf f b) ps n rs
+      pub open-jobs : (ps : List Bytes) (n : ℕ) (u v : List JobRow) → [] ≡ jobsAfter (eventOf f b) ps n u v
       unfolding jobsAfter
-      open-jobs ps n rs = rw e
+      open-jobs ps n u v = rw e
 
     module _ (e : f ≡ FV.Close c) where
       pub close-digits : frameDigits 2 c [] ≡ digitsText (eventOf f b)
@@ -71,9 +69,9 @@ module _ (f : F.Frame) (b : Bytes) where
       unfolding eventText
       close-event = rw e
 
-      pub close-jobs : (ps : List Bytes) (n : ℕ) (rs : List JobRow) → cond (eqb n 0) (jobsText connectionCount rs) [] ≡ jobsAfter (eventOf f b) ps n rs
+      pub close-jobs : (ps : List Bytes) (n : ℕ) (u v : List JobRow) → closeJobs n u v ≡ jobsAfter (eventOf f b) ps n u v
       unfolding jobsAfter
-      close-jobs ps n rs = rw e
+      close-jobs ps n u v = rw e
 
     module _ (end : ℕ) (e : f ≡ FV.Packet c end) where
       pub packet-digits : (header : Bytes) → header ≡ headerSeen (take (end - 2) (drop 2 b)) → frameDigits 3 c header ≡ digitsText (eventOf f b)
@@ -84,9 +82,9 @@ module _ (f : F.Frame) (b : Bytes) where
       unfolding eventText
       packet-event = rw e
 
-      pub packet-jobs : (s : S.Serial) (ps : List Bytes) (n : ℕ) (rs : List JobRow) → s ≡ concerned (take (end - 2) (drop 2 b)) ps → namedText s rs ≡ jobsAfter (eventOf f b) ps n rs
+      pub packet-jobs : (s : S.Serial) (ps : List Bytes) (n : ℕ) (u v : List JobRow) → s ≡ concerned (take (end - 2) (drop 2 b)) ps → packetJobs s u v ≡ jobsAfter (eventOf f b) ps n u v
       unfolding jobsAfter
-      packet-jobs s ps n rs q = rw (e, q)
+      packet-jobs s ps n u v q = rw (e, q)
 
 -- ---- by the reading of a packet
 
@@ -106,11 +104,11 @@ module _ (b : Bytes) where
 
 -- ---- by the serial
 
-module _ (s : S.Serial) (rs : List JobRow) where
-  pub no-serial : s ≡ SV.None → [] ≡ namedText s rs
+module _ (s : S.Serial) (u v : List JobRow) where
+  pub no-serial : s ≡ SV.None → [] ≡ namedText s u v
   no-serial e = rw e
 
-  pub of-serial : (n : ℕ) → s ≡ SV.Of n → serialText connectionCount n rs ≡ namedText s rs
+  pub of-serial : (n : ℕ) → s ≡ SV.Of n → serialText connectionCount n u v ≡ namedText s u v
   of-serial n e = rw e
 
 -- ---- by the number
@@ -123,24 +121,27 @@ pub number-refused : (n : ℕ) → (n ≡ 0 → ⊥) → below ++ refusalText n 
 unfolding numberText
 number-refused n e = rw (ne-eqb n 0 e)
 
-pub left-done : (n : ℕ) (rs : List JobRow) → n ≡ 0 → jobsText connectionCount rs ≡ cond (eqb n 0) (jobsText connectionCount rs) []
-left-done n rs e = rw e
+pub close-done : (n : ℕ) (u v : List JobRow) → n ≡ 0 → goneText droppedWord u v ++ jobsText connectionCount v ≡ closeJobs n u v
+unfolding closeJobs
+close-done n u v e = rw e
 
-pub left-refused : (n : ℕ) (rs : List JobRow) → (n ≡ 0 → ⊥) → [] ≡ cond (eqb n 0) (jobsText connectionCount rs) []
-left-refused n rs e = rw (ne-eqb n 0 e)
+pub close-refused : (n : ℕ) (u v : List JobRow) → (n ≡ 0 → ⊥) → [] ≡ closeJobs n u v
+unfolding closeJobs
+close-refused n u v e = rw (ne-eqb n 0 e)
 
-module _ (f : Option Event) (ps : List Bytes) (n : ℕ) (t : Table) where
-  pub no-table : n ≡ 1 → [] ≡ tableText f ps n t
+module _ (f : Option Event) (ps : List Bytes) (n : ℕ) (before : List JobRow) (t : Table) where
+  pub no-table : n ≡ 1 → [] ≡ tableText f ps n before t
   unfolding tableText
   no-table e = rw e
 
-  pub unseen : n ≡ 16 → [] ≡ tableText f ps n t
+  pub unseen : n ≡ 16 → [] ≡ tableText f ps n before t
   unfolding tableText
   unseen e = rw e
 
-  pub table-stands : (n ≡ 1 → ⊥) → (n ≡ 16 → ⊥) → (v : V′.Values) → v ≡ valuesOf t → sleepersText connectionCount (v .connections) ++ jobsAfter f ps n (v .rows) ≡ tableText f ps n t
+  pub table-stands : (n ≡ 1 → ⊥) → (n ≡ 16 → ⊥) → (v : V′.Values) → v ≡ valuesOf t
+      → sleepersText connectionCount (v .connections) ++ jobsAfter f ps n before (v .rows) ≡ tableText f ps n before t
   unfolding tableText valuesOf
-  table-stands a b v e = rw (ne-eqb n 1 a, ne-eqb n 16 b) (ap (λ (u : V′.Values). sleepersText connectionCount (u .connections) ++ jobsAfter f ps n (u .rows)) e)
+  table-stands a b v e = rw (ne-eqb n 1 a, ne-eqb n 16 b) (ap (λ (u : V′.Values). sleepersText connectionCount (u .connections) ++ jobsAfter f ps n before (u .rows)) e)
 
 -- ---- an addressed packet
 

@@ -19,7 +19,7 @@ use Rattle.server.specs.Requests.{Event, opens, closes, sends}
 use Rattle.capture.specs.Packets.{packetLines}
 use Rattle.show_names.specs.Names.{space}
 use Rattle.show_packet.specs.Lines.{refusalText, requestLine, responseLine}
-use Rattle.show_table.specs.Standing.{below, jobsText, serialText, sleepersText}
+use Rattle.show_table.specs.Standing.{below, goneText, jobsText, serialText, sleepersText}
 use Rattle.show_job.specs.Concerned.{concerned}
 
 -- ---- the fixed words
@@ -35,6 +35,12 @@ closesWord = 32 ∷ 99 ∷ 108 ∷ 111 ∷ 115 ∷ 101 ∷ 115 ∷ []  -- closes
 
 abbrev pub doneWord : Bytes
 doneWord = 100 ∷ 111 ∷ 110 ∷ 101 ∷ []  -- done
+
+abbrev pub endedWord : Bytes
+endedWord = 101 ∷ 110 ∷ 100 ∷ 101 ∷ 100 ∷ 32 ∷ []  -- ended, and a space
+
+abbrev pub droppedWord : Bytes
+droppedWord = 100 ∷ 114 ∷ 111 ∷ 112 ∷ 112 ∷ 101 ∷ 100 ∷ 32 ∷ []  -- dropped, and a space
 
 -- ---- the digits of a line, as far as they may be seen
 
@@ -75,20 +81,29 @@ numberText n = below ++ cond (eqb n 0) doneWord (refusalText n)
 
 -- ---- how the table stands
 
-abbrev pub namedText : S.Serial → List JobRow → Bytes
-namedText SV.None rs = []
-namedText (SV.Of n) rs = serialText connectionCount n rs
+-- the jobs, from the rows before the event and after it
 
--- the job that a packet concerns; a close that is done may concern any job
-unfoldable pub jobsAfter : Option Event → List Bytes → ℕ → List JobRow → Bytes
-jobsAfter none ps n rs = []
-jobsAfter (some (opens c)) ps n rs = []
-jobsAfter (some (closes c)) ps n rs = cond (eqb n 0) (jobsText connectionCount rs) []
-jobsAfter (some (sends c b)) ps n rs = namedText (concerned b ps) rs
+abbrev pub namedText : S.Serial → List JobRow → List JobRow → Bytes
+namedText SV.None before after = []
+namedText (SV.Of n) before after = serialText connectionCount n before after
 
--- what was refused by 1 is no table; what was refused by 16 the server did not see
-unfoldable pub tableText : Option Event → List Bytes → ℕ → Table → Bytes
-tableText f ps n t = cond (eqb n 1 || eqb n 16) [] (sleepersText connectionCount (t .connections) ++ jobsAfter f ps n (rowsOf t))
+-- a packet: the job that it ended, and the one that it concerns
+unfoldable pub packetJobs : S.Serial → List JobRow → List JobRow → Bytes
+packetJobs s before after = goneText endedWord before after ++ namedText s before after
+
+-- a close that is done: the jobs that it dropped, and all that are left
+unfoldable pub closeJobs : ℕ → List JobRow → List JobRow → Bytes
+closeJobs n before after = cond (eqb n 0) (goneText droppedWord before after ++ jobsText connectionCount after) []
+
+unfoldable pub jobsAfter : Option Event → List Bytes → ℕ → List JobRow → List JobRow → Bytes
+jobsAfter none ps n before after = []
+jobsAfter (some (opens c)) ps n before after = []
+jobsAfter (some (closes c)) ps n before after = closeJobs n before after
+jobsAfter (some (sends c b)) ps n before after = packetJobs (concerned b ps) before after
+
+-- the table after the event, with the rows before it. What was refused by 1 is no table; what was refused by 16 the server did not see.
+unfoldable pub tableText : Option Event → List Bytes → ℕ → List JobRow → Table → Bytes
+tableText f ps n before t = cond (eqb n 1 || eqb n 16) [] (sleepersText connectionCount (t .connections) ++ jobsAfter f ps n before (rowsOf t))
 
 -- ---- the parts of a line
 

@@ -7,11 +7,9 @@ use packet::Read;
 use server::JOBS;
 use server::JobRow;
 ghost use mathlib.Core.Path.{_≡_};
-ghost use mathlib.Core.Bool.{cond};
-ghost use mathlib.Core.List.{[], _++_};
+ghost use mathlib.Core.List.{_++_};
 ghost use Prim.Native.Nat.{_+_, _*_, _≤_};
 ghost use lib.ListN.{length};
-ghost use lib.Dec.{eqb};
 ghost use Rattle.octets.specs.Put.{put};
 ghost use Rattle.handle.specs.Handle.{decimal};
 ghost use Rattle.server.specs.Sizes.{connectionCount};
@@ -19,8 +17,8 @@ ghost use Rattle.server.specs.Layout.{tableOf, tableSize};
 ghost use Rattle.capture.specs.Frames.{Bounded, eventOf};
 ghost use Rattle.capture.specs.Packets.{Packed, packetLines, packetsIn};
 ghost use Rattle.show_packet.specs.Lines.{requestLine};
-ghost use Rattle.show_table.specs.Standing.{below, jobsText};
-ghost use Rattle.show_parts.specs.Parts.{answerText, digitsText, eventText, frameDigits, headerSeen, headingText, namedText, jobsAfter, numberText, sentText, tableText};
+ghost use Rattle.show_table.specs.Standing.{below};
+ghost use Rattle.show_parts.specs.Parts.{answerText, closeJobs, digitsText, eventText, frameDigits, headerSeen, headingText, jobsAfter, namedText, numberText, packetJobs, sentText, tableText};
 
 // The header of a packet, where it is good, and nothing of it otherwise.
 fn header_seen(packet: &[u8]) -> &[u8]
@@ -157,28 +155,56 @@ pub fn put_answer(text: &mut [u8], at: usize, sent: &[u8], number: u8) -> usize
 }
 
 // Lays the job of a serial, if there is one.
-fn put_job(text: &mut [u8], at: usize, rows: [JobRow; JOBS], serial: Serial) -> usize
-    requires { ⌜ at + length (namedText serial rows) ≤ length (now text) ⌝ }
-    ensures { λ r. ⌜ (r ≡ at + length (namedText serial rows)) × (now (text .exit) ≡ put at (namedText serial rows) (now (text .entry))) ⌝ }
+fn put_job(
+    text: &mut [u8],
+    at: usize,
+    serial: Serial,
+    before: [JobRow; JOBS],
+    after: [JobRow; JOBS],
+) -> usize
+    requires { ⌜ at + length (namedText serial before after) ≤ length (now text) ⌝ }
+    ensures { λ r. ⌜ (r ≡ at + length (namedText serial before after)) × (now (text .exit) ≡ put at (namedText serial before after) (now (text .entry))) ⌝ }
 {
     match serial {
         Serial::None => at,
-        Serial::Of(n) => show_table::put_job_of(text, at, rows, n),
+        Serial::Of(n) => show_table::put_job_of(text, at, before, after, n),
     }
 }
 
-// Lays the jobs that are left after a close, if it is done.
-fn put_left(text: &mut [u8], at: usize, rows: [JobRow; JOBS], number: u8) -> usize
-    requires { ⌜ at + length (cond (eqb number 0) (jobsText connectionCount rows) []) ≤ length (now text) ⌝ }
-    ensures { λ r. ⌜ (r ≡ at + length (cond (eqb number 0) (jobsText connectionCount rows) [])) × (now (text .exit) ≡ put at (cond (eqb number 0) (jobsText connectionCount rows) []) (now (text .entry))) ⌝ }
+// Lays the job that a packet ended, and the one that it concerns.
+fn put_ended(
+    text: &mut [u8],
+    at: usize,
+    serial: Serial,
+    before: [JobRow; JOBS],
+    after: [JobRow; JOBS],
+) -> usize
+    requires { ⌜ at + length (packetJobs serial before after) ≤ length (now text) ⌝ }
+    ensures { λ r. ⌜ (r ≡ at + length (packetJobs serial before after)) × (now (text .exit) ≡ put at (packetJobs serial before after) (now (text .entry))) ⌝ }
+{
+    let place = show_table::put_gone(text, at, b"ended ", before, after);
+    put_job(text, place, serial, before, after)
+}
+
+// Lays the jobs that a close dropped and those that are left, if it is done.
+fn put_dropped(
+    text: &mut [u8],
+    at: usize,
+    number: u8,
+    before: [JobRow; JOBS],
+    after: [JobRow; JOBS],
+) -> usize
+    requires { ⌜ at + length (closeJobs number before after) ≤ length (now text) ⌝ }
+    ensures { λ r. ⌜ (r ≡ at + length (closeJobs number before after)) × (now (text .exit) ≡ put at (closeJobs number before after) (now (text .entry))) ⌝ }
 {
     if number == 0 {
-        return show_table::put_jobs(text, at, rows);
+        let place = show_table::put_gone(text, at, b"dropped ", before, after);
+        return show_table::put_jobs(text, place, after);
     }
     at
 }
 
-// Lays the jobs that a frame concerns.
+// Lays the jobs that a frame concerns, from the rows before its event and after it.
 fn put_jobs(
     text: &mut [u8],
     at: usize,
@@ -186,28 +212,31 @@ fn put_jobs(
     bytes: &[u8; 1040],
     sent: &[u8],
     number: u8,
-    rows: [JobRow; JOBS],
+    before: [JobRow; JOBS],
+    after: [JobRow; JOBS],
 ) -> usize
-    requires { ⌜ Bounded frame × Packed (now sent) × (at + length (jobsAfter (eventOf frame (now bytes)) (packetsIn (now sent)) number rows) ≤ length (now text)) ⌝ }
-    ensures { λ r. ⌜ (r ≡ at + length (jobsAfter (eventOf frame (now (bytes .entry))) (packetsIn (now (sent .entry))) number rows))
-        × (now (text .exit) ≡ put at (jobsAfter (eventOf frame (now (bytes .entry))) (packetsIn (now (sent .entry))) number rows) (now (text .entry))) ⌝ }
+    requires { ⌜ Bounded frame × Packed (now sent) × (at + length (jobsAfter (eventOf frame (now bytes)) (packetsIn (now sent)) number before after) ≤ length (now text)) ⌝ }
+    ensures { λ r. ⌜ (r ≡ at + length (jobsAfter (eventOf frame (now (bytes .entry))) (packetsIn (now (sent .entry))) number before after))
+        × (now (text .exit) ≡ put at (jobsAfter (eventOf frame (now (bytes .entry))) (packetsIn (now (sent .entry))) number before after) (now (text .entry))) ⌝ }
 {
     match frame {
         Frame::Nothing => at,
         Frame::Open { connection } => at,
-        Frame::Close { connection } => put_left(text, at, rows, number),
+        Frame::Close { connection } => put_dropped(text, at, number, before, after),
         Frame::Packet { connection, end } => {
             let all = &bytes[..];
             let serial = show_job::concerned(&all[2..end], sent);
-            put_job(text, at, rows, serial)
+            put_ended(text, at, serial, before, after)
         }
     }
 }
 
-// Lays how the table stands: the sleepers, and the jobs concerned. After refusal 1 there is no table, and 16 is of no event.
+// Lays how the table stands: the sleepers, and the jobs concerned, with the rows before the event. After refusal 1 there is no table,
+// and 16 is of no event.
 pub fn put_table(
     text: &mut [u8],
     at: usize,
+    before: [JobRow; JOBS],
     table: &[u8],
     frame: Frame,
     bytes: &[u8; 1040],
@@ -215,9 +244,9 @@ pub fn put_table(
     number: u8,
 ) -> usize
     requires { ⌜ Bounded frame × Packed (now sent) × ((number ≡ 1 → ⊥) → (number ≡ 16 → ⊥) → tableSize connectionCount ≤ length (now table))
-        × (at + length (tableText (eventOf frame (now bytes)) (packetsIn (now sent)) number (tableOf connectionCount (now table))) ≤ length (now text)) ⌝ }
-    ensures { λ r. ⌜ (r ≡ at + length (tableText (eventOf frame (now (bytes .entry))) (packetsIn (now (sent .entry))) number (tableOf connectionCount (now (table .entry)))))
-        × (now (text .exit) ≡ put at (tableText (eventOf frame (now (bytes .entry))) (packetsIn (now (sent .entry))) number (tableOf connectionCount (now (table .entry)))) (now (text .entry))) ⌝ }
+        × (at + length (tableText (eventOf frame (now bytes)) (packetsIn (now sent)) number before (tableOf connectionCount (now table))) ≤ length (now text)) ⌝ }
+    ensures { λ r. ⌜ (r ≡ at + length (tableText (eventOf frame (now (bytes .entry))) (packetsIn (now (sent .entry))) number before (tableOf connectionCount (now (table .entry)))))
+        × (now (text .exit) ≡ put at (tableText (eventOf frame (now (bytes .entry))) (packetsIn (now (sent .entry))) number before (tableOf connectionCount (now (table .entry)))) (now (text .entry))) ⌝ }
 {
     if number == 1 {
         return at;
@@ -229,5 +258,5 @@ pub fn put_table(
     let connections = values.connections;
     let rows = values.rows;
     let place = show_table::put_sleepers(text, at, connections);
-    put_jobs(text, place, frame, bytes, sent, number, rows)
+    put_jobs(text, place, frame, bytes, sent, number, before, rows)
 }

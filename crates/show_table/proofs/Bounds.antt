@@ -1,12 +1,12 @@
--- How long a line on the table is at the most: 59 bytes for the sleepers, 101 for a job, 3,232 for all jobs together. A text with
--- that much room after `at` has room for any table's. Assumes nothing.
+-- How long the lines on the table are at the most: the sleepers', a job's, those of all jobs together, and of all that are gone. A text
+-- with that much room after `at` has room for any table's. Assumes nothing.
 use Prim.Native.Nat.{ℕ, zero, suc, _+_, _/_, _%_, _<_, _≤_}
 use mathlib.Core.Bool.{Bool, true, false, cond}
 use mathlib.Core.List.{List, [], _∷_, _++_}
 use mathlib.Core.Option.{Option, none, some}
 use native.Mathlib.Omega.{arith}
 use borrow.Author.Tests.{lt-ltb}
-use lib.Dec.{ltb}
+use lib.Dec.{eqb, ltb}
 use lib.ListN.{length, getD, length-append}
 use Rattle.octets.specs.Bytes.{Bytes}
 use Rattle.sets.specs.Sets.{has}
@@ -20,9 +20,9 @@ use Rattle.server.specs.Table.{live, noRow}
 use Rattle.plan.specs.Values.{serialRow}
 use Rattle.show_names.specs.Names.{space}
 use Rattle.show_names.proofs.Pieces.{pieces-short}
-use Rattle.show_table.specs.Standing.{connectionsText, each, foundText, holderText, holderWord, jobText, jobsText, listenersWord, noJobText, orNone, serialText, sleepersText, connectionsRoom, sleepersRoom, jobRoom, jobsRoom}
+use Rattle.show_table.specs.Standing.{absentText, backgroundWord, connectionsText, each, foundText, goneOne, goneText, handleLine, highWord, holderText, holderWord, jobText, jobWord, jobsText, listenersWord, lowWord, marksText, noJobWord, orNone, serialText, sleepersText, unfoundText, connectionsRoom, sleepersRoom, jobRoom, jobsRoom, goneRoom}
 use Rattle.show_table.proofs.Connections.{shown, sleeps}
-use Rattle.show_table.proofs.Jobs.{unfinished}
+use Rattle.show_table.proofs.Jobs.{gone, unfinished}
 
 -- ---- connections
 
@@ -61,31 +61,63 @@ unfolding holderText
 holder-short zero = omega arith
 holder-short (suc c) = omega (arith, decimal-most c)
 
+handle-line-short : (word : Bytes) (serial : ℕ) → length (handleLine word serial) ≤ length word + 21
+unfolding handleLine
+handle-line-short word serial = omega (arith, length-append word (handle lap serial), handle-most lap serial)
+
+-- what is laid only if a test holds
+if-short : (b : Bool) (word : Bytes) → length (cond b word []) ≤ length word
+if-short true word = omega arith
+if-short false word = omega arith
+
+marks-short : (r : JobRow) → length (marksText r) ≤ 20
+unfolding marksText
+marks-short r =
+    let low = cond (eqb (r .priority) 0) lowWord [] in
+    let high = cond (eqb (r .priority) 2) highWord [] in
+    let background = cond (r .background) backgroundWord [] in
+    omega (
+      arith,
+      length-append low (high ++ background),
+      length-append high background,
+      if-short (eqb (r .priority) 0) lowWord,
+      if-short (eqb (r .priority) 2) highWord,
+      if-short (r .background) backgroundWord,
+    )
+
 job-short : (r : JobRow) → length (jobText connectionCount r) ≤ jobRoom
 unfolding jobText
 job-short r =
     let l : Bytes = connectionsText (has (r .listeners)) connectionCount in
+    let h : Bytes = holderWord ++ holderText (r .holder) in
     omega (
       arith,
-      length-append (handle lap (r .serial)) (holderWord ++ (holderText (r .holder) ++ (listenersWord ++ l))),
-      handle-most lap (r .serial),
-      length-append (holderText (r .holder)) (listenersWord ++ l),
+      length-append (handleLine jobWord (r .serial)) (marksText r ++ (h ++ (listenersWord ++ l))),
+      length-append (marksText r) (h ++ (listenersWord ++ l)),
+      length-append h (listenersWord ++ l),
+      handle-line-short jobWord (r .serial),
+      marks-short r,
       holder-short (r .holder),
       connections-short (has (r .listeners)),
     )
 
-no-job-short : (serial : ℕ) → length (noJobText serial) ≤ jobRoom
-unfolding noJobText
-no-job-short serial = omega (arith, handle-most lap serial)
+unfound-short : (word : Bytes) (serial : ℕ) (o : Option ℕ) → length (unfoundText word serial o) ≤ length word + 21
+unfolding unfoundText
+unfound-short word serial (some p) = omega arith
+unfound-short word serial none = handle-line-short word serial
 
-found-short : (serial : ℕ) (rs : List JobRow) (o : Option ℕ) → length (foundText connectionCount serial rs o) ≤ jobRoom
+absent-short : (word : Bytes) (serial : ℕ) (rs : List JobRow) → length (absentText word serial rs) ≤ length word + 21
+unfolding absentText
+absent-short word serial rs = unfound-short word serial (serialRow serial rs)
+
+found-short : (serial : ℕ) (before after : List JobRow) (o : Option ℕ) → length (foundText connectionCount serial before after o) ≤ jobRoom
 unfolding foundText
-found-short serial rs (some p) = job-short (getD rs p noRow)
-found-short serial rs none = no-job-short serial
+found-short serial before after (some p) = job-short (getD after p noRow)
+found-short serial before after none = omega (arith, absent-short noJobWord serial before)
 
-pub serial-text-short : (serial : ℕ) (rs : List JobRow) → length (serialText connectionCount serial rs) ≤ jobRoom
+pub serial-text-short : (serial : ℕ) (before after : List JobRow) → length (serialText connectionCount serial before after) ≤ jobRoom
 unfolding serialText
-serial-text-short serial rs = found-short serial rs (serialRow serial rs)
+serial-text-short serial before after = found-short serial before after (serialRow serial after)
 
 row-short : (r : JobRow) → length (cond (live r) (jobText connectionCount r) []) ≤ jobRoom
 row-short r = either (live r)
@@ -97,3 +129,17 @@ row-short r = either (live r)
 pub jobs-short : (rs : List JobRow) → length (jobsText connectionCount rs) ≤ jobsRoom
 unfolding jobsText
 jobs-short rs = pieces-short (unfinished rs) jobRoom jobCount (λ p h. row-short (getD rs p noRow))
+
+-- ---- jobs that are gone
+
+gone-one-short : (word : Bytes) (after : List JobRow) (r : JobRow) → length word ≤ 8 → length (goneOne word after r) ≤ 29
+unfolding goneOne
+gone-one-short word after r h = either (live r)
+  where
+    either : (b : Bool) → length (cond b (absentText word (r .serial) after) []) ≤ 29
+    either true = omega (arith, absent-short word (r .serial) after)
+    either false = omega arith
+
+pub gone-short : (word : Bytes) (before after : List JobRow) → length word ≤ 8 → length (goneText word before after) ≤ goneRoom
+unfolding goneText
+gone-short word before after h = pieces-short (gone word before after) 29 jobCount (λ p l. gone-one-short word after (getD before p noRow) h)

@@ -1,10 +1,10 @@
 -- Lines computed by the definitions, one for each kind of line that docs/SHOW.md shows of the table. Assumes nothing.
 use Prim.Native.Nat.{ℕ}
 use mathlib.Core.Path.{_≡_, refl}
-use mathlib.Core.Bool.{false}
+use mathlib.Core.Bool.{true, false}
 use mathlib.Core.List.{List, [], _∷_}
 use lib.ListN.{replicate}
-use Rattle.octets.specs.Bytes.{Bytes}
+use Rattle.octets.specs.Bytes.{Bytes, text}
 use Rattle.sets.specs.Sets.{has}
 use Rattle.handle.specs.Handle.{decimal, decimalIn, handle}
 use Rattle.server.specs.declared.JobRow.{JobRow}
@@ -12,29 +12,47 @@ use Rattle.server.specs.Sizes.{connectionCount}
 use Rattle.server.specs.Table.{closed, noRow}
 use Rattle.plan.specs.Values.{serialRow}
 use Rattle.show_names.specs.Pieces.{pieces}
-use Rattle.show_table.specs.Standing.{connectionsText, each, foundText, holderText, jobText, noJobText, orNone, serialText, sleepersText}
+use Rattle.show_table.specs.Standing.{absentText, connectionsText, each, foundText, goneOne, goneText, handleLine, holderText, jobText, marksText, orNone, serialText, sleepersText, unfoundText}
 
 -- one name that opens all that a line uses
 unfoldable compute : ℕ → List JobRow → Bytes
-unfolding sleepersText connectionsText each orNone serialText foundText serialRow jobText noJobText holderText handle decimal decimalIn has pieces
-compute serial rs = serialText connectionCount serial rs
+unfolding sleepersText connectionsText each orNone serialText foundText absentText unfoundText goneText goneOne serialRow jobText handleLine marksText holderText handle decimal decimalIn has pieces
+compute serial rs = serialText connectionCount serial [] rs
 
 -- held by connection 1; 0 and 2 listen
 abbrev held : JobRow
 held = record { serial = 1; function = 0; priority = 1; background = false; listeners = 5; holder = 2; size = 4 }
 
--- asleep none
-nobody-asleep : sleepersText connectionCount (replicate 16 closed) ≡ 10 ∷ 32 ∷ 32 ∷ 32 ∷ 32 ∷ 97 ∷ 115 ∷ 108 ∷ 101 ∷ 101 ∷ 112 ∷ 32 ∷ 110 ∷ 111 ∷ 110 ∷ 101 ∷ []
+-- queued in the background with the highest priority; nobody listens
+abbrev urgent : JobRow
+urgent = record { serial = 3; function = 0; priority = 2; background = true; listeners = 0; holder = 0; size = 4 }
+
+nobody-asleep : sleepersText connectionCount (replicate 16 closed) ≡ text "\n    asleep none"
 unfolding compute
 nobody-asleep = refl
 
--- job H:lap:1 holder 1 listeners 0 2
-held-job : serialText connectionCount 1 (noRow ∷ held ∷ [])
-    ≡ 10 ∷ 32 ∷ 32 ∷ 32 ∷ 32 ∷ 106 ∷ 111 ∷ 98 ∷ 32 ∷ 72 ∷ 58 ∷ 108 ∷ 97 ∷ 112 ∷ 58 ∷ 49 ∷ 32 ∷ 104 ∷ 111 ∷ 108 ∷ 100 ∷ 101 ∷ 114 ∷ 32 ∷ 49 ∷ 32 ∷ 108 ∷ 105 ∷ 115 ∷ 116 ∷ 101 ∷ 110 ∷ 101 ∷ 114 ∷ 115 ∷ 32 ∷ 48 ∷ 32 ∷ 50 ∷ []
+held-job : serialText connectionCount 1 [] (noRow ∷ held ∷ []) ≡ text "\n    job H:lap:1 holder 1 listeners 0 2"
 unfolding compute
 held-job = refl
 
--- no job H:lap:7
-no-job : serialText connectionCount 7 (noRow ∷ held ∷ []) ≡ 10 ∷ 32 ∷ 32 ∷ 32 ∷ 32 ∷ 110 ∷ 111 ∷ 32 ∷ 106 ∷ 111 ∷ 98 ∷ 32 ∷ 72 ∷ 58 ∷ 108 ∷ 97 ∷ 112 ∷ 58 ∷ 55 ∷ []
+urgent-job : serialText connectionCount 3 [] (urgent ∷ held ∷ []) ≡ text "\n    job H:lap:3 high background holder none listeners none"
+unfolding compute
+urgent-job = refl
+
+no-job : serialText connectionCount 7 (noRow ∷ held ∷ []) (noRow ∷ held ∷ []) ≡ text "\n    no job H:lap:7"
 unfolding compute
 no-job = refl
+
+-- a job that stood there before the event is named as gone, and as nothing else
+gone-job : serialText connectionCount 1 (urgent ∷ held ∷ []) (noRow ∷ []) ≡ []
+unfolding compute
+gone-job = refl
+
+gone-jobs : goneText (text "dropped ") (urgent ∷ noRow ∷ held ∷ []) (noRow ∷ noRow ∷ noRow ∷ []) ≡ text "\n    dropped H:lap:3\n    dropped H:lap:1"
+unfolding compute
+gone-jobs = refl
+
+-- one that has another place after the event is not gone
+kept-job : goneText (text "ended ") (urgent ∷ held ∷ []) (held ∷ noRow ∷ []) ≡ text "\n    ended H:lap:3"
+unfolding compute
+kept-job = refl

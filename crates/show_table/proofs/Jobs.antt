@@ -1,4 +1,4 @@
--- What the tests and the search of the code say of a row's holder and of the job of a serial. Assumes nothing.
+-- What the tests and the search of the code say of a row's holder, of the job of a serial, and of one that is gone. Assumes nothing.
 use Prim.Native.Nat.{ℕ, zero, suc, _-_}
 use mathlib.Core.Path.{_≡_, refl, ap, _∙_}
 use mathlib.Core.Bool.{cond}
@@ -15,11 +15,15 @@ use Rattle.lists.specs.declared.Place.the-variants.{At, Nowhere}
 use Rattle.lists.specs.Places.{placed}
 use Rattle.plan.specs.Values.{serialRow}
 use Rattle.show_names.specs.Names.{space}
-use Rattle.show_table.specs.Standing.{foundText, holderText, holderWord, jobText, noJobText, noneWord, serialText}
+use Rattle.show_table.specs.Standing.{absentText, foundText, goneOne, handleLine, holderText, holderWord, jobText, noJobWord, noneWord, serialText, unfoundText}
 
 -- the piece of place p
 abbrev pub unfinished : List JobRow → ℕ → Bytes
 unfinished rs p = cond (live (getD rs p noRow)) (jobText connectionCount (getD rs p noRow)) []
+
+-- what is said of place p, if its job is gone
+abbrev pub gone : Bytes → List JobRow → List JobRow → ℕ → Bytes
+gone word before after p = goneOne word after (getD before p noRow)
 
 -- ---- a holder, from the number in the row
 
@@ -34,11 +38,20 @@ holder-some (suc c) n = let e : suc c - 1 ≡ c = omega arith in rw e
 
 -- ---- the job of a serial, from the answer of the search
 
-module _ (n serial : ℕ) (rs : List JobRow) where
-  pub serial-found : (p : ℕ) (r : JobRow) → At p ≡ placed (serialRow serial rs) → r ≡ getD rs p noRow → jobText n r ≡ serialText n serial rs
+module _ (n serial : ℕ) (before after : List JobRow) where
+  pub serial-found : (p : ℕ) (r : JobRow) → At p ≡ placed (serialRow serial after) → r ≡ getD after p noRow → jobText n r ≡ serialText n serial before after
   unfolding serialText foundText
-  serial-found p r e q = ap (jobText n) q ∙ ap (foundText n serial rs) (searched (serialRow serial rs) (At p) e)
+  serial-found p r e q = ap (jobText n) q ∙ ap (foundText n serial before after) (searched (serialRow serial after) (At p) e)
 
-  pub serial-unfound : Nowhere ≡ placed (serialRow serial rs) → noJobText serial ≡ serialText n serial rs
+  pub serial-unfound : Nowhere ≡ placed (serialRow serial after) → absentText noJobWord serial before ≡ serialText n serial before after
   unfolding serialText foundText
-  serial-unfound e = ap (foundText n serial rs) (searched (serialRow serial rs) Nowhere e)
+  serial-unfound e = ap (foundText n serial before after) (searched (serialRow serial after) Nowhere e)
+
+module _ (word : Bytes) (serial : ℕ) (rs : List JobRow) where
+  pub not-absent : (p : ℕ) → At p ≡ placed (serialRow serial rs) → [] ≡ absentText word serial rs
+  unfolding absentText unfoundText
+  not-absent p e = ap (unfoundText word serial) (searched (serialRow serial rs) (At p) e)
+
+  pub absent : Nowhere ≡ placed (serialRow serial rs) → handleLine word serial ≡ absentText word serial rs
+  unfolding absentText unfoundText
+  absent e = ap (unfoundText word serial) (searched (serialRow serial rs) Nowhere e)

@@ -1,10 +1,11 @@
--- How the table stands after an event, in words: who is asleep, and a job with its holder and its listeners. A line begins with a
--- line end and four spaces, and has no line end after it. Assumes nothing.
+-- How the table stands after an event, in words: who is asleep, the jobs that are gone, and a job with its marks, its holder and its
+-- listeners. A line begins with a line end and four spaces, and has no line end after it. Assumes nothing.
 use Prim.Native.Nat.{ℕ, zero, suc, _+_, _*_}
 use mathlib.Core.Bool.{Bool, cond}
 use mathlib.Core.List.{List, [], _∷_, _++_}
 use mathlib.Core.Option.{Option, none, some}
 use lib.ListN.{getD}
+use lib.Dec.{eqb}
 use Rattle.octets.specs.Bytes.{Bytes}
 use Rattle.sets.specs.Sets.{has}
 use Rattle.handle.specs.Handle.{decimal, handle, lap}
@@ -30,6 +31,16 @@ jobWord = 106 ∷ 111 ∷ 98 ∷ 32 ∷ []  -- job, and a space
 
 abbrev pub noJobWord : Bytes
 noJobWord = 110 ∷ 111 ∷ 32 ∷ 106 ∷ 111 ∷ 98 ∷ 32 ∷ []  -- no job, and a space
+
+-- marks of a job, each after a space
+abbrev pub lowWord : Bytes
+lowWord = 32 ∷ 108 ∷ 111 ∷ 119 ∷ []  -- low
+
+abbrev pub highWord : Bytes
+highWord = 32 ∷ 104 ∷ 105 ∷ 103 ∷ 104 ∷ []  -- high
+
+abbrev pub backgroundWord : Bytes
+backgroundWord = 32 ∷ 98 ∷ 97 ∷ 99 ∷ 107 ∷ 103 ∷ 114 ∷ 111 ∷ 117 ∷ 110 ∷ 100 ∷ []  -- background
 
 abbrev pub holderWord : Bytes
 holderWord = 32 ∷ 104 ∷ 111 ∷ 108 ∷ 100 ∷ 101 ∷ 114 ∷ []  -- holder, after a space
@@ -58,34 +69,57 @@ connectionsText f n = orNone (each f n)
 unfoldable pub sleepersText : ℕ → List Connection → Bytes
 sleepersText n cs = below ++ (asleepWord ++ connectionsText (λ c. getD cs c closed .asleep) n)
 
--- ---- jobs
+-- ---- one job
+
+-- `dropped H:lap:3`: a word with a space after it, and the handle
+unfoldable pub handleLine : Bytes → ℕ → Bytes
+handleLine word serial = below ++ (word ++ handle lap serial)
+
+-- ` low`, ` high`, ` background`; of a normal priority and of the foreground nothing is said
+unfoldable pub marksText : JobRow → Bytes
+marksText r = cond (eqb (r .priority) 0) lowWord [] ++ (cond (eqb (r .priority) 2) highWord [] ++ cond (r .background) backgroundWord [])
 
 -- a row's holder: 0 for none, else one more than its number
 unfoldable pub holderText : ℕ → Bytes
 holderText zero = noneWord
 holderText (suc c) = space ++ decimal c
 
--- `job H:lap:1 holder 1 listeners 0 2`
+-- `job H:lap:1 high background holder 1 listeners 0 2`
 unfoldable pub jobText : ℕ → JobRow → Bytes
 jobText n r =
-    below ++ (jobWord ++ (handle lap (r .serial) ++ (holderWord ++ (holderText (r .holder) ++ (listenersWord ++ connectionsText (has (r .listeners)) n)))))
+    handleLine jobWord (r .serial) ++ (marksText r ++ ((holderWord ++ holderText (r .holder)) ++ (listenersWord ++ connectionsText (has (r .listeners)) n)))
 
--- `no job H:lap:7`
-unfoldable pub noJobText : ℕ → Bytes
-noJobText serial = below ++ (noJobWord ++ handle lap serial)
+-- a line for a serial that no unfinished job of the rows has
+unfoldable pub unfoundText : Bytes → ℕ → Option ℕ → Bytes
+unfoundText word serial (some p) = []
+unfoundText word serial none = handleLine word serial
 
--- the job at the place where a serial was found; or that there is none
-unfoldable pub foundText : ℕ → ℕ → List JobRow → Option ℕ → Bytes
-foundText n serial rs (some p) = jobText n (getD rs p noRow)
-foundText n serial rs none = noJobText serial
+unfoldable pub absentText : Bytes → ℕ → List JobRow → Bytes
+absentText word serial rs = unfoundText word serial (serialRow serial rs)
 
--- the unfinished job of a serial; or that there is none
-unfoldable pub serialText : ℕ → ℕ → List JobRow → Bytes
-serialText n serial rs = foundText n serial rs (serialRow serial rs)
+-- the job at the place where a serial was found after the event; `no job H:lap:7`, if none had it before the event either: one that had
+-- it is gone, and is named as such
+unfoldable pub foundText : ℕ → ℕ → List JobRow → List JobRow → Option ℕ → Bytes
+foundText n serial before after (some p) = jobText n (getD after p noRow)
+foundText n serial before after none = absentText noJobWord serial before
+
+-- the unfinished job of a serial, from the rows before the event and after it
+unfoldable pub serialText : ℕ → ℕ → List JobRow → List JobRow → Bytes
+serialText n serial before after = foundText n serial before after (serialRow serial after)
+
+-- ---- all jobs
 
 -- every unfinished job, in the order of the places
 unfoldable pub jobsText : ℕ → List JobRow → Bytes
 jobsText n rs = pieces (λ p. cond (live (getD rs p noRow)) (jobText n (getD rs p noRow)) []) jobCount
+
+-- a row's job, if none of the rows after the event has its serial
+unfoldable pub goneOne : Bytes → List JobRow → JobRow → Bytes
+goneOne word after r = cond (live r) (absentText word (r .serial) after) []
+
+-- every job that stood in the table before the event and is gone after it, in the order of the places: `dropped H:lap:3`
+unfoldable pub goneText : Bytes → List JobRow → List JobRow → Bytes
+goneText word before after = pieces (λ p. goneOne word after (getD before p noRow)) jobCount
 
 -- ---- room for them
 
@@ -97,7 +131,11 @@ abbrev pub sleepersRoom : ℕ
 sleepersRoom = connectionsRoom + 11
 
 abbrev pub jobRoom : ℕ
-jobRoom = connectionsRoom + 53
+jobRoom = connectionsRoom + 73
 
 abbrev pub jobsRoom : ℕ
 jobsRoom = jobRoom * jobCount
+
+-- the longest word before a handle is `dropped` and a space
+abbrev pub goneRoom : ℕ
+goneRoom = 29 * jobCount

@@ -1,5 +1,5 @@
-// How the table stands after an event, in words laid over a lent text: who is asleep, and a job with its holder and its listeners.
-// Each function returns the place after what it laid. An inner crate: its callers see to the room, and no table is refused.
+// How the table stands after an event, in words laid over a lent text: who is asleep, the jobs that are gone, and a job with its marks,
+// its holder and its listeners. Each function returns the place after what it laid. An inner crate: its callers see to the room, and no table is refused.
 use lists::Place;
 use server::CONNECTIONS;
 use server::Connection;
@@ -10,19 +10,31 @@ ghost use Prim.Native.Nat.{_+_, _≤_, _<_};
 ghost use mathlib.Core.Bool.{cond};
 ghost use mathlib.Core.List.{[], _++_};
 ghost use lib.ListN.{length, getD};
-ghost use lib.Dec.{eqb};
 ghost use Rattle.octets.specs.Put.{put};
 ghost use Rattle.sets.specs.Sets.{has};
 ghost use Rattle.handle.specs.Handle.{decimal, handle, lap};
 ghost use Rattle.server.specs.Sizes.{connectionCount};
 ghost use Rattle.server.specs.Table.{closed, live};
 ghost use Rattle.show_names.specs.Names.{space};
-ghost use Rattle.show_table.specs.Standing.{connectionsText, each, holderText, holderWord, jobText, jobsText, listenersWord, noJobText, noneWord, serialText, sleepersText};
+ghost use Rattle.show_table.specs.Standing.{absentText, connectionsText, each, goneOne, goneText, handleLine, holderText, holderWord, jobText, jobsText, listenersWord, marksText, serialText, sleepersText};
 
-// Room for who sleeps, and for all jobs: a space and two digits for each connection, and the words.
+// Room for who sleeps, for all jobs, and for those that are gone: a space and two digits for each connection, and the words.
 pub const SLEEPERS_ROOM: usize = 3 * CONNECTIONS + 11;
 
-pub const JOBS_ROOM: usize = (3 * CONNECTIONS + 53) * JOBS;
+pub const JOBS_ROOM: usize = (3 * CONNECTIONS + 73) * JOBS;
+
+pub const GONE_ROOM: usize = 29 * JOBS;
+
+// Lays a word, if it is shown.
+fn put_if(out: &mut [u8], at: usize, shown: bool, word: &[u8]) -> usize
+    requires { ⌜ at + length (cond shown (now word) []) ≤ length (now out) ⌝ }
+    ensures { λ r. ⌜ (r ≡ at + length (cond shown (now (word .entry)) [])) × (now (out .exit) ≡ put at (cond shown (now (word .entry)) []) (now (out .entry))) ⌝ }
+{
+    if shown {
+        return octets::put(out, at, word);
+    }
+    at
+}
 
 // ---- connections
 
@@ -36,17 +48,6 @@ fn put_one(out: &mut [u8], at: usize, shown: bool, c: usize) -> usize
         return show_names::put_number(out, place, c as u32);
     }
     at
-}
-
-// Lays ` none` if a list of connections that began at `at` ends there too.
-fn put_none(out: &mut [u8], at: usize, place: usize) -> usize
-    requires { ⌜ place + length (cond (eqb place at) noneWord []) ≤ length (now out) ⌝ }
-    ensures { λ r. ⌜ (r ≡ place + length (cond (eqb place at) noneWord [])) × (now (out .exit) ≡ put place (cond (eqb place at) noneWord []) (now (out .entry))) ⌝ }
-{
-    if place == at {
-        return octets::put(out, place, b" none");
-    }
-    place
 }
 
 // Lays the connections that are asleep, in rising order.
@@ -85,10 +86,10 @@ pub fn put_sleepers(out: &mut [u8], at: usize, connections: [Connection; CONNECT
 {
     let list = octets::put(out, at, b"\n    asleep");
     let place = put_asleep(out, list, connections);
-    put_none(out, list, place)
+    put_if(out, place, place == list, b" none")
 }
 
-// ---- jobs
+// ---- one job
 
 // Lays the handle of a serial.
 fn put_handle(out: &mut [u8], at: usize, serial: u32) -> usize
@@ -98,6 +99,26 @@ fn put_handle(out: &mut [u8], at: usize, serial: u32) -> usize
     let printed = handle::handle_of(serial);
     let text = printed.text;
     octets::put(out, at, &text[..printed.length])
+}
+
+// Lays a line with a word and the handle of a serial.
+fn put_handle_line(out: &mut [u8], at: usize, word: &[u8], serial: u32) -> usize
+    requires { ⌜ at + length (handleLine (now word) serial) ≤ length (now out) ⌝ }
+    ensures { λ r. ⌜ (r ≡ at + length (handleLine (now (word .entry)) serial)) × (now (out .exit) ≡ put at (handleLine (now (word .entry)) serial) (now (out .entry))) ⌝ }
+{
+    let start = octets::put(out, at, b"\n    ");
+    let place = octets::put(out, start, word);
+    put_handle(out, place, serial)
+}
+
+// Lays a row's marks: a priority that is not normal, and the background.
+fn put_marks(out: &mut [u8], at: usize, row: JobRow) -> usize
+    requires { ⌜ at + length (marksText row) ≤ length (now out) ⌝ }
+    ensures { λ r. ⌜ (r ≡ at + length (marksText row)) × (now (out .exit) ≡ put at (marksText row) (now (out .entry))) ⌝ }
+{
+    let high = put_if(out, at, row.priority == 0, b" low");
+    let background = put_if(out, high, row.priority == 2, b" high");
+    put_if(out, background, row.background, b" background")
 }
 
 // Lays a row's holder.
@@ -119,40 +140,51 @@ fn put_listeners(out: &mut [u8], at: usize, listeners: u32) -> usize
 {
     let list = octets::put(out, at, b" listeners");
     let place = put_members(out, list, listeners);
-    put_none(out, list, place)
+    put_if(out, place, place == list, b" none")
 }
 
-// Lays the job of a row: its handle, its holder, its listeners.
+// Lays the job of a row: its handle, its marks, its holder, its listeners.
 fn put_job(out: &mut [u8], at: usize, row: JobRow) -> usize
     requires { ⌜ at + length (jobText connectionCount row) ≤ length (now out) ⌝ }
     ensures { λ r. ⌜ (r ≡ at + length (jobText connectionCount row)) × (now (out .exit) ≡ put at (jobText connectionCount row) (now (out .entry))) ⌝ }
 {
-    let serial = octets::put(out, at, b"\n    job ");
-    let holder = put_handle(out, serial, row.serial);
+    let marks = put_handle_line(out, at, b"job ", row.serial);
+    let holder = put_marks(out, marks, row);
     let listeners = put_holder(out, holder, row.holder);
     put_listeners(out, listeners, row.listeners)
 }
 
-// Lays that no unfinished job has this serial.
-fn put_no_job(out: &mut [u8], at: usize, serial: u32) -> usize
-    requires { ⌜ at + length (noJobText serial) ≤ length (now out) ⌝ }
-    ensures { λ r. ⌜ (r ≡ at + length (noJobText serial)) × (now (out .exit) ≡ put at (noJobText serial) (now (out .entry))) ⌝ }
-{
-    let place = octets::put(out, at, b"\n    no job ");
-    put_handle(out, place, serial)
-}
-
-// Lays the unfinished job of a serial; or that there is none.
-pub fn put_job_of(out: &mut [u8], at: usize, rows: [JobRow; JOBS], serial: u32) -> usize
-    requires { ⌜ at + length (serialText connectionCount serial rows) ≤ length (now out) ⌝ }
-    ensures { λ r. ⌜ (r ≡ at + length (serialText connectionCount serial rows)) × (now (out .exit) ≡ put at (serialText connectionCount serial rows) (now (out .entry))) ⌝ }
+// Lays a line with a word and the handle of a serial, if no unfinished job of the rows has it.
+fn put_absent(out: &mut [u8], at: usize, word: &[u8], rows: [JobRow; JOBS], serial: u32) -> usize
+    requires { ⌜ at + length (absentText (now word) serial rows) ≤ length (now out) ⌝ }
+    ensures { λ r. ⌜ (r ≡ at + length (absentText (now (word .entry)) serial rows)) × (now (out .exit) ≡ put at (absentText (now (word .entry)) serial rows) (now (out .entry))) ⌝ }
 {
     let place = plan_search::serial_row(rows, serial);
     match place {
-        Place::At(p) => put_job(out, at, plan_rows::row_at(rows, p)),
-        Place::Nowhere => put_no_job(out, at, serial),
+        Place::At(p) => at,
+        Place::Nowhere => put_handle_line(out, at, word, serial),
     }
 }
+
+// Lays the unfinished job of a serial; that there is none, if there was none before the event either.
+pub fn put_job_of(
+    out: &mut [u8],
+    at: usize,
+    before: [JobRow; JOBS],
+    after: [JobRow; JOBS],
+    serial: u32,
+) -> usize
+    requires { ⌜ at + length (serialText connectionCount serial before after) ≤ length (now out) ⌝ }
+    ensures { λ r. ⌜ (r ≡ at + length (serialText connectionCount serial before after)) × (now (out .exit) ≡ put at (serialText connectionCount serial before after) (now (out .entry))) ⌝ }
+{
+    let place = plan_search::serial_row(after, serial);
+    match place {
+        Place::At(p) => put_job(out, at, plan_rows::row_at(after, p)),
+        Place::Nowhere => put_absent(out, at, b"no job ", before, serial),
+    }
+}
+
+// ---- all jobs
 
 // Lays the job of a row, if the row is not free.
 fn put_row(out: &mut [u8], at: usize, row: JobRow) -> usize
@@ -175,6 +207,37 @@ pub fn put_jobs(out: &mut [u8], at: usize, rows: [JobRow; JOBS]) -> usize
     while p < JOBS {
         place = put_row(out, place, rows[p]);
         p += 1;
+    }
+    place
+}
+
+// Lays a word and the handle of a row's job, if none of the rows after the event has its serial.
+fn put_gone_row(out: &mut [u8], at: usize, word: &[u8], after: [JobRow; JOBS], row: JobRow) -> usize
+    requires { ⌜ at + length (goneOne (now word) after row) ≤ length (now out) ⌝ }
+    ensures { λ r. ⌜ (r ≡ at + length (goneOne (now (word .entry)) after row)) × (now (out .exit) ≡ put at (goneOne (now (word .entry)) after row) (now (out .entry))) ⌝ }
+{
+    if plan_search::is_live(row) {
+        return put_absent(out, at, word, after, row.serial);
+    }
+    at
+}
+
+// Lays every job that stood in the table before the event and is gone after it, in the order of the places.
+pub fn put_gone(
+    out: &mut [u8],
+    at: usize,
+    word: &[u8],
+    before: [JobRow; JOBS],
+    after: [JobRow; JOBS],
+) -> usize
+    requires { ⌜ at + length (goneText (now word) before after) ≤ length (now out) ⌝ }
+    ensures { λ r. ⌜ (r ≡ at + length (goneText (now (word .entry)) before after)) × (now (out .exit) ≡ put at (goneText (now (word .entry)) before after) (now (out .entry))) ⌝ }
+{
+    let mut place = at;
+    let mut q = 0;
+    while q < JOBS {
+        place = put_gone_row(out, place, word, after, before[q]);
+        q += 1;
     }
     place
 }

@@ -1,4 +1,4 @@
-//! A capture in words, as docs/SHOW.md has it: each line, what the server sends, its number, the sleepers, the job.
+//! A capture in words, as docs/SHOW.md has it: each line, what the server sends, its number, the sleepers, the jobs.
 #![forbid(unsafe_code)]
 
 use crate::event::Event;
@@ -38,14 +38,31 @@ fn digits(line: &[u8]) -> String {
 /// What stands below a line's number. The server does not see a line that is no frame.
 fn below(line: &[u8], server: &mut Server, out: &mut Outbox) -> Vec<String> {
     let Some(event) = frame(line) else { return vec![refusal(NOT_A_FRAME)] };
+    let before = serials(server);
     let number = event.run(server, out);
     let mut words = vec![said(&event)];
     words.extend(out.addressed().map(|packet| packet_line(Side::Response, packet[0].into(), &packet[1..])));
     words.push(if number == DONE { "done".to_string() } else { refusal(number) });
     let asleep = (0..CONNECTIONS).filter(|&connection| server.connections[connection].asleep);
     words.push(format!("asleep {}", list(asleep)));
-    words.extend(concerned(&event, number, server, out));
+    let after = serials(server);
+    let gone = before.iter().filter(|serial| !after.contains(serial));
+    words.extend(gone.map(|&serial| format!("{} {}", ending(&event), handle_words(serial))));
+    words.extend(concerned(&event, number, &before, server, out));
     words
+}
+
+/// The serials of the unfinished jobs, in the order of their places.
+fn serials(server: &Server) -> Vec<u32> {
+    server.jobs.iter().flatten().map(|job| job.serial).collect()
+}
+
+/// What an event does to a job that is gone after it.
+fn ending(event: &Event) -> &'static str {
+    match event {
+        Event::Packet(..) => "ended",
+        Event::Open(_) | Event::Close(_) => "dropped",
+    }
 }
 
 /// What the line itself says.
@@ -57,17 +74,18 @@ fn said(event: &Event) -> String {
     }
 }
 
-/// The job concerned, if there is one; after a close that is done, all jobs in the order of their places.
-fn concerned(event: &Event, number: u32, server: &Server, out: &Outbox) -> Vec<String> {
+/// The job concerned, if there is one and it has not just gone; after a close that is done, all jobs in the order of their places.
+fn concerned(event: &Event, number: u32, before: &[u32], server: &Server, out: &Outbox) -> Vec<String> {
     if let Event::Close(_) = event {
         let left = server.jobs.iter().flatten().filter(|_| number == DONE);
         return left.map(job_words).collect();
     }
     let words = |serial| match server.jobs.iter().flatten().find(|job| job.serial == serial) {
-        Some(job) => job_words(job),
-        None => format!("no job {}", handle_words(serial)),
+        Some(job) => Some(job_words(job)),
+        None if before.contains(&serial) => None,
+        None => Some(format!("no job {}", handle_words(serial))),
     };
-    serial(event, out).map(words).into_iter().collect()
+    serial(event, out).and_then(words).into_iter().collect()
 }
 
 /// The serial whose handle stands in the packet that came, or else in the first one that was sent.
@@ -90,7 +108,9 @@ fn serial_in(side: Side, bytes: &[u8]) -> Option<u32> {
 
 fn job_words(job: &Job) -> String {
     let handle = handle_words(job.serial);
-    format!("job {handle} holder {} listeners {}", list(job.holder), list(members(job.listeners)))
+    let priority = ["low ", "", "high "][usize::from(job.priority)];
+    let background = if job.background { "background " } else { "" };
+    format!("job {handle} {priority}{background}holder {} listeners {}", list(job.holder), list(members(job.listeners)))
 }
 
 fn handle_words(serial: u32) -> String {

@@ -1,4 +1,4 @@
-//! One packet as a line of words, as docs/SHOW.md has it: names, labels, what may be seen of an argument, refusals.
+//! One packet as a line of words, as docs/SHOW.md has it: names, labels, what may be seen of an argument, reasons.
 #![forbid(unsafe_code)]
 
 use crate::packet::{self, Packet, Part, Side};
@@ -44,10 +44,10 @@ const NAMES: [&str; 36] = [
     "SUBMIT_JOB_EPOCH",
 ];
 
-/// A type's name; `?` for a number that document 000 does not name.
-pub fn name(kind: u32) -> &'static str {
+/// A type's name; one that document 000 does not name goes by its number.
+pub fn name(kind: u32) -> String {
     let place = (kind as usize).wrapping_sub(1);
-    NAMES.get(place).unwrap_or(&"?")
+    NAMES.get(place).map_or_else(|| format!("type {kind}"), |name| (*name).to_string())
 }
 
 /// Document 01's words for the arguments of a type, in their order. A type goes by one shape on either side.
@@ -68,7 +68,7 @@ pub fn labels(kind: u32) -> &'static [&'static str] {
     }
 }
 
-/// A refusal by itself.
+/// What the server answers where it refuses.
 pub fn refusal(number: u32) -> String {
     format!("refused {number} {}", reason(number))
 }
@@ -97,15 +97,20 @@ pub fn packet_line(side: Side, connection: u32, bytes: &[u8]) -> String {
     format!("{connection} {arrow} {}", packet_words(side, bytes))
 }
 
-/// A refused packet shows nothing of its data; under a bad header, 5 to 8, it has no type either.
+/// A packet that cannot be read shows nothing of its data; under a bad header, 5 to 8, it has no type either.
 fn packet_words(side: Side, bytes: &[u8]) -> String {
     match packet::read(side, bytes) {
-        Ok(packet) => [name(packet.kind), &arguments(side, &packet)].concat(),
+        Ok(packet) => [name(packet.kind), arguments(side, &packet)].concat(),
         Err(number @ (packet::WRONG_TYPE | packet::BAD_ARGUMENTS)) => {
-            format!("{} {}", name(packet::kind(bytes)), refusal(number))
+            format!("{} {}", name(packet::kind(bytes)), unreadable(number))
         }
-        Err(number) => refusal(number),
+        Err(number) => unreadable(number),
     }
+}
+
+/// Why a packet cannot be read.
+fn unreadable(number: u32) -> String {
+    format!("(unreadable: {})", reason(number))
 }
 
 /// The arguments, one space before each; labels where there are several.
@@ -125,6 +130,7 @@ fn arguments(side: Side, packet: &Packet) -> String {
 /// What may be seen of an argument: of an opaque one its length alone.
 fn seen(part: Part, bytes: &[u8]) -> String {
     match part {
+        Part::Opaque if bytes.len() == 1 => "1 byte".to_string(),
         Part::Opaque => format!("{} bytes", bytes.len()),
         _ if bytes.is_empty() => "\"\"".to_string(),
         _ => bytes.iter().map(|&byte| if (33..=126).contains(&byte) { char::from(byte) } else { '?' }).collect(),

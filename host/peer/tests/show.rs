@@ -52,24 +52,25 @@ fn packets_that_are_read() {
     assert_eq!(requested(3, 1, &[b"a b\xff"]), "3 -> CAN_DO a?b?");
     assert_eq!(requested(3, 26, &[b""]), "3 -> OPTION_REQ \"\"");
     assert_eq!(requested(3, 16, &[b""]), "3 -> ECHO_REQ 0 bytes");
+    assert_eq!(requested(3, 16, &[b"a"]), "3 -> ECHO_REQ 1 byte");
     assert_eq!(requested(3, 1, &[b"\x20\x21\x7e\x7f"]), "3 -> CAN_DO ?!~?");
 }
 
 #[test]
-fn packets_that_are_refused() {
-    assert_eq!(packet_line(Side::Request, 2, b""), "2 -> refused 5 under 12 bytes");
-    assert_eq!(packet_line(Side::Request, 2, &response(2, 6, &[]).1), "2 -> refused 6 magic");
-    assert_eq!(requested(2, 16, &[&[0; 1_025]]), "2 -> refused 7 size");
+fn packets_that_cannot_be_read() {
+    assert_eq!(packet_line(Side::Request, 2, b""), "2 -> (unreadable: under 12 bytes)");
+    assert_eq!(packet_line(Side::Request, 2, &response(2, 6, &[]).1), "2 -> (unreadable: magic)");
+    assert_eq!(requested(2, 16, &[&[0; 1_025]]), "2 -> (unreadable: size)");
     assert_eq!(
         packet_line(Side::Request, 2, &[&request(9, &[])[..], b"a"].concat()),
-        "2 -> refused 8 length is not 12 + size"
+        "2 -> (unreadable: length is not 12 + size)"
     );
-    assert_eq!(requested(2, 22, &[b"id"]), "2 -> SET_CLIENT_ID refused 9 type");
-    assert_eq!(requested(2, 5, &[]), "2 -> (unused) refused 9 type");
-    for kind in [0, 37, 256 + 9, u32::MAX] {
-        assert_eq!(requested(2, kind, &[]), "2 -> ? refused 9 type");
+    assert_eq!(requested(2, 22, &[b"id"]), "2 -> SET_CLIENT_ID (unreadable: type)");
+    assert_eq!(requested(2, 5, &[]), "2 -> (unused) (unreadable: type)");
+    for kind in [0, 37, 39, 256 + 9, u32::MAX] {
+        assert_eq!(requested(2, kind, &[]), format!("2 -> type {kind} (unreadable: type)"));
     }
-    assert_eq!(requested(2, 1, &[b""]), "2 -> CAN_DO refused 10 arguments");
+    assert_eq!(requested(2, 1, &[b""]), "2 -> CAN_DO (unreadable: arguments)");
     assert_eq!(refusal(14), "refused 14 handle");
     assert_eq!(refusal(17), "refused 17 ?");
 }
@@ -132,8 +133,10 @@ fn the_job_concerned() {
     let ended = held + &sent(1, 14, &[b"H:lap:1"]);
     assert_eq!(
         last(&ended),
-        ["1 -> WORK_FAIL H:lap:1", "0 <- WORK_FAIL H:lap:1", "done", "asleep none", "no job H:lap:1"]
+        ["1 -> WORK_FAIL H:lap:1", "0 <- WORK_FAIL H:lap:1", "done", "asleep none", "ended H:lap:1"]
     );
+    let late = ended + &sent(1, 14, &[b"H:lap:1"]);
+    assert_eq!(last(&late)[2..], ["refused 14 handle", "asleep none", "no job H:lap:1"]);
 }
 
 #[test]
@@ -144,13 +147,41 @@ fn after_a_close_that_is_done_all_jobs_are_shown() {
         capture += &sent(connection, 18, &[b"g", b"", b"w"]);
     }
     capture += &sent(1, 9, &[]);
-    let others = [2, 3, 4].map(|serial| format!("job H:lap:{serial} holder none listeners none"));
+    capture += &sent(2, 7, &[b"f", b"", b"w"]);
+    let others = [2, 3, 4].map(|serial| format!("job H:lap:{serial} background holder none listeners none"));
     let refused = last(&(capture.clone() + "020f\n"));
     assert_eq!(refused, ["15 closes", "refused 3 connection not open", "asleep none"]);
     let left = last(&(capture + "0202\n"));
     assert_eq!(left[..3], ["2 closes", "done", "asleep none"]);
-    assert_eq!(left[3], "job H:lap:1 holder 1 listeners 0");
-    assert_eq!(left[4..], others);
+    assert_eq!(left[3], "dropped H:lap:5");
+    assert_eq!(left[4], "job H:lap:1 holder 1 listeners 0");
+    assert_eq!(left[5..], others);
+}
+
+#[test]
+fn dropped_jobs_in_the_order_of_their_places() {
+    let mut capture = format!("0100\n0101\n{}", sent(1, 1, &[b"f"]));
+    for kind in [33, 7, 21] {
+        capture += &sent(0, kind, &[b"f", b"", b"w"]);
+    }
+    // The highest priority is held and ends, and a new job takes its place, the last of the three.
+    capture += &(sent(1, 9, &[]) + &sent(1, 14, &[b"H:lap:3"]) + &sent(0, 33, &[b"f", b"", b"w"]) + &sent(1, 9, &[]));
+    let left = last(&(capture.clone() + "0200\n"));
+    assert_eq!(left[2..], ["asleep none", "dropped H:lap:1", "dropped H:lap:4", "job H:lap:2 holder 1 listeners none"]);
+    // The holder leaves, and nobody is left who listens.
+    let left = last(&(capture + "0200\n0201\n"));
+    assert_eq!(left[2..], ["asleep none", "dropped H:lap:2"]);
+}
+
+#[test]
+fn the_marks_of_a_job() {
+    for (kind, marks) in
+        [(7, ""), (18, " background"), (21, " high"), (32, " high background"), (33, " low"), (34, " low background")]
+    {
+        let listeners = if marks.ends_with("background") { "none" } else { "0" };
+        let shown = last(&format!("0100\n{}", sent(0, kind, &[b"f", b"", b"w"])));
+        assert_eq!(shown.last().unwrap(), &format!("job H:lap:1{marks} holder none listeners {listeners}"));
+    }
 }
 
 #[test]
@@ -166,13 +197,21 @@ fn random_captures_reach_everything() {
     for number in (2..=16).filter(|&number| number != 13) {
         assert!(count(&format!("\n    {}\n", refusal(number))) >= 20, "{}", refusal(number));
     }
-    for kind in 0..40 {
+    for kind in 0..=37 {
         let named =
             |arrow: &str| count(&format!(" {arrow} {} ", name(kind))) + count(&format!(" {arrow} {}\n", name(kind)));
         assert!(named("->") > 0, "-> {}", name(kind));
         assert!(shape(Side::Response, kind).is_none() || named("<-") >= 10, "<- {}", name(kind));
     }
-    for part in ["\n    no job H:lap:", " holder 1 listeners ", " listeners none\n"] {
+    for part in [
+        "\n    no job H:lap:",
+        "\n    ended H:lap:",
+        "\n    dropped H:lap:",
+        " high holder ",
+        " low background holder ",
+        " holder 1 listeners ",
+        " listeners none\n",
+    ] {
         assert!(count(part) >= 20, "{part}");
     }
     let longest = |word: &str| {

@@ -13,6 +13,9 @@ returns c = short-text _ _ _ _ _ _ (c .if1 .taken)
 read-frame-requires : tie.Need-read-frame-requires
 read-frame-requires c κs = search needs
 
+rows-in-requires : tie.Need-rows-in-requires
+rows-in-requires c κs = search needs
+
 answer-frame-requires : tie.Need-answer-frame-requires
 answer-frame-requires c κs = search needs
 
@@ -25,7 +28,7 @@ slice-aggregate-put-line c = sym (length-take-le _ _ (sent-inside _ _ _ _ _ _ _ 
 put-line-requires : tie.Need-put-line-requires
 put-line-requires c κs =
     let q = c .before .before .before .before .before .before .before .before .before .before .answer-frame .ensures in
-    (c .before .before .before .before .before .before .before .before .before .before .before .before .before .before .before .read-frame .ensures .1, sent-packed _ _ _ _ _ _ _ _ _ q, table-long _ _ _ _ _ _ _ _ _ q, sent-few _ _ _ _ _ _ _ _ _ q, c .before .before .before .before .before .before .before .before .before .before .before .before .before .before .before .before .before .if1 .left)
+    (c .before .before .before .before .before .before .before .before .before .before .before .before .before .before .before .before .before .read-frame .ensures .1, sent-packed _ _ _ _ _ _ _ _ _ q, table-long _ _ _ _ _ _ _ _ _ q, sent-few _ _ _ _ _ _ _ _ _ q, c .before .before .before .before .before .before .before .before .before .before .before .before .before .before .before .before .before .before .before .if1 .left)
 
 same-length : tie.Need-same-length
 same-length c = search needs
@@ -40,7 +43,7 @@ same-length-4 : tie.Need-same-length-4
 same-length-4 c = search needs
 
 returns-2 : tie.Need-returns-2
-returns-2 c = line-shown _ _ _ _ _ _ _ _ _ (c .before .before .before .before .before .before .before .before .before .before .before .before .before .answer-frame .ensures) _ _ _ (c .before .before .before .before .before .before .before .before .before .before .before .before .before .before .before .before .before .before .before .before .if1 .left) (c .before .before .before .before .before .before .before .before .before .before .before .before .before .before .before .before .before .before .read-frame .ensures .0) _ _ (c .before .before .put-line .ensures)
+returns-2 c = line-shown _ _ _ _ _ _ _ _ _ (c .before .before .before .before .before .before .before .before .before .before .before .before .before .answer-frame .ensures) _ _ _ (c .before .before .before .before .before .before .before .before .before .before .before .before .before .before .before .before .before .before .before .before .before .before .if1 .left) (c .before .before .before .before .before .before .before .before .before .before .before .before .before .before .before .before .before .before .before .before .read-frame .ensures .0) _ (c .before .before .before .before .before .before .before .before .before .before .before .before .before .before .before .before .before .before .rows-in .ensures) _ _ (c .before .before .put-line .ensures)
 
 pub step-spec : {M : Type 1} → statement M
 step-spec =
@@ -48,6 +51,7 @@ step-spec =
     (tie.spec
     returns
     read-frame-requires
+    rows-in-requires
     answer-frame-requires
     slice-reshare-prefix-put-line
     slice-aggregate-put-line

@@ -3,8 +3,8 @@
 use mathlib.Core.Path.{sym, _∙_}
 use Rattle.octets.proofs.Runs.{laid-as, room-as}
 use Rattle.show_table.proofs.Jobs.{serial-found, serial-unfound}
-use borrow.Author.Needs.{needs}
 use Rattle.server.specs.Sizes.{connectionCount}
+use borrow.Author.Needs.{needs}
 use Rattle.show_table.proofs.put_job_of.Statement.{statement}
 use Rattle.show_table.proofs.put_job_of.Tie as tie
 
@@ -20,15 +20,18 @@ row-at-requires c κs = search needs
 put-job-requires : tie.Need-put-job-requires
 put-job-requires c κs =
     let s = c .before .before .before .before .before .before .before in
-    room-as _ _ (serial-found connectionCount (s .args .serial) (s .args .rows) _ _ (sym (c .before .before .before .place .given .1) ∙ c .before .before .before .before .before .serial-row .ensures) (c .row-at .ensures)) _ _ (s .pre)
+    room-as _ _ (serial-found connectionCount (s .args .serial) (s .args .before) (s .args .after) _ _ (sym (c .before .before .before .place .given .1) ∙ c .before .before .before .before .before .serial-row .ensures) (c .row-at .ensures)) _ _ (s .pre)
 
 enum-told : tie.Need-enum-told
 enum-told c = search needs
 
-put-no-job-requires : tie.Need-put-no-job-requires
-put-no-job-requires c κs =
-    let s = c .before .before .before .before .before in
-    room-as _ _ (serial-unfound connectionCount (s .args .serial) (s .args .rows) (sym (c .before .enum-told .given .1) ∙ c .before .before .before .serial-row .ensures)) _ _ (s .pre)
+slice-aggregate-put-absent : tie.Need-slice-aggregate-put-absent
+slice-aggregate-put-absent c = search needs
+
+put-absent-requires : tie.Need-put-absent-requires
+put-absent-requires c κs =
+    let s = c .before .before .before .before .before .before in
+    room-as _ _ (serial-unfound connectionCount (s .args .serial) (s .args .before) (s .args .after) (sym (c .before .before .enum-told .given .1) ∙ c .before .before .before .before .serial-row .ensures)) _ _ (s .pre)
 
 same-length : tie.Need-same-length
 same-length c = search needs
@@ -36,15 +39,15 @@ same-length c = search needs
 returns : tie.Need-returns
 returns c =
     let s = c .before .before .before .before .before .before .before .before .before .before in
-    laid-as _ _ (serial-found connectionCount (s .args .serial) (s .args .rows) _ _ (sym (c .before .before .before .before .before .before .place .given .1) ∙ c .before .before .before .before .before .before .before .before .serial-row .ensures) (c .before .before .before .row-at .ensures)) _ _ _ _ (c .before .before .put-job .ensures)
+    laid-as _ _ (serial-found connectionCount (s .args .serial) (s .args .before) (s .args .after) _ _ (sym (c .before .before .before .before .before .before .place .given .1) ∙ c .before .before .before .before .before .before .before .before .serial-row .ensures) (c .before .before .before .row-at .ensures)) _ _ _ _ (c .before .before .put-job .ensures)
 
 same-length-2 : tie.Need-same-length-2
 same-length-2 c = search needs
 
 returns-2 : tie.Need-returns-2
 returns-2 c =
-    let s = c .before .before .before .before .before .before .before .before in
-    laid-as _ _ (serial-unfound connectionCount (s .args .serial) (s .args .rows) (sym (c .before .before .before .before .enum-told .given .1) ∙ c .before .before .before .before .before .before .serial-row .ensures)) _ _ _ _ (c .before .before .put-no-job .ensures)
+    let s = c .before .before .before .before .before .before .before .before .before in
+    laid-as _ _ (serial-unfound connectionCount (s .args .serial) (s .args .before) (s .args .after) (sym (c .before .before .before .before .before .enum-told .given .1) ∙ c .before .before .before .before .before .before .before .serial-row .ensures)) _ _ _ _ (c .before .before .put-absent .ensures)
 
 pub put-job-of-spec : {M : Type 1} → statement M
 put-job-of-spec =
@@ -55,7 +58,8 @@ put-job-of-spec =
     row-at-requires
     put-job-requires
     enum-told
-    put-no-job-requires
+    slice-aggregate-put-absent
+    put-absent-requires
     same-length
     returns
     same-length-2

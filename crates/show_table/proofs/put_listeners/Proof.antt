@@ -20,20 +20,23 @@ put-members-requires c κs =
     let s = c .before .before .before .before .before .before .before in
     list-room _ listenersWord (has (s .args .listeners)) _ _ _ (c .before .before .before .put .ensures) (s .pre)
 
-put-none-requires : tie.Need-put-none-requires
-put-none-requires c κs =
-    let s = c .before .before .before .before .before .before .before .before .before .before .before in
-    none-room _ listenersWord (has (s .args .listeners)) _ _ _ (c .before .before .before .before .before .before .before .put .ensures) (s .pre) _ _ (c .before .before .before .put-members .ensures)
+slice-aggregate-put-if : tie.Need-slice-aggregate-put-if
+slice-aggregate-put-if c = search needs
+
+put-if-requires : tie.Need-put-if-requires
+put-if-requires c κs =
+    let s = c .before .before .before .before .before .before .before .before .before .before .before .before in
+    none-room _ listenersWord (has (s .args .listeners)) _ _ _ (c .before .before .before .before .before .before .before .before .put .ensures) (s .pre) _ _ (c .before .before .before .before .put-members .ensures)
 
 same-length : tie.Need-same-length
 same-length c = search needs
 
 returns : tie.Need-returns
 returns c =
-    let s = c .before .before .before .before .before .before .before .before .before .before .before .before .before .before in
-    list-laid _ listenersWord (has (s .args .listeners)) _ _ _ (c .before .before .before .before .before .before .before .before .before .before .put .ensures) _ _ (c .before .before .before .before .before .before .put-members .ensures) _ _ (c .before .before .put-none .ensures)
+    let s = c .before .before .before .before .before .before .before .before .before .before .before .before .before .before .before in
+    list-laid _ listenersWord (has (s .args .listeners)) _ _ _ (c .before .before .before .before .before .before .before .before .before .before .before .put .ensures) _ _ (c .before .before .before .before .before .before .before .put-members .ensures) _ _ (c .before .before .put-if .ensures)
 
 pub put-listeners-spec : {M : Type 1} → statement M
 put-listeners-spec =
     tie.close
-    (tie.spec slice-aggregate-put put-requires put-members-requires put-none-requires same-length returns)
+    (tie.spec slice-aggregate-put put-requires put-members-requires slice-aggregate-put-if put-if-requires same-length returns)

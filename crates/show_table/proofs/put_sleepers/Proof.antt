@@ -22,11 +22,14 @@ put-asleep-requires c κs =
     let s = c .before .before .before .before .before .before .before in
     list-room _ (below ++ asleepWord) (sleeps (s .args .connections)) _ _ _ (c .before .before .before .put .ensures) (s .pre)
 
-put-none-requires : tie.Need-put-none-requires
+slice-aggregate-put-if : tie.Need-slice-aggregate-put-if
+slice-aggregate-put-if c = search needs
+
+put-if-requires : tie.Need-put-if-requires
 unfolding sleepersText
-put-none-requires c κs =
-    let s = c .before .before .before .before .before .before .before .before .before .before .before in
-    none-room _ (below ++ asleepWord) (sleeps (s .args .connections)) _ _ _ (c .before .before .before .before .before .before .before .put .ensures) (s .pre) _ _ (c .before .before .before .put-asleep .ensures)
+put-if-requires c κs =
+    let s = c .before .before .before .before .before .before .before .before .before .before .before .before in
+    none-room _ (below ++ asleepWord) (sleeps (s .args .connections)) _ _ _ (c .before .before .before .before .before .before .before .before .put .ensures) (s .pre) _ _ (c .before .before .before .before .put-asleep .ensures)
 
 same-length : tie.Need-same-length
 same-length c = search needs
@@ -34,10 +37,10 @@ same-length c = search needs
 returns : tie.Need-returns
 unfolding sleepersText
 returns c =
-    let s = c .before .before .before .before .before .before .before .before .before .before .before .before .before .before in
-    list-laid _ (below ++ asleepWord) (sleeps (s .args .connections)) _ _ _ (c .before .before .before .before .before .before .before .before .before .before .put .ensures) _ _ (c .before .before .before .before .before .before .put-asleep .ensures) _ _ (c .before .before .put-none .ensures)
+    let s = c .before .before .before .before .before .before .before .before .before .before .before .before .before .before .before in
+    list-laid _ (below ++ asleepWord) (sleeps (s .args .connections)) _ _ _ (c .before .before .before .before .before .before .before .before .before .before .before .put .ensures) _ _ (c .before .before .before .before .before .before .before .put-asleep .ensures) _ _ (c .before .before .put-if .ensures)
 
 pub put-sleepers-spec : {M : Type 1} → statement M
 put-sleepers-spec =
     tie.close
-    (tie.spec slice-aggregate-put put-requires put-asleep-requires put-none-requires same-length returns)
+    (tie.spec slice-aggregate-put put-requires put-asleep-requires slice-aggregate-put-if put-if-requires same-length returns)
