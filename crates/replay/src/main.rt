@@ -1,6 +1,7 @@
 // The replay: reads standard input line by line, each line one frame in lowercase hexadecimal, calls the job server, and writes the
 // addressed packets of each answer one a line and then its number. What a line says is made by the crate `replay_line`, and written before
-// the next line is read. Where reading or writing fails the program says so on standard error and ends.
+// the next line is read. Where reading or writing fails the program says so on standard error and ends. Started with an argument it says
+// how it is used, and reads nothing.
 use input::Input;
 use replay_line::TEXT_SIZE;
 use server::OUTPUT_SIZE;
@@ -56,7 +57,7 @@ fn replay_all(
 }
 
 // A fresh table and fresh workloads are zeros. The buffer holds one byte more than the longest frame has digits.
-fn main() {
+fn run() {
     let mut table = [0u8; TABLE_SIZE];
     let mut workloads = [0u8; WORKLOADS_SIZE];
     let mut output = [0u8; OUTPUT_SIZE];
@@ -71,4 +72,22 @@ fn main() {
         &mut chunk,
         &mut buffer,
     );
+}
+
+// Says on standard error how the program is used.
+fn explain() {
+    io::write_all(2, b"usage: replay < CAPTURE\n");
+    io::write_all(
+        2,
+        b"replay takes no argument. It reads lines of a capture from standard input and prints what the server answers, in digits.\n",
+    );
+}
+
+// The first argument is the program's own name.
+fn main() {
+    if 1 < os::arg_count() {
+        explain();
+        return;
+    }
+    run();
 }

@@ -1,7 +1,7 @@
 // Shows a capture in words: reads standard input line by line, each line one frame in lowercase hexadecimal, calls the job server, and
 // writes under the number of each line what it says, what the server answered, and how the table stands. docs/SHOW.md has the layout.
 // What is shown of a line is made by the crate `show_line`, and written before the next line is read. Where reading or writing fails the
-// program says so on standard error and ends.
+// program says so on standard error and ends. Started with an argument it says how it is used, and reads nothing.
 use input::Input;
 use server::OUTPUT_SIZE;
 use server::TABLE_SIZE;
@@ -75,7 +75,7 @@ fn show_all(
 }
 
 // A fresh table and fresh workloads are zeros. The buffer holds one byte more than the longest frame has digits.
-fn main() {
+fn run() {
     let mut table = [0u8; TABLE_SIZE];
     let mut workloads = [0u8; WORKLOADS_SIZE];
     let mut output = [0u8; OUTPUT_SIZE];
@@ -90,4 +90,22 @@ fn main() {
         &mut chunk,
         &mut buffer,
     );
+}
+
+// Says on standard error how the program is used.
+fn explain() {
+    io::write_all(2, b"usage: show < CAPTURE\n");
+    io::write_all(
+        2,
+        b"show takes no argument. It reads lines of a capture from standard input and prints what each says and what the server answers, in words.\n",
+    );
+}
+
+// The first argument is the program's own name.
+fn main() {
+    if 1 < os::arg_count() {
+        explain();
+        return;
+    }
+    run();
 }
