@@ -1,4 +1,5 @@
--- Visible bytes laid one by one, and what the tests of the code say of a byte, of an argument, of its size and of a packet that cannot be read. Assumes nothing.
+-- Visible bytes laid one by one, and what the tests of the code say of a byte, of an argument, of its size and of a packet that cannot
+-- be read. Assumes nothing.
 use Prim.Native.Nat.{ℕ, suc, _+_, _<_, _≤_}
 use mathlib.Core.Path.{_≡_, refl, ap, _∙_, sym}
 use mathlib.Core.Bool.{false}

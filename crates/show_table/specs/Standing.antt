@@ -130,12 +130,13 @@ connectionsRoom = 3 * connectionCount
 abbrev pub sleepersRoom : ℕ
 sleepersRoom = connectionsRoom + 11
 
+-- `job` 9, the handle 16, the marks 20, the holder 18, `listeners` 10
 abbrev pub jobRoom : ℕ
 jobRoom = connectionsRoom + 73
 
 abbrev pub jobsRoom : ℕ
 jobsRoom = jobRoom * jobCount
 
--- the longest word before a handle is `dropped` and a space
+-- `dropped` 13, the handle 16
 abbrev pub goneRoom : ℕ
 goneRoom = 29 * jobCount

@@ -1,5 +1,6 @@
 // How the table stands after an event, in words laid over a lent text: who is asleep, the jobs that are gone, and a job with its marks,
-// its holder and its listeners. Each function returns the place after what it laid. An inner crate: its callers see to the room, and no table is refused.
+// its holder and its listeners. Each function returns the place after what it laid. An inner crate: its callers see to the room, and no
+// table is refused.
 use lists::Place;
 use server::CONNECTIONS;
 use server::Connection;
