@@ -9,7 +9,7 @@ use Rattle.lists.specs.Lists.{concat}
 use Rattle.server.specs.declared.JobRow.{JobRow}
 use Rattle.server.specs.Sizes.{connectionCount, outputSize}
 use Rattle.server.specs.Table.{Table}
-use Rattle.server.specs.Asked.{Event}
+use Rattle.server.specs.Requests.{Event}
 use Rattle.plan.specs.Values.{rowsOf}
 use Rattle.capture.specs.Packets.{Addressed}
 use Rattle.capture.proofs.Texts.{Fits}

@@ -6,7 +6,7 @@ use Rattle.octets.specs.Bytes.{Bytes}
 use Rattle.server.specs.declared.JobRow.{JobRow}
 use Rattle.server.specs.Sizes.{connectionCount, outputSize}
 use Rattle.server.specs.Table.{Table}
-use Rattle.server.specs.Asked.{Event}
+use Rattle.server.specs.Requests.{Event}
 use Rattle.server.specs.Server.{Server}
 use Rattle.plan.specs.Values.{rowsOf}
 use Rattle.capture.specs.Spoken.{Speech, Told, told, said, spoken}
