@@ -47,7 +47,7 @@ module _ (t w o : Bytes) where
 
 pub open-at : (t : Bytes) (c : ℕ) → c < connectionCount → eqb (getD t (openedAt connectionCount + c) 0) 1 ≡ getD (tableOf connectionCount t .connections) c closed .opened
 unfolding tableOf
-open-at t c h = sym (ap (λ (x : Connection). x .opened) (places-at (connectionIn connectionCount t) closed 16 c h))
+open-at t c h = sym (ap (λ (x : Connection). x .opened) (places-at (connectionIn connectionCount t) closed connectionCount c h))
 
 pub both-open : (a b : Bool) → a && b ≡ true → 4 ≡ stateRefusal a b
 unfolding stateRefusal

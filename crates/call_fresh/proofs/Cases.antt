@@ -22,4 +22,4 @@ module _ (t w : Bytes) where
 
   pub made-fresh : (x y : Bytes) → tableSize connectionCount ≤ length t → workloadsSize ≤ length w → x ≡ put 0 (zeros (tableSize connectionCount)) t → y ≡ put 0 (zeros workloadsSize) w → made 0 x y ≡ make connectionCount t w
   unfolding make zeros
-  made-fresh x y g h e f = rw (le-ltb (length t) (tableSize connectionCount) g, le-ltb (length w) workloadsSize h, e, f, fresh-zeros 16)
+  made-fresh x y g h e f = rw (le-ltb (length t) (tableSize connectionCount) g, le-ltb (length w) workloadsSize h, e, f, fresh-zeros connectionCount)

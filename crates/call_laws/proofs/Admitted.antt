@@ -20,7 +20,7 @@ use Rattle.server_laws.proofs.Outcome.{Stands}
 use Rattle.server_calls.proofs.Refusals.{Taken, taken, one-if}
 use Rattle.carry_event.proofs.Steps.{silent-laid}
 use Rattle.call_admit.specs.Admission.{stateRefusal, admission}
-use Rattle.call_laws.proofs.Conclusion.{sixteen, refusal-performed}
+use Rattle.call_laws.proofs.Conclusion.{connections-long, refusal-performed}
 
 -- ---- on usable bytes a call performs
 
@@ -82,7 +82,7 @@ pub record Admitted (opens : Bool) (c : ℕ) (t w o : Bytes) : Type 0 where
 -- so its connection stands in the table as the event asks
 pub stands : {opens : Bool} {c : ℕ} {t w o : Bytes} → Admitted opens c t w o → Stands (serverIn connectionCount t w .table) c (not opens)
 unfolding serverIn
-stands {t = t} h = record { inside = rw (sixteen t) (h .inside); state = h .state }
+stands {t = t} h = record { inside = rw (connections-long t) (h .inside); state = h .state }
 
 module _ (opens : Bool) (c : ℕ) (t w o : Bytes) where
   abbrev isOpen : Bool
@@ -120,7 +120,7 @@ module _ (opens : Bool) (c : ℕ) (t w o : Bytes) where
     decided-at-once : ¬ (number ≡ 0) → decided e (serverIn connectionCount t w) ≡ refuse c number (tableOf connectionCount t)
     unfolding serverIn
     decided-at-once z =
-        let q : isConnection (tableOf connectionCount t) c ≡ ltb c connectionCount = ap (ltb c) (sixteen t) in
+        let q : isConnection (tableOf connectionCount t) c ≡ ltb c connectionCount = ap (ltb c) (connections-long t) in
         rw q at (at-once asks (serverIn connectionCount t w) (rw q z))
         ∙ silence-refuses c number (tableOf connectionCount t) (state-silent isOpen opens (ltb c connectionCount))
 

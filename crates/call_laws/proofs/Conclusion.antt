@@ -76,9 +76,9 @@ refusal-rendered e s c n = go (isTold n)
 
 -- ---- on the lent bytes
 
-pub sixteen : (t : Bytes) → length (tableOf connectionCount t .connections) ≡ 16
+pub connections-long : (t : Bytes) → length (tableOf connectionCount t .connections) ≡ connectionCount
 unfolding tableOf
-sixteen t = length-places (connectionIn connectionCount t) 0 16
+connections-long t = length-places (connectionIn connectionCount t) 0 connectionCount
 
 pub sound : {t w o : Bytes} → Taken connectionCount t w o → isSound connectionCount t ≡ true
 unfolding isSound
@@ -105,7 +105,7 @@ module _ (e : Event) (t w o : Bytes) (kept : Taken connectionCount t w o) (plan 
   -- the packets that the plan sends
   abbrev pub packetsOf : List Send
   packetsOf =
-      ordered (plan .order) 16 c kind (argumentAt p ends 0) (tableOf connectionCount t)
+      ordered (plan .order) connectionCount c kind (argumentAt p ends 0) (tableOf connectionCount t)
       ++ map noop (toWakeIn (numbers′ .able) (droppedRows (numbers′ .rows)) (numbers′ .connections))
 
   -- the plan does what is decided; its packets are rendered, and its opaque argument is taken, as the event has it
@@ -133,7 +133,7 @@ module _ (e : Event) (t w o : Bytes) (kept : Taken connectionCount t w o) (plan 
       packets-are =
           f .shows
           ∙ ap (λ (n : ℕ). sentBytes (map (render e (serverIn connectionCount t w)) (ordered (plan .order) n c kind (argumentAt p ends 0) (tableOf connectionCount t)
-          ++ map noop (toWakeIn (numbers′ .able) (droppedRows (numbers′ .rows)) (numbers′ .connections))))) (sym (sixteen t))
+          ++ map noop (toWakeIn (numbers′ .able) (droppedRows (numbers′ .rows)) (numbers′ .connections))))) (sym (connections-long t))
           ∙ ap (λ (d : Decision). sentBytes (map (render e (serverIn connectionCount t w)) (d .packets))) (sym (done .is))
 
       table-is : tableLeft plan c kind p ends t w ≡ next e (serverIn connectionCount t w) .table

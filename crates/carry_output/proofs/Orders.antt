@@ -99,7 +99,7 @@ module _ (order : O′.Order) (c kind : ℕ) (h p t w : Bytes) where
 
     parts : answerBytes order v c kind h p t w ≡ orderBytes order c kind h p t w ++ noops
     unfolding orderBytes answerBytes bytesSent
-    parts = appended-rendered (sends c p) (serverIn connectionCount t w) (ordered order 16 c kind h (tableOf connectionCount t)) _
+    parts = appended-rendered (sends c p) (serverIn connectionCount t w) (ordered order connectionCount c kind h (tableOf connectionCount t)) _
 
     pub order-room : (n : ℕ) → length (answerBytes order v c kind h p t w) ≤ n → length (orderBytes order c kind h p t w) ≤ n
     order-room n l = omega (arith, ap length parts, length-append (orderBytes order c kind h p t w) noops)
@@ -124,6 +124,6 @@ module _ (order : O′.Order) (c kind : ℕ) (h p t w : Bytes) where
 
 -- ---- who wakes
 
-pub wake-set : (cs : List Connection) (ables : List ℕ) (before rows : List JobRow) (busy s : ℕ) → length cs ≡ 16 → rows ≡ droppedRows before → busy ≡ busySet ables rows
+pub wake-set : (cs : List Connection) (ables : List ℕ) (before rows : List JobRow) (busy s : ℕ) → length cs ≡ connectionCount → rows ≡ droppedRows before → busy ≡ busySet ables rows
     → s ≡ toWakeSet busy cs → members connectionCount s ≡ toWakeIn ables (droppedRows before) cs
 wake-set cs ables before rows busy s n d b e = rw (e, b, d, ← n) (to-wake-busy ables (droppedRows before) cs)

@@ -23,7 +23,7 @@ unfolding messages
 messages-append [] ms kind d = refl
 messages-append (l ∷ ls) ms kind d = ap (λ (r : Bytes). message l kind d ++ r) (messages-append ls ms kind d) ∙ sym (append-assoc (message l kind d) _ _)
 
--- the loop's test finds more only below 16
+-- the loop's test finds more only below the number of connections
 pub turn-below : (s c : ℕ) (b : Bool) → b ≡ ltb c connectionCount && ltb 0 (s / 2 ^ c) → b ≡ true → c < connectionCount
 turn-below s c b e t = ltb-true c connectionCount (and-left (ltb c connectionCount) (ltb 0 (s / 2 ^ c)) (sym e ∙ t))
 
@@ -65,15 +65,15 @@ module _ (s kind : ℕ) (d : Bytes) where
       below-same c k e ∙ rw (q, below-more (c + k), r) (sym (append-nil (below (c + k))))
 
   -- where it finds no more, all are behind
-  all-below : (c : ℕ) → c ≤ connectionCount → (b : Bool) → b ≡ ltb c connectionCount && ltb 0 (s / 2 ^ c) → b ≡ false → below c ≡ below 16
+  all-below : (c : ℕ) → c ≤ connectionCount → (b : Bool) → b ≡ ltb c connectionCount && ltb 0 (s / 2 ^ c) → b ≡ false → below c ≡ below connectionCount
   all-below c h b e n = by-test (ltb c connectionCount) refl
     where
-      by-test : (t : Bool) → ltb c connectionCount ≡ t → below c ≡ below 16
+      by-test : (t : Bool) → ltb c connectionCount ≡ t → below c ≡ below connectionCount
       by-test true t =
           let z : ltb 0 (s / 2 ^ c) ≡ false = ap (λ (x : Bool). x && ltb 0 (s / 2 ^ c)) (sym t) ∙ sym e ∙ n in
-          let q : c + (16 - c) ≡ 16 = omega arith in
-          rw q at (below-same c (16 - c) (omega (arith, ltb-false 0 (s / 2 ^ c) z)))
-      by-test false t = let q : c ≡ 16 = omega (arith, ltb-false c connectionCount t) in rw q
+          let q : c + (connectionCount - c) ≡ connectionCount = omega arith in
+          rw q at (below-same c (connectionCount - c) (omega (arith, ltb-false 0 (s / 2 ^ c) z)))
+      by-test false t = let q : c ≡ connectionCount = omega (arith, ltb-false c connectionCount t) in rw q
 
   -- ---- one connection, in or not in the set
 
@@ -102,10 +102,10 @@ module _ (s kind : ℕ) (d : Bytes) where
     start-laid = sym (put-none at out)
 
     module _ (c place : ℕ) (ep : place ≡ at + length (below c)) where
-      pub turn-room : (o : Bytes) → c < connectionCount → length o ≡ length out → at + length (below 16) ≤ length out → place + length (messageIf s c kind d) ≤ length o
+      pub turn-room : (o : Bytes) → c < connectionCount → length o ≡ length out → at + length (below connectionCount) ≤ length out → place + length (messageIf s c kind d) ≤ length o
       turn-room o h l room =
-          let q : suc c + (15 - c) ≡ 16 = omega arith in
-          let g : length (below (suc c)) ≤ length (below 16) = rw q at (below-grows (suc c) (15 - c)) in
+          let q : suc c + (connectionCount - suc c) ≡ connectionCount = omega arith in
+          let g : length (below (suc c)) ≤ length (below connectionCount) = rw q at (below-grows (suc c) (connectionCount - suc c)) in
           omega (arith, more-long c, g)
 
       pub turn-place : (r : ℕ) → r ≡ place + length (messageIf s c kind d) → r ≡ at + length (below (c + 1))
@@ -115,8 +115,8 @@ module _ (s kind : ℕ) (d : Bytes) where
       turn-laid o p eo e = rw (e, eo, ep, add-one c, below-more c) (put-put at (below c) (messageIf s c kind d) out)
 
     module _ (c : ℕ) (h : c ≤ connectionCount) (b : Bool) (e : b ≡ ltb c connectionCount && ltb 0 (s / 2 ^ c)) (n : b ≡ false) where
-      pub end-place : (r : ℕ) → r ≡ at + length (below c) → r ≡ at + length (below 16)
+      pub end-place : (r : ℕ) → r ≡ at + length (below c) → r ≡ at + length (below connectionCount)
       end-place r p = p ∙ ap (λ (x : Bytes). at + length x) (all-below c h b e n)
 
-      pub end-laid : (o : Bytes) → o ≡ put at (below c) out → o ≡ put at (below 16) out
+      pub end-laid : (o : Bytes) → o ≡ put at (below c) out → o ≡ put at (below connectionCount) out
       end-laid o p = p ∙ ap (λ (x : Bytes). put at x out) (all-below c h b e n)

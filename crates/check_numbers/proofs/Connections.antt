@@ -62,18 +62,18 @@ holds-by false false false true w f g h = absurd (true≢false (sym (f refl)))
 holds-by false false false false w f g h = refl
 
 module _ (b : Bytes) (long : tableSize connectionCount ≤ length b) (small : (i : ℕ) → getD b i 0 < 256) (flags : areFlags (3 * connectionCount) b (openedAt connectionCount) ≡ true) (rows : rowsMean b ≡ true) (v : S.Survey)
-    (s : Surveyed b 32 v) (l a used busy : ℕ) (jl : Joined (λ k. littleAt 4 b (listenersAt connectionCount + 4 * k)) 32 l) (ja : Joined (λ k. littleAt 4 b (ableAt + 4 * k)) 16 a)
-    (ju : used ≡ union (union l a) (v .holding)) (jb : Joined (ableIf b (v .queued)) 16 busy) (fits : used < 4294967296) where
+    (s : Surveyed b 32 v) (l a used busy : ℕ) (jl : Joined (λ k. littleAt 4 b (listenersAt connectionCount + 4 * k)) 32 l) (ja : Joined (λ k. littleAt 4 b (ableAt + 4 * k)) functionCount a)
+    (ju : used ≡ union (union l a) (v .holding)) (jb : Joined (ableIf b (v .queued)) functionCount busy) (fits : used < 4294967296) where
   -- ---- the union
 
-  used-is : (c : ℕ) → has used c ≡ (any (λ k. has (rowIn connectionCount b k .listeners) c) (numbers 0 jobCount) || any (λ q. has (functionIn connectionCount b q .able) c) (numbers 0 16)) || any (heldBy b c) (numbers 0 jobCount)
+  used-is : (c : ℕ) → has used c ≡ (any (λ k. has (rowIn connectionCount b k .listeners) c) (numbers 0 jobCount) || any (λ q. has (functionIn connectionCount b q .able) c) (numbers 0 functionCount)) || any (heldBy b c) (numbers 0 jobCount)
   used-is c = ap (λ (x : ℕ). has x c) ju ∙ has-union (union l a) (v .holding) c ∙ ap₂ _||_ (has-union l a c ∙ ap₂ _||_ (jl c) (ja c)) (s .holding c)
 
   abbrev heard : ℕ → Bool
   heard c = any (λ k. has (rowIn connectionCount b k .listeners) c) (numbers 0 jobCount)
 
   abbrev able-any : ℕ → Bool
-  able-any c = any (λ q. has (functionIn connectionCount b q .able) c) (numbers 0 16)
+  able-any c = any (λ q. has (functionIn connectionCount b q .able) c) (numbers 0 functionCount)
 
   by-listener : (c k : ℕ) → k < jobCount → has (rowIn connectionCount b k .listeners) c ≡ true → has used c ≡ true
   by-listener c k h e =
@@ -81,7 +81,7 @@ module _ (b : Bytes) (long : tableSize connectionCount ≤ length b) (small : (i
 
   by-able : (c q : ℕ) → q < functionCount → has (functionIn connectionCount b q .able) c ≡ true → has used c ≡ true
   by-able c q h e =
-      used-is c ∙ or-left (heard c || able-any c) (any (heldBy b c) (numbers 0 jobCount)) (or-right (heard c) (able-any c) (some-by (λ q. has (functionIn connectionCount b q .able) c) 16 q h e))
+      used-is c ∙ or-left (heard c || able-any c) (any (heldBy b c) (numbers 0 jobCount)) (or-right (heard c) (able-any c) (some-by (λ q. has (functionIn connectionCount b q .able) c) functionCount q h e))
 
   by-holder : (c k : ℕ) → k < jobCount → heldBy b c k ≡ true → has used c ≡ true
   by-holder c k h e = used-is c ∙ or-right (heard c || able-any c) (any (heldBy b c) (numbers 0 jobCount)) (some-by (heldBy b c) 32 k h e)
@@ -106,11 +106,11 @@ module _ (b : Bytes) (long : tableSize connectionCount ≤ length b) (small : (i
 
   -- ---- the flags of one connection
 
-  flag : (j c : ℕ) → j ≤ 32 → c < connectionCount → eqb (getD b (openedAt connectionCount + j + c) 0) 0 ≡ not (eqb (getD b (openedAt connectionCount + j + c) 0) 1)
-  flag j c g h = let m : openedAt connectionCount + (j + c) ≡ openedAt connectionCount + j + c = omega arith in rw m at (flag-at 48 b (openedAt connectionCount) long flags (j + c) (omega arith))
+  flag : (j c : ℕ) → j ≤ 2 * connectionCount → c < connectionCount → eqb (getD b (openedAt connectionCount + j + c) 0) 0 ≡ not (eqb (getD b (openedAt connectionCount + j + c) 0) 1)
+  flag j c g h = let m : openedAt connectionCount + (j + c) ≡ openedAt connectionCount + j + c = omega arith in rw m at (flag-at (3 * connectionCount) b (openedAt connectionCount) long flags (j + c) (omega arith))
 
   holds-is : (c : ℕ) → c < connectionCount → connectionHolds b used busy c ≡ Holds (connectionIn connectionCount b c .opened) (connectionIn connectionCount b c .asleep) (connectionIn connectionCount b c .exceptions) (has used c) (has busy c)
-  holds-is c h = rw (flag 0 c (omega arith) h, flag 16 c (omega arith) h, flag 32 c (omega arith) h)
+  holds-is c h = rw (flag 0 c (omega arith) h, flag connectionCount c (omega arith) h, flag (2 * connectionCount) c (omega arith) h)
 
   -- ---- from the test to the rules
 
@@ -123,7 +123,7 @@ module _ (b : Bytes) (long : tableSize connectionCount ≤ length b) (small : (i
       where
         go : (t : Bool) → ltb c connectionCount ≡ t → c < connectionCount
         go true q = ltb-true c connectionCount q
-        go false q = absurd (true≢false (sym e ∙ has-above used 16 c low (ltb-false c connectionCount q)))
+        go false q = absurd (true≢false (sym e ∙ has-above used connectionCount c low (ltb-false c connectionCount q)))
 
     open-at : (c : ℕ) → has used c ≡ true → isOpen (tableOf connectionCount b) c ≡ true
     open-at c e =
@@ -133,7 +133,7 @@ module _ (b : Bytes) (long : tableSize connectionCount ≤ length b) (small : (i
     only-open : (x : ℕ) → x < 4294967296 → ((c : ℕ) → has x c ≡ true → has used c ≡ true) → onlyOpen (tableOf connectionCount b) x ≡ true
     only-open x h f =
         rw (connections-length connectionCount b)
-        (and-both _ _ (lt-ltb x (2 ^ connectionCount) (low-set x h (λ c g. none c g (has x c) refl))) (below-by (λ c. implies (has x c) (isOpen (tableOf connectionCount b) c)) 16 (λ c g. member c (has x c) refl)))
+        (and-both _ _ (lt-ltb x (2 ^ connectionCount) (low-set connectionCount x h (λ c g. none c g (has x c) refl))) (below-by (λ c. implies (has x c) (isOpen (tableOf connectionCount b) c)) connectionCount (λ c g. member c (has x c) refl)))
       where
         none : (c : ℕ) → connectionCount ≤ c → (t : Bool) → has x c ≡ t → t ≡ false
         none c g true e = absurd (omega (arith, inside c (f c e)))
@@ -150,14 +150,14 @@ module _ (b : Bytes) (long : tableSize connectionCount ≤ length b) (small : (i
     rules-by : connectionRules b ≡ true
     unfolding connectionRules
     rules-by =
-        and-both _ _ (functions-all connectionCount b (λ x. onlyOpen (tableOf connectionCount b) (x .able)) ∙ below-by (λ q. onlyOpen (tableOf connectionCount b) (functionIn connectionCount b q .able)) 16
+        and-both _ _ (functions-all connectionCount b (λ x. onlyOpen (tableOf connectionCount b) (x .able)) ∙ below-by (λ q. onlyOpen (tableOf connectionCount b) (functionIn connectionCount b q .able)) functionCount
         (λ q h. only-open (functionIn connectionCount b q .able) (number-small (ableAt + 4 * q)) (λ c e. by-able c q h e)))
         (and-both _ _ (jobs-all connectionCount b (λ j. onlyOpen (tableOf connectionCount b) (j .row .listeners)) ∙ below-by (λ k. onlyOpen (tableOf connectionCount b) (rowIn connectionCount b k .listeners)) 32
         (λ k h. only-open (rowIn connectionCount b k .listeners) (number-small (listenersAt connectionCount + 4 * k)) (λ c e. by-listener c k h e)))
         (and-both _ _ (jobs-all connectionCount b (λ j. holderOpen (tableOf connectionCount b) (j .row .holder)) ∙ below-by (λ k. holderOpen (tableOf connectionCount b) (rowIn connectionCount b k .holder)) 32 (λ k h. holder-open k h (rowIn connectionCount b k .holder) refl))
-        (and-both _ _ (connections-all connectionCount b (λ x. implies (x .asleep || x .exceptions) (x .opened)) ∙ below-by (λ c. implies (connectionIn connectionCount b c .asleep || connectionIn connectionCount b c .exceptions) (connectionIn connectionCount b c .opened)) 16
+        (and-both _ _ (connections-all connectionCount b (λ x. implies (x .asleep || x .exceptions) (x .opened)) ∙ below-by (λ c. implies (connectionIn connectionCount b c .asleep || connectionIn connectionCount b c .exceptions) (connectionIn connectionCount b c .opened)) connectionCount
         (λ c h. clear-if-closed (connectionIn connectionCount b c .opened) (connectionIn connectionCount b c .asleep) (connectionIn connectionCount b c .exceptions) (has used c) (has busy c) (at c h)))
-        (sleepers-all connectionCount b ∙ below-by (λ c. sleeperIdle (tableOf connectionCount b) c (connectionIn connectionCount b c)) 16
+        (sleepers-all connectionCount b ∙ below-by (λ c. sleeperIdle (tableOf connectionCount b) c (connectionIn connectionCount b c)) connectionCount
         (λ c h. rw (busy-is b rows v s busy jb c) (idle-if-asleep (connectionIn connectionCount b c .opened) (connectionIn connectionCount b c .asleep) (connectionIn connectionCount b c .exceptions) (has used c) (has busy c) (at c h)))))))
 
   -- ---- from the rules to the test
@@ -166,14 +166,14 @@ module _ (b : Bytes) (long : tableSize connectionCount ≤ length b) (small : (i
   member-open : (x c : ℕ) → onlyOpen (tableOf connectionCount b) x ≡ true → has x c ≡ true → (c < connectionCount) × (connectionIn connectionCount b c .opened ≡ true)
   member-open x c e h = go (ltb c connectionCount) refl
     where
-      parts : ltb x (2 ^ connectionCount) && all (λ c. implies (has x c) (isOpen (tableOf connectionCount b) c)) (numbers 0 16) ≡ true
+      parts : ltb x (2 ^ connectionCount) && all (λ c. implies (has x c) (isOpen (tableOf connectionCount b) c)) (numbers 0 connectionCount) ≡ true
       parts = rw (connections-length connectionCount b) at e
 
       go : (t : Bool) → ltb c connectionCount ≡ t → (c < connectionCount) × (connectionIn connectionCount b c .opened ≡ true)
-      go false q = absurd (true≢false (sym h ∙ has-above x 16 c (ltb-true x (2 ^ connectionCount) (and-left (ltb x (2 ^ connectionCount)) _ parts)) (ltb-false c connectionCount q)))
+      go false q = absurd (true≢false (sym h ∙ has-above x connectionCount c (ltb-true x (2 ^ connectionCount) (and-left (ltb x (2 ^ connectionCount)) _ parts)) (ltb-false c connectionCount q)))
       go true q =
           let g = ltb-true c connectionCount q in
-          let o = below-at (λ c. implies (has x c) (isOpen (tableOf connectionCount b) c)) 16 c (and-right (ltb x (2 ^ connectionCount)) _ parts) g in
+          let o = below-at (λ c. implies (has x c) (isOpen (tableOf connectionCount b) c)) connectionCount c (and-right (ltb x (2 ^ connectionCount)) _ parts) g in
           (g, sym (ap (λ (y : Connection). y .opened) (connection-at connectionCount b c g)) ∙ (rw h at o))
 
   module _ (able : abilitiesOpen (tableOf connectionCount b) ≡ true) (listen : listenersOpen (tableOf connectionCount b) ≡ true) (hold : holdersOpen (tableOf connectionCount b) ≡ true)
@@ -183,7 +183,7 @@ module _ (b : Bytes) (long : tableSize connectionCount ≤ length b) (small : (i
         or-cases _ _ (sym (used-is c) ∙ e)
         (λ f. or-cases _ _ f
         (λ g. some-at (λ k. has (rowIn connectionCount b k .listeners) c) 32 g (λ k h q. member-open (rowIn connectionCount b k .listeners) c (below-at (λ k. onlyOpen (tableOf connectionCount b) (rowIn connectionCount b k .listeners)) 32 k (sym (jobs-all connectionCount b (λ j. onlyOpen (tableOf connectionCount b) (j .row .listeners))) ∙ listen) h) q))
-        (λ g. some-at (λ q. has (functionIn connectionCount b q .able) c) 16 g (λ k h q. member-open (functionIn connectionCount b k .able) c (below-at (λ q. onlyOpen (tableOf connectionCount b) (functionIn connectionCount b q .able)) 16 k (sym (functions-all connectionCount b (λ x. onlyOpen (tableOf connectionCount b) (x .able))) ∙ able) h) q)))
+        (λ g. some-at (λ q. has (functionIn connectionCount b q .able) c) functionCount g (λ k h q. member-open (functionIn connectionCount b k .able) c (below-at (λ q. onlyOpen (tableOf connectionCount b) (functionIn connectionCount b q .able)) functionCount k (sym (functions-all connectionCount b (λ x. onlyOpen (tableOf connectionCount b) (x .able))) ∙ able) h) q)))
         (λ g. some-at (heldBy b c) 32 g (λ k h q. holder k h q (rowIn connectionCount b k .holder) refl))
       where
         holder : (k : ℕ) → k < jobCount → heldBy b c k ≡ true → (x : ℕ) → rowIn connectionCount b k .holder ≡ x → (c < connectionCount) × (connectionIn connectionCount b c .opened ≡ true)
@@ -200,7 +200,7 @@ module _ (b : Bytes) (long : tableSize connectionCount ≤ length b) (small : (i
             (g, sym (ap (λ (y : Connection). y .opened) (connection-at connectionCount b c g)) ∙ ap (isOpen (tableOf connectionCount b)) (sym r) ∙ (rw f at o))
 
     low-used : used < (2 ^ connectionCount)
-    low-used = low-set used fits (λ c g. none c g (has used c) refl)
+    low-used = low-set connectionCount used fits (λ c g. none c g (has used c) refl)
       where
         none : (c : ℕ) → connectionCount ≤ c → (t : Bool) → has used c ≡ t → t ≡ false
         none c g true e = absurd (omega (arith, used-open c e .0))
@@ -210,17 +210,17 @@ module _ (b : Bytes) (long : tableSize connectionCount ≤ length b) (small : (i
     each-by c h =
         holds-is c h
         ∙ holds-by (connectionIn connectionCount b c .opened) (connectionIn connectionCount b c .asleep) (connectionIn connectionCount b c .exceptions) (has used c) (has busy c) (λ e. used-open c e .1)
-        (below-at (λ c. implies (connectionIn connectionCount b c .asleep || connectionIn connectionCount b c .exceptions) (connectionIn connectionCount b c .opened)) 16 c (sym (connections-all connectionCount b (λ x. implies (x .asleep || x .exceptions) (x .opened))) ∙ clear) h)
-        (rw (busy-is b rows v s busy jb c) at (below-at (λ c. sleeperIdle (tableOf connectionCount b) c (connectionIn connectionCount b c)) 16 c (sym (sleepers-all connectionCount b) ∙ idle) h))
+        (below-at (λ c. implies (connectionIn connectionCount b c .asleep || connectionIn connectionCount b c .exceptions) (connectionIn connectionCount b c .opened)) connectionCount c (sym (connections-all connectionCount b (λ x. implies (x .asleep || x .exceptions) (x .opened))) ∙ clear) h)
+        (rw (busy-is b rows v s busy jb c) at (below-at (λ c. sleeperIdle (tableOf connectionCount b) c (connectionIn connectionCount b c)) connectionCount c (sym (sleepers-all connectionCount b) ∙ idle) h))
 
-  pub connections-are : ltb used (2 ^ connectionCount) && all (connectionHolds b used busy) (numbers 0 16) ≡ connectionRules b
+  pub connections-are : ltb used (2 ^ connectionCount) && all (connectionHolds b used busy) (numbers 0 connectionCount) ≡ connectionRules b
   unfolding connectionRules
-  connections-are = iff (ltb used (2 ^ connectionCount) && all (connectionHolds b used busy) (numbers 0 16)) (connectionRules b) to from
+  connections-are = iff (ltb used (2 ^ connectionCount) && all (connectionHolds b used busy) (numbers 0 connectionCount)) (connectionRules b) to from
     where
-      to : ltb used (2 ^ connectionCount) && all (connectionHolds b used busy) (numbers 0 16) ≡ true → connectionRules b ≡ true
-      to e = rules-by (ltb-true used (2 ^ connectionCount) (and-left (ltb used (2 ^ connectionCount)) _ e)) (λ c h. below-at (connectionHolds b used busy) 16 c (and-right (ltb used (2 ^ connectionCount)) _ e) h)
+      to : ltb used (2 ^ connectionCount) && all (connectionHolds b used busy) (numbers 0 connectionCount) ≡ true → connectionRules b ≡ true
+      to e = rules-by (ltb-true used (2 ^ connectionCount) (and-left (ltb used (2 ^ connectionCount)) _ e)) (λ c h. below-at (connectionHolds b used busy) connectionCount c (and-right (ltb used (2 ^ connectionCount)) _ e) h)
 
-      from : connectionRules b ≡ true → ltb used (2 ^ connectionCount) && all (connectionHolds b used busy) (numbers 0 16) ≡ true
+      from : connectionRules b ≡ true → ltb used (2 ^ connectionCount) && all (connectionHolds b used busy) (numbers 0 connectionCount) ≡ true
       from e =
           let e1 = and-right (abilitiesOpen (tableOf connectionCount b)) _ e in
           let e2 = and-right (listenersOpen (tableOf connectionCount b)) _ e1 in
@@ -230,4 +230,4 @@ module _ (b : Bytes) (long : tableSize connectionCount ≤ length b) (small : (i
           let x3 = and-left (holdersOpen (tableOf connectionCount b)) _ e2 in
           let x4 = and-left (closedClear (tableOf connectionCount b)) (sleepersIdle (tableOf connectionCount b)) e3 in
           let x5 = and-right (closedClear (tableOf connectionCount b)) (sleepersIdle (tableOf connectionCount b)) e3 in
-          and-both _ _ (lt-ltb used (2 ^ connectionCount) (low-used x1 x2 x3 x4 x5)) (below-by (connectionHolds b used busy) 16 (λ c h. each-by x1 x2 x3 x4 x5 c h))
+          and-both _ _ (lt-ltb used (2 ^ connectionCount) (low-used x1 x2 x3 x4 x5)) (below-by (connectionHolds b used busy) connectionCount (λ c h. each-by x1 x2 x3 x4 x5 c h))

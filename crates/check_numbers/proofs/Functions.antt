@@ -32,18 +32,18 @@ module _ (b : Bytes) (rows : rowsMean b ≡ true) where
   unfolding rowsMean
   mean-at k h = and-left (numbersMean (rowIn connectionCount b k)) (isAwaited (rowIn connectionCount b k)) (below-at (λ k. numbersMean (rowIn connectionCount b k) && isAwaited (rowIn connectionCount b k)) 32 k rows h)
 
-  live-at : (k : ℕ) → k < jobCount → live (rowIn connectionCount b k) ≡ true → leb (rowIn connectionCount b k .priority) 2 && (ltb (rowIn connectionCount b k .function) 16 && leb (rowIn connectionCount b k .holder) 16) ≡ true
+  live-at : (k : ℕ) → k < jobCount → live (rowIn connectionCount b k) ≡ true → leb (rowIn connectionCount b k .priority) 2 && (ltb (rowIn connectionCount b k .function) functionCount && leb (rowIn connectionCount b k .holder) connectionCount) ≡ true
   live-at k h l = rw l at (mean-at k h)
 
-  pub function-small : (k : ℕ) → k < jobCount → live (rowIn connectionCount b k) ≡ true → rowIn connectionCount b k .function < 16
+  pub function-small : (k : ℕ) → k < jobCount → live (rowIn connectionCount b k) ≡ true → rowIn connectionCount b k .function < functionCount
   function-small k h l =
-      ltb-true (rowIn connectionCount b k .function) 16
-      (and-left (ltb (rowIn connectionCount b k .function) 16) (leb (rowIn connectionCount b k .holder) 16) (and-right (leb (rowIn connectionCount b k .priority) 2) (ltb (rowIn connectionCount b k .function) 16 && leb (rowIn connectionCount b k .holder) 16) (live-at k h l)))
+      ltb-true (rowIn connectionCount b k .function) functionCount
+      (and-left (ltb (rowIn connectionCount b k .function) functionCount) (leb (rowIn connectionCount b k .holder) connectionCount) (and-right (leb (rowIn connectionCount b k .priority) 2) (ltb (rowIn connectionCount b k .function) functionCount && leb (rowIn connectionCount b k .holder) connectionCount) (live-at k h l)))
 
-  pub holder-small : (k : ℕ) → k < jobCount → live (rowIn connectionCount b k) ≡ true → rowIn connectionCount b k .holder ≤ 16
+  pub holder-small : (k : ℕ) → k < jobCount → live (rowIn connectionCount b k) ≡ true → rowIn connectionCount b k .holder ≤ connectionCount
   holder-small k h l =
-      leb-true (rowIn connectionCount b k .holder) 16
-      (and-right (ltb (rowIn connectionCount b k .function) 16) (leb (rowIn connectionCount b k .holder) 16) (and-right (leb (rowIn connectionCount b k .priority) 2) (ltb (rowIn connectionCount b k .function) 16 && leb (rowIn connectionCount b k .holder) 16) (live-at k h l)))
+      leb-true (rowIn connectionCount b k .holder) connectionCount
+      (and-right (ltb (rowIn connectionCount b k .function) functionCount) (leb (rowIn connectionCount b k .holder) connectionCount) (and-right (leb (rowIn connectionCount b k .priority) 2) (ltb (rowIn connectionCount b k .function) functionCount && leb (rowIn connectionCount b k .holder) connectionCount) (live-at k h l)))
 
   -- a free row has no holder
   pub held-live : (k : ℕ) → k < jobCount → (rowIn connectionCount b k .holder ≡ 0 → ⊥) → live (rowIn connectionCount b k) ≡ true
@@ -78,7 +78,7 @@ module _ (b : Bytes) (rows : rowsMean b ≡ true) where
 
     -- ---- connections able to do what is queued
 
-    module _ (busy : ℕ) (jb : Joined (ableIf b (v .queued)) 16 busy) (c : ℕ) where
+    module _ (busy : ℕ) (jb : Joined (ableIf b (v .queued)) functionCount busy) (c : ℕ) where
       can-grab : (k : ℕ) → k < jobCount → live (rowIn connectionCount b k) ≡ true → grabbable (ablesOf (tableOf connectionCount b)) c (rowIn connectionCount b k) ≡ queued (rowIn connectionCount b k) && has (functionIn connectionCount b (rowIn connectionCount b k .function) .able) c
       can-grab k h l = ap (λ (x : ℕ). queued (rowIn connectionCount b k) && has x c) (able-at connectionCount b (rowIn connectionCount b k .function) (function-small k h l))
 
@@ -94,11 +94,11 @@ module _ (b : Bytes) (rows : rowsMean b ≡ true) where
               let can : has (functionIn connectionCount b (rowIn connectionCount b k .function) .able) c ≡ true = and-right (queued (rowIn connectionCount b k)) _ (sym (can-grab k h l) ∙ q) in
               let there : has (v .queued) (rowIn connectionCount b k .function) ≡ true =
               s .queued (rowIn connectionCount b k .function) ∙ some-by (queuedFor b (rowIn connectionCount b k .function)) 32 k h (and-both _ _ wait (eq-eqb (rowIn connectionCount b k .function % 32) (rowIn connectionCount b k .function) m)) in
-              jb c ∙ some-by (λ q. has (ableIf b (v .queued) q) c) 16 (rowIn connectionCount b k .function) f
+              jb c ∙ some-by (λ q. has (ableIf b (v .queued) q) c) functionCount (rowIn connectionCount b k .function) f
               (has-if (has (v .queued) (rowIn connectionCount b k .function)) (functionIn connectionCount b (rowIn connectionCount b k .function) .able) c ∙ and-both _ _ there can)
 
       from-busy : has busy c ≡ true → any (λ k. grabbable (ablesOf (tableOf connectionCount b)) c (rowIn connectionCount b k)) (numbers 0 jobCount) ≡ true
-      from-busy e = some-at (λ q. has (ableIf b (v .queued) q) c) 16 (sym (jb c) ∙ e) (λ q h r. able q h (sym (has-if (has (v .queued) q) (functionIn connectionCount b q .able) c) ∙ r))
+      from-busy e = some-at (λ q. has (ableIf b (v .queued) q) c) functionCount (sym (jb c) ∙ e) (λ q h r. able q h (sym (has-if (has (v .queued) q) (functionIn connectionCount b q .able) c) ∙ r))
         where
           row : (q k : ℕ) → k < jobCount → has (functionIn connectionCount b q .able) c ≡ true → queuedFor b q k ≡ true → any (λ k. grabbable (ablesOf (tableOf connectionCount b)) c (rowIn connectionCount b k)) (numbers 0 jobCount) ≡ true
           row q k h can r =
@@ -126,8 +126,8 @@ module _ (b : Bytes) (rows : rowsMean b ≡ true) where
     agrees-is true false = refl
     agrees-is false y = refl
 
-    pub defined-is : tableSize connectionCount ≤ length b → (n : ℕ) → n ≡ union (v .queued) (v .grabbed) → all (isDefined b n) (numbers 0 16) ≡ functionsAsDefined (tableOf connectionCount b)
+    pub defined-is : tableSize connectionCount ≤ length b → (n : ℕ) → n ≡ union (v .queued) (v .grabbed) → all (isDefined b n) (numbers 0 functionCount) ≡ functionsAsDefined (tableOf connectionCount b)
     defined-is long n e =
-        same-below (isDefined b n) (λ q. cond (isKnown (functionIn connectionCount b q)) (wanted (rowsOf (tableOf connectionCount b)) q (functionIn connectionCount b q .able)) (not (wanted (rowsOf (tableOf connectionCount b)) q (functionIn connectionCount b q .able)))) 16
+        same-below (isDefined b n) (λ q. cond (isKnown (functionIn connectionCount b q)) (wanted (rowsOf (tableOf connectionCount b)) q (functionIn connectionCount b q .able)) (not (wanted (rowsOf (tableOf connectionCount b)) q (functionIn connectionCount b q .able)))) functionCount
         (λ q h. rw (e, named-is q, ← empty-text 31 b (namesAt + nameSize * q) (omega arith)) (agrees-is (isKnown (functionIn connectionCount b q)) (wanted (rowsOf (tableOf connectionCount b)) q (functionIn connectionCount b q .able))))
         ∙ sym (defined-all connectionCount b)

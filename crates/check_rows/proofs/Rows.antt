@@ -11,7 +11,7 @@ use Rattle.octets.specs.Bytes.{Bytes}
 use Rattle.octets.proofs.Strings.{and-left, and-right}
 use Rattle.server.specs.declared.JobRow.{JobRow}
 use Rattle.lists.specs.Lists.{all, numbers, implies}
-use Rattle.server.specs.Sizes.{connectionCount, jobCount}
+use Rattle.server.specs.Sizes.{connectionCount, functionCount, jobCount}
 use Rattle.server.specs.Layout.{littleAt, rowIn, serialsAt, listenersAt, sizesAt, holdersAt, backgroundsAt, functionsAt, tableSize}
 use Rattle.table_laws.specs.Tests.{areFlags}
 use Rattle.table_laws.proofs.Columns.{places-at}
@@ -101,10 +101,10 @@ module _ (b : Bytes) (live heard held sized : List ℕ) (el : Marked 4 b serials
         below-16 (getD b (functionsAt + k) 0),
       )
       (means (eqb (rowIn connectionCount b k .holder) 0) (eqb (rowIn connectionCount b k .listeners) 0) (eqb (rowIn connectionCount b k .size) 0) (eqb (rowIn connectionCount b k .priority) 0) (eqb (rowIn connectionCount b k .function) 0)
-      (eqb (getD b (backgroundsAt + k) 0) 1) (leb (rowIn connectionCount b k .priority) 2) (ltb (rowIn connectionCount b k .function) 16) (leb (rowIn connectionCount b k .holder) 16)
+      (eqb (getD b (backgroundsAt + k) 0) 1) (leb (rowIn connectionCount b k .priority) 2) (ltb (rowIn connectionCount b k .function) functionCount) (leb (rowIn connectionCount b k .holder) connectionCount)
       (λ e. let r = eqb-true (rowIn connectionCount b k .priority) 0 e in le-leb (rowIn connectionCount b k .priority) 2 (omega arith))
-      (λ e. let r = eqb-true (rowIn connectionCount b k .function) 0 e in lt-ltb (rowIn connectionCount b k .function) 16 (omega arith))
-      (λ e. let r = eqb-true (rowIn connectionCount b k .holder) 0 e in le-leb (rowIn connectionCount b k .holder) 16 (omega arith)) (eqb (rowIn connectionCount b k .serial) 0))
+      (λ e. let r = eqb-true (rowIn connectionCount b k .function) 0 e in lt-ltb (rowIn connectionCount b k .function) functionCount (omega arith))
+      (λ e. let r = eqb-true (rowIn connectionCount b k .holder) 0 e in le-leb (rowIn connectionCount b k .holder) connectionCount (omega arith)) (eqb (rowIn connectionCount b k .serial) 0))
 
   pub rows-mean : (p q r : Bool) → p ≡ all (bytesInRange b) (numbers 0 jobCount) → q ≡ all (holderInRange b) (numbers 0 jobCount)
       → r ≡ all (freeOrAwaited live heard held sized b) (numbers 0 jobCount) → p && (q && r) ≡ rowsMean b

@@ -55,7 +55,7 @@ text-fits k b at = and-both (leb (length (textAt k b at)) k) _ (le-leb (length (
 
 names-within : (b : Bytes) → namesWithin (tableOf connectionCount b) ≡ true
 names-within b =
-    functions-all connectionCount b (λ x. textWithin nameSize (x .name)) ∙ below-by (λ q. textWithin nameSize (functionIn connectionCount b q .name)) 16 (λ q _. text-fits 32 b (namesAt + nameSize * q))
+    functions-all connectionCount b (λ x. textWithin nameSize (x .name)) ∙ below-by (λ q. textWithin nameSize (functionIn connectionCount b q .name)) functionCount (λ q _. text-fits 32 b (namesAt + nameSize * q))
 
 next-small : (b : Bytes) → ((i : ℕ) → getD b i 0 < 256) → nextSmall (tableOf connectionCount b) ≡ true
 unfolding tableOf littleAt
@@ -108,14 +108,14 @@ module _ (b : Bytes) (long : tableSize connectionCount ≤ length b) where
   one-job k h =
       rw (functions-length connectionCount b, connections-length connectionCount b, text-fits 64 b (uniquesAt + uniqueSize * k), ← empty-text 63 b (uniquesAt + uniqueSize * k) (omega arith)) (go (live (rowIn connectionCount b k)))
     where
-      go : (t : Bool) → (cond t (leb (rowIn connectionCount b k .priority) 2 && (ltb (rowIn connectionCount b k .function) 16 && leb (rowIn connectionCount b k .holder) 16))
+      go : (t : Bool) → (cond t (leb (rowIn connectionCount b k .priority) 2 && (ltb (rowIn connectionCount b k .function) functionCount && leb (rowIn connectionCount b k .holder) connectionCount))
           (eqb (rowIn connectionCount b k .function) 0 && (eqb (rowIn connectionCount b k .priority) 0 && (not (rowIn connectionCount b k .background) && (isEmpty (rowIn connectionCount b k .listeners) && (eqb (rowIn connectionCount b k .holder) 0 && eqb (rowIn connectionCount b k .size) 0)))))
           && isAwaited (rowIn connectionCount b k))
           && ((t || same (jobIn connectionCount b k .unique) []) && cond t (storedNumber (jobIn connectionCount b k .numerator) && storedNumber (jobIn connectionCount b k .denominator)) (same (jobIn connectionCount b k .numerator) [] && same (jobIn connectionCount b k .denominator) []))
           ≡ (implies t (true && (storedNumber (jobIn connectionCount b k .numerator) && storedNumber (jobIn connectionCount b k .denominator)))
-          && cond t (leb (rowIn connectionCount b k .priority) 2 && (ltb (rowIn connectionCount b k .function) 16 && leb (rowIn connectionCount b k .holder) 16)) (rowIsFree (jobIn connectionCount b k))) && isAwaited (rowIn connectionCount b k)
+          && cond t (leb (rowIn connectionCount b k .priority) 2 && (ltb (rowIn connectionCount b k .function) functionCount && leb (rowIn connectionCount b k .holder) connectionCount)) (rowIsFree (jobIn connectionCount b k))) && isAwaited (rowIn connectionCount b k)
       go true =
-          live-row (leb (rowIn connectionCount b k .priority) 2 && (ltb (rowIn connectionCount b k .function) 16 && leb (rowIn connectionCount b k .holder) 16)) (isAwaited (rowIn connectionCount b k)) (storedNumber (jobIn connectionCount b k .numerator) && storedNumber (jobIn connectionCount b k .denominator))
+          live-row (leb (rowIn connectionCount b k .priority) 2 && (ltb (rowIn connectionCount b k .function) functionCount && leb (rowIn connectionCount b k .holder) connectionCount)) (isAwaited (rowIn connectionCount b k)) (storedNumber (jobIn connectionCount b k .numerator) && storedNumber (jobIn connectionCount b k .denominator))
       go false =
           free-row (eqb (rowIn connectionCount b k .function) 0) (eqb (rowIn connectionCount b k .priority) 0) (not (rowIn connectionCount b k .background)) (isEmpty (rowIn connectionCount b k .listeners)) (eqb (rowIn connectionCount b k .holder) 0) (eqb (rowIn connectionCount b k .size) 0)
           (same (jobIn connectionCount b k .unique) []) (same (jobIn connectionCount b k .numerator) []) (same (jobIn connectionCount b k .denominator) []) (isAwaited (rowIn connectionCount b k))

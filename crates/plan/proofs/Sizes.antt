@@ -7,7 +7,7 @@ use Rattle.server.specs.Layout.{tableOf}
 use Rattle.plan.specs.Values.{valuesOf}
 
 module _ (b : Bytes) where
-  pub connections-long : length (valuesOf (tableOf connectionCount b) .connections) ≡ 16
+  pub connections-long : length (valuesOf (tableOf connectionCount b) .connections) ≡ connectionCount
   unfolding valuesOf tableOf
   connections-long = refl
 

@@ -6,14 +6,9 @@ use mathlib.Core.List.{List}
 use native.Mathlib.Numerals.{add-one}
 use lib.ListN.{length, getD, drop, drop-of-length-le}
 use lib.Seq.{drop-cons}
-use Rattle.octets.specs.Bytes.{Bytes}
 use Rattle.sets.specs.Sets.{remove}
 use Rattle.server.specs.declared.Connection.{Connection}
-use Rattle.server.specs.Sizes.{connectionCount}
 use Rattle.server.specs.Table.{closed}
-use Rattle.server.specs.Layout.{connectionIn, tableOf}
-use Rattle.table_laws.proofs.Columns.{length-places}
-use Rattle.plan.specs.Values.{valuesOf}
 use Rattle.plan.specs.Parts.{heardFrom, heard}
 
 -- i connections passed: the answer is that of the rest, from the set that is left
@@ -23,7 +18,3 @@ module _ (cs : List Connection) (listeners s i : ℕ) (e : heard cs listeners �
 
   pub heard-end : length cs ≤ i → s ≡ heard cs listeners
   heard-end h = let q : heardFrom i (drop i cs) s ≡ s = rw (drop-of-length-le cs h) in sym (e ∙ q)
-
-pub connections-long : (b : Bytes) → length (valuesOf (tableOf connectionCount b) .connections) ≡ 16
-unfolding valuesOf tableOf
-connections-long b = length-places (connectionIn connectionCount b) 0 16

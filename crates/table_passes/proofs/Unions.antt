@@ -2,7 +2,7 @@
 use Prim.Native.Nat.{ℕ, _+_, _*_, _/_, _%_, _^_, _<_, _≤_}
 use mathlib.Core.Path.{_≡_, refl, sym, ap, ap₂, _∙_}
 use mathlib.Core.Bool.{Bool, true, false, cond, _&&_, _||_}
-use native.Mathlib.Nat.{div-add-mod', one-mul, zero-mul, zero-add, add-zero, mod-lt}
+use native.Mathlib.Nat.{div-add-mod', div-le-self, one-mul, zero-mul, zero-add, add-zero, mod-lt}
 use native.Mathlib.Omega.{arith}
 use borrow.Author.Tests.{eqb-true, eqb-false}
 use lib.Bits.{bitAnd, and-block, and-mask, and-zero-r, or-add-and}
@@ -11,7 +11,6 @@ use lib.Pow.{pow-pos, shr-shr}
 use Rattle.sets.specs.Sets.{has, insert, union}
 use Rattle.sets.proofs.Laws.{zero-has, has-union, has-only, no-members}
 use Rattle.lists.specs.Lists.{any, numbers}
-use Rattle.server.specs.Sizes.{connectionCount}
 use Rattle.table_passes.proofs.Tests.{any-next}
 
 -- ---- a loop that gathers a set
@@ -83,8 +82,8 @@ has-high : (s k c : ℕ) → has (s / 2 ^ k) c ≡ has s (k + c)
 unfolding has
 has-high s k c = ap (λ (x : ℕ). eqb (x % 2) 1) (shr-shr s k c)
 
--- a set of four bytes without members from 16 on is below 65,536
-pub low-set : (s : ℕ) → s < 4294967296 → ((c : ℕ) → connectionCount ≤ c → has s c ≡ false) → s < 65536
-low-set s h f =
-    let e : s / 65536 ≡ 0 = no-members connectionCount (s / 65536) (omega arith) (λ c l. has-high s 16 c ∙ f (16 + c) (omega arith)) in
-    omega arith
+-- a set of four bytes without members from n on is below 2 ^ n
+pub low-set : (n s : ℕ) → s < 2 ^ 32 → ((c : ℕ) → n ≤ c → has s c ≡ false) → s < 2 ^ n
+low-set n s h f =
+    let e : s / 2 ^ n ≡ 0 = no-members 32 (s / 2 ^ n) (omega (arith, div-le-self s (2 ^ n))) (λ c l. has-high s n c ∙ f (n + c) (omega arith)) in
+    omega (arith, div-add-mod' s (2 ^ n), ap (λ (x : ℕ). x * 2 ^ n) e, zero-mul (2 ^ n), mod-lt s (pow-pos n))

@@ -12,7 +12,7 @@ use Rattle.octets.specs.Bytes.{Bytes}
 use Rattle.server.specs.declared.Connection.{Connection}
 use Rattle.server.specs.declared.JobRow.{JobRow}
 use Rattle.lists.specs.Lists.{numbers}
-use Rattle.server.specs.Sizes.{connectionCount, jobCount}
+use Rattle.server.specs.Sizes.{connectionCount, functionCount, jobCount}
 use Rattle.server.specs.Table.{noRow, closed, ablesOf, rowsOf}
 use Rattle.server.specs.Layout.{littleAt, connectionIn, functionIn, rowIn, jobIn, tableOf, ableAt}
 use Rattle.plan.specs.Values.{valuesOf}
@@ -49,20 +49,20 @@ module _ (b : Bytes) where
   unfolding tableOf
   rows-are = map-map (λ j. j .row) (jobIn connectionCount b) (numbers 0 jobCount)
 
-  pub ables-are : ablesOf (tableOf connectionCount b) ≡ map (λ q. littleAt 4 b (ableAt + 4 * q)) (numbers 0 16)
+  pub ables-are : ablesOf (tableOf connectionCount b) ≡ map (λ q. littleAt 4 b (ableAt + 4 * q)) (numbers 0 functionCount)
   unfolding tableOf
-  ables-are = map-map (λ x. x .able) (functionIn connectionCount b) (numbers 0 16)
+  ables-are = map-map (λ x. x .able) (functionIn connectionCount b) (numbers 0 functionCount)
 
   module _ (i : ℕ) where
     pub rows-read : (l : List JobRow) → i ≤ jobCount → 32 ≤ i → length l ≡ 32 → take i l ≡ map (rowIn connectionCount b) (numbers 0 i) → l ≡ rowsOf (tableOf connectionCount b)
     rows-read l h g k t = filled (rowIn connectionCount b) l i 32 h g k t ∙ sym rows-are
 
-    pub able-read : (l : List ℕ) → i ≤ 16 → 16 ≤ i → length l ≡ 16 → take i l ≡ map (λ q. littleAt 4 b (ableAt + 4 * q)) (numbers 0 i) → l ≡ ablesOf (tableOf connectionCount b)
-    able-read l h g k t = filled (λ q. littleAt 4 b (ableAt + 4 * q)) l i 16 h g k t ∙ sym ables-are
+    pub able-read : (l : List ℕ) → i ≤ functionCount → functionCount ≤ i → length l ≡ functionCount → take i l ≡ map (λ q. littleAt 4 b (ableAt + 4 * q)) (numbers 0 i) → l ≡ ablesOf (tableOf connectionCount b)
+    able-read l h g k t = filled (λ q. littleAt 4 b (ableAt + 4 * q)) l i functionCount h g k t ∙ sym ables-are
 
-    pub connections-read : (l : List Connection) → i ≤ 16 → 16 ≤ i → length l ≡ 16 → take i l ≡ map (connectionIn connectionCount b) (numbers 0 i) → l ≡ tableOf connectionCount b .connections
+    pub connections-read : (l : List Connection) → i ≤ connectionCount → connectionCount ≤ i → length l ≡ connectionCount → take i l ≡ map (connectionIn connectionCount b) (numbers 0 i) → l ≡ tableOf connectionCount b .connections
     unfolding tableOf
-    connections-read l h g k t = filled (connectionIn connectionCount b) l i 16 h g k t
+    connections-read l h g k t = filled (connectionIn connectionCount b) l i connectionCount h g k t
 
 pub last-read : (b : Bytes) (last : ℕ) → last ≡ littleAt 4 b 0 → last ≡ valuesOf (tableOf connectionCount b) .last
 unfolding valuesOf tableOf
@@ -96,18 +96,18 @@ module _ (b : Bytes) (i : ℕ) where
   unfolding valuesOf
   row-beyond x h g = g ∙ sym (column-beyond (rowIn connectionCount b) noRow 32 (rowsOf (tableOf connectionCount b)) i (rows-are b) h)
 
-  pub able-inside : (x : ℕ) → i < 16 → x ≡ littleAt 4 b (ableAt + 4 * i) → x ≡ getD (valuesOf (tableOf connectionCount b) .able) i 0
+  pub able-inside : (x : ℕ) → i < functionCount → x ≡ littleAt 4 b (ableAt + 4 * i) → x ≡ getD (valuesOf (tableOf connectionCount b) .able) i 0
   unfolding valuesOf
-  able-inside x h g = g ∙ sym (column-at (λ q. littleAt 4 b (ableAt + 4 * q)) 0 16 (ablesOf (tableOf connectionCount b)) i (ables-are b) h)
+  able-inside x h g = g ∙ sym (column-at (λ q. littleAt 4 b (ableAt + 4 * q)) 0 functionCount (ablesOf (tableOf connectionCount b)) i (ables-are b) h)
 
-  pub able-beyond : (x : ℕ) → 16 ≤ i → x ≡ 0 → x ≡ getD (valuesOf (tableOf connectionCount b) .able) i 0
+  pub able-beyond : (x : ℕ) → functionCount ≤ i → x ≡ 0 → x ≡ getD (valuesOf (tableOf connectionCount b) .able) i 0
   unfolding valuesOf
-  able-beyond x h g = g ∙ sym (column-beyond (λ q. littleAt 4 b (ableAt + 4 * q)) 0 16 (ablesOf (tableOf connectionCount b)) i (ables-are b) h)
+  able-beyond x h g = g ∙ sym (column-beyond (λ q. littleAt 4 b (ableAt + 4 * q)) 0 functionCount (ablesOf (tableOf connectionCount b)) i (ables-are b) h)
 
-  pub connection-inside : (x : Connection) → i < 16 → x ≡ connectionIn connectionCount b i → x ≡ P.connectionIn (valuesOf (tableOf connectionCount b)) i
+  pub connection-inside : (x : Connection) → i < connectionCount → x ≡ connectionIn connectionCount b i → x ≡ P.connectionIn (valuesOf (tableOf connectionCount b)) i
   unfolding valuesOf tableOf
-  connection-inside x h g = g ∙ sym (column-at (connectionIn connectionCount b) closed 16 (tableOf connectionCount b .connections) i refl h)
+  connection-inside x h g = g ∙ sym (column-at (connectionIn connectionCount b) closed connectionCount (tableOf connectionCount b .connections) i refl h)
 
-  pub connection-beyond : (x : Connection) → 16 ≤ i → x ≡ closed → x ≡ P.connectionIn (valuesOf (tableOf connectionCount b)) i
+  pub connection-beyond : (x : Connection) → connectionCount ≤ i → x ≡ closed → x ≡ P.connectionIn (valuesOf (tableOf connectionCount b)) i
   unfolding valuesOf tableOf
-  connection-beyond x h g = g ∙ sym (column-beyond (connectionIn connectionCount b) closed 16 (tableOf connectionCount b .connections) i refl h)
+  connection-beyond x h g = g ∙ sym (column-beyond (connectionIn connectionCount b) closed connectionCount (tableOf connectionCount b .connections) i refl h)

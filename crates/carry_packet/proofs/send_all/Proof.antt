@@ -17,7 +17,7 @@ abbrev Inv-loop : tie.InvT-loop
 Inv-loop out₀ at to kind d place₀ listener₀ out place listener = (listener ≤ connectionCount) × (length out ≡ length out₀) × (place ≡ at + length (messages (members listener to) kind d)) × (out ≡ put at (messages (members listener to) kind d) out₀)
 
 abbrev μ-loop : tie.MeasureT-loop
-μ-loop out₀ at to kind d place₀ listener₀ out place listener = 16 - listener
+μ-loop out₀ at to kind d place₀ listener₀ out place listener = connectionCount - listener
 
 loop-holds : tie.Need-loop-holds Inv-loop μ-loop
 loop-holds c = search (needs, start-place, start-laid)

@@ -17,7 +17,7 @@ abbrev Inv-loop : tie.InvT-loop
 Inv-loop table used busy ok₀ c₀ ok c = (c ≤ connectionCount) × (ok ≡ all (connectionHolds table used busy) (numbers 0 c))
 
 abbrev μ-loop : tie.MeasureT-loop
-μ-loop table used busy ok₀ c₀ ok c = 16 - c
+μ-loop table used busy ok₀ c₀ ok c = connectionCount - c
 
 loop-holds : tie.Need-loop-holds Inv-loop μ-loop
 loop-holds c = (omega arith, refl)
@@ -55,12 +55,12 @@ loop-less c = search needs
 loop-again : tie.Need-loop-again Inv-loop μ-loop
 loop-again c = let l = c .before .before .before .before .before .before .loop in
     let a = c .before .before .before .before .before .before .before .before .args in
-    (omega arith, each-on (connectionHolds (now (a .table)) (a .used) (a .busy)) 16 (l .c) (l .ok) _ (l .inv .1) (rw (c .has2 .ensures, c .before .before .has .ensures)))
+    (omega arith, each-on (connectionHolds (now (a .table)) (a .used) (a .busy)) connectionCount (l .c) (l .ok) _ (l .inv .1) (rw (c .has2 .ensures, c .before .before .has .ensures)))
 
 returns : tie.Need-returns Inv-loop μ-loop
 returns c = let l = c .before .loop in
     let a = c .before .before .before .args in
-    ap (λ (t : Bool). ltb (a .used) (2 ^ connectionCount) && t) (each-end (connectionHolds (now (a .table)) (a .used) (a .busy)) 16 (l .c) (l .ok) (l .inv .1) (l .inv .0) (omega arith))
+    ap (λ (t : Bool). ltb (a .used) (2 ^ connectionCount) && t) (each-end (connectionHolds (now (a .table)) (a .used) (a .busy)) connectionCount (l .c) (l .ok) (l .inv .1) (l .inv .0) (omega arith))
 
 pub connections-hold-spec : {M : Type 1} → statement M
 connections-hold-spec =

@@ -6,7 +6,7 @@ use denote.Ref.{now}
 use borrow.Author.Needs.{needs}
 use lib.Dec.{leb}
 use Rattle.lists.specs.Lists.{all, numbers}
-use Rattle.server.specs.Sizes.{jobCount}
+use Rattle.server.specs.Sizes.{connectionCount, jobCount}
 use Rattle.table_passes.proofs.Tests.{each-on, each-end}
 use Rattle.check_rows.specs.Rows.{holderInRange}
 use Rattle.check_rows.proofs.holders_in_range.Statement.{statement}
@@ -33,7 +33,7 @@ loop-less c = search needs
 loop-again : tie.Need-loop-again Inv-loop μ-loop
 loop-again c = let l = c .before .before .loop in
     let a = c .before .before .before .before .args in
-    (omega arith, each-on (holderInRange (now (a .table))) 32 (l .i) (l .ok) (leb (c .holder .result) 16) (l .inv .1) (ap (λ (x : ℕ). leb x 16) (c .holder .ensures)))
+    (omega arith, each-on (holderInRange (now (a .table))) 32 (l .i) (l .ok) (leb (c .holder .result) connectionCount) (l .inv .1) (ap (λ (x : ℕ). leb x connectionCount) (c .holder .ensures)))
 
 returns : tie.Need-returns Inv-loop μ-loop
 returns c = search (needs, each-end)

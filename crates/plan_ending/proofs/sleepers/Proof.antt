@@ -17,10 +17,10 @@ use Rattle.plan_ending.proofs.sleepers.Tie as tie
 
 abbrev Inv-loop : tie.InvT-loop
 Inv-loop table able s₀ k₀ s k =
-    (k ≤ 16) × (toWakeSet able (valuesOf (tableOf connectionCount table) .connections) ≡ unions (wakesNow able) s k (drop k (valuesOf (tableOf connectionCount table) .connections)))
+    (k ≤ connectionCount) × (toWakeSet able (valuesOf (tableOf connectionCount table) .connections) ≡ unions (wakesNow able) s k (drop k (valuesOf (tableOf connectionCount table) .connections)))
 
 abbrev μ-loop : tie.MeasureT-loop
-μ-loop table able s₀ k₀ s k = 16 - k
+μ-loop table able s₀ k₀ s k = connectionCount - k
 
 loop-holds : tie.Need-loop-holds Inv-loop μ-loop
 unfolding toWakeSet

@@ -9,16 +9,17 @@ use Rattle.server.specs.Sizes.{connectionCount}
 use Rattle.server.specs.Layout.{tableOf}
 use Rattle.plan.specs.Values.{valuesOf}
 use Rattle.plan.specs.Parts.{heard, heardFrom}
-use Rattle.plan_events.proofs.Hearing.{connections-long, heard-turn, heard-end}
+use Rattle.plan.proofs.Sizes.{connections-long}
+use Rattle.plan_events.proofs.Hearing.{heard-turn, heard-end}
 use borrow.Author.Needs.{needs}
 use Rattle.plan_events.proofs.heard.Statement.{statement}
 use Rattle.plan_events.proofs.heard.Tie as tie
 
 abbrev Inv-loop : tie.InvT-loop
-Inv-loop table listeners s₀ i₀ s i = (i ≤ 16) × (heard (valuesOf (tableOf connectionCount table) .connections) listeners ≡ heardFrom i (drop i (valuesOf (tableOf connectionCount table) .connections)) s)
+Inv-loop table listeners s₀ i₀ s i = (i ≤ connectionCount) × (heard (valuesOf (tableOf connectionCount table) .connections) listeners ≡ heardFrom i (drop i (valuesOf (tableOf connectionCount table) .connections)) s)
 
 abbrev μ-loop : tie.MeasureT-loop
-μ-loop table listeners s₀ i₀ s i = 16 - i
+μ-loop table listeners s₀ i₀ s i = connectionCount - i
 
 loop-holds : tie.Need-loop-holds Inv-loop μ-loop
 unfolding heard

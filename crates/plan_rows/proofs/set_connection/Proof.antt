@@ -1,11 +1,12 @@
 -- `plan_rows::set_connection` meets its contract: nothing is put beyond the last place. Assumes nothing.
 use borrow.Author.Needs.{needs}
+use Rattle.server.specs.Sizes.{connectionCount}
 use Rattle.plan_rows.proofs.Beyond.{set-beyond}
 use Rattle.plan_rows.proofs.set_connection.Statement.{statement}
 use Rattle.plan_rows.proofs.set_connection.Tie as tie
 
 returns : tie.Need-returns
-returns c = set-beyond _ 16 _ (search needs) (c .if1 .taken) _
+returns c = set-beyond _ connectionCount _ (search needs) (c .if1 .taken) _
 
 mul-next : tie.Need-mul-next
 mul-next c = search needs

@@ -5,6 +5,7 @@ use mathlib.Core.Path.{_≡_, refl}
 use native.Mathlib.Omega.{arith}
 use borrow.Author.Needs.{needs}
 use lib.ListN.{drop}
+use Rattle.server.specs.Sizes.{connectionCount}
 use Rattle.server.specs.Table.{closed}
 use Rattle.plan.specs.Busy.{unions, wakesNow, toWakeSet}
 use Rattle.plan_settle.proofs.Turns.{union-turn, union-end}
@@ -12,10 +13,10 @@ use Rattle.plan_settle.proofs.to_wake.Statement.{statement}
 use Rattle.plan_settle.proofs.to_wake.Tie as tie
 
 abbrev Inv-loop : tie.InvT-loop
-Inv-loop busy connections s₀ i₀ s i = (i ≤ 16) × (toWakeSet busy connections ≡ unions (wakesNow busy) s i (drop i connections))
+Inv-loop busy connections s₀ i₀ s i = (i ≤ connectionCount) × (toWakeSet busy connections ≡ unions (wakesNow busy) s i (drop i connections))
 
 abbrev μ-loop : tie.MeasureT-loop
-μ-loop busy connections s₀ i₀ s i = 16 - i
+μ-loop busy connections s₀ i₀ s i = connectionCount - i
 
 loop-holds : tie.Need-loop-holds Inv-loop μ-loop
 unfolding toWakeSet

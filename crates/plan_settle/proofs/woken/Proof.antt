@@ -5,6 +5,7 @@ use mathlib.Core.Path.{_≡_, refl, sym, _∙_}
 use native.Mathlib.Omega.{arith}
 use borrow.Author.Needs.{needs}
 use lib.ListN.{length, take, length-set}
+use Rattle.server.specs.Sizes.{connectionCount}
 use Rattle.server.specs.Table.{closed}
 use Rattle.plan.specs.Busy.{wokenBy}
 use Rattle.lists.proofs.Filling.{fill-turn, fill-end}
@@ -13,10 +14,10 @@ use Rattle.plan_settle.proofs.woken.Statement.{statement}
 use Rattle.plan_settle.proofs.woken.Tie as tie
 
 abbrev Inv-loop : tie.InvT-loop
-Inv-loop busy connections next₀ i₀ next i = (i ≤ 16) × (length next ≡ 16) × (take i next ≡ take i (wokenBy busy connections))
+Inv-loop busy connections next₀ i₀ next i = (i ≤ connectionCount) × (length next ≡ connectionCount) × (take i next ≡ take i (wokenBy busy connections))
 
 abbrev μ-loop : tie.MeasureT-loop
-μ-loop busy connections next₀ i₀ next i = 16 - i
+μ-loop busy connections next₀ i₀ next i = connectionCount - i
 
 loop-holds : tie.Need-loop-holds Inv-loop μ-loop
 loop-holds c = (omega arith, search needs, refl)
@@ -50,7 +51,7 @@ loop-again c =
     let l = c .before .before .before .before .loop in
     let a = c .before .before .before .before .before .args in
     let n = length-woken (a .busy) (a .t1) in
-    let h : length (l .next) ≡ 16 = l .inv .1 in
+    let h : length (l .next) ≡ connectionCount = l .inv .1 in
     (omega arith, length-set (l .next) (l .i) _ ∙ h, fill-turn (wokenBy (a .busy) (a .t1)) (l .next) (l .i) (l .inv .2) closed _ (omega arith) (omega arith) (c .roused .ensures ∙ rw (c .before .has .ensures) (sym (woken-at (a .busy) (a .t1) (l .i)))))
 
 returns : tie.Need-returns Inv-loop μ-loop
@@ -58,7 +59,7 @@ returns c =
     let l = c .before .loop in
     let a = c .before .before .args in
     let n = length-woken (a .busy) (a .t1) in
-    let h : length (l .next) ≡ 16 = l .inv .1 in
+    let h : length (l .next) ≡ connectionCount = l .inv .1 in
     fill-end (wokenBy (a .busy) (a .t1)) (l .next) (l .i) (l .inv .2) (omega arith) (omega arith)
 
 pub woken-spec : {M : Type 1} → statement M

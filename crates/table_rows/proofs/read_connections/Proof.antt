@@ -13,10 +13,10 @@ use Rattle.table_rows.proofs.read_connections.Statement.{statement}
 use Rattle.table_rows.proofs.read_connections.Tie as tie
 
 abbrev Inv-loop : tie.InvT-loop
-Inv-loop table connections₀ i₀ connections i = (i ≤ 16) × (length connections ≡ 16) × (take i connections ≡ map (connectionIn connectionCount table) (numbers 0 i))
+Inv-loop table connections₀ i₀ connections i = (i ≤ connectionCount) × (length connections ≡ connectionCount) × (take i connections ≡ map (connectionIn connectionCount table) (numbers 0 i))
 
 abbrev μ-loop : tie.MeasureT-loop
-μ-loop table connections₀ i₀ connections i = 16 - i
+μ-loop table connections₀ i₀ connections i = connectionCount - i
 
 closed-requires : tie.Need-closed-requires Inv-loop μ-loop
 closed-requires c κs = search needs
