@@ -1,4 +1,4 @@
-// Making a fresh table over lent bytes: the table's 3,796 bytes and the workloads' 32,768 are set to zero, and no byte beyond them is
+// Making a fresh table over lent bytes: the table's bytes and the workloads are set to zero, and no byte beyond them is
 // written. Format: docs/TABLE.md. Buffers that are too short are refused by document 01's number 1, and nothing is changed then. No
 // caller has to check anything first.
 use server::TABLE_SIZE;

@@ -1,6 +1,6 @@
 // The job server: opening and closing a connection, and one packet from a connection, over bytes that the caller lends. Format: the
 // table of docs/TABLE.md, 32 workloads of 1,024 bytes, and addressed packets in the output. Bad input is refused by document 01's
-// numbers, 1 to 15: nothing is changed then, and by 9 to 15 the output holds one ERROR packet. No caller has to check anything first.
+// numbers: nothing is changed then, and by one that has a text the output holds one ERROR packet. No caller has to check anything first.
 use carry_event::Answer;
 use packet::Ends;
 use packet::Read;

@@ -1,4 +1,4 @@
--- Every step keeps the table's size: 16 connections, 16 functions, 32 rows. Assumes nothing.
+-- Every step keeps the table's size: its connections, functions and rows. Assumes nothing.
 use Prim.Native.Nat.{ℕ}
 use mathlib.Core.Path.{_≡_, _∙_}
 use mathlib.Core.List.{List}

@@ -66,7 +66,7 @@ fn send_if(out: &mut [u8], at: usize, set: u32, c: usize, kind: u32, d: &[u8]) -
     send(out, at, c as u8, kind, d)
 }
 
-// Whether there is more to look at: connection `c` is one of the 16, and the set is not empty from it on.
+// Whether there is more to look at: there is a connection `c`, and the set is not empty from it on.
 fn has_more(set: u32, c: usize) -> bool
     ensures { λ r. ⌜ r ≡ ltb c connectionCount && ltb 0 (set / 2 ^ c) ⌝ }
 {

@@ -1,4 +1,4 @@
--- The fields of one row, one connection, of a step and of an ending, laid over the bytes of a table of 16 connections. Assumes nothing.
+-- The fields of one row, one connection, of a step and of an ending, laid over the bytes of the product's table. Assumes nothing.
 use Prim.Native.Nat.{ℕ, zero, suc, _+_, _*_}
 use mathlib.Core.Bool.{false, cond}
 use mathlib.Core.List.{[]}

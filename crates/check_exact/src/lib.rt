@@ -1,5 +1,5 @@
 // The table rules of refusal 1 that compare texts or add up their lengths, asked exactly. They are asked only where a key or a bound cannot
-// decide. Whatever the bytes are, each rule answers `true` or `false`; it asks only that the table's 3,796 bytes are there.
+// decide. Whatever the bytes are, each rule answers `true` or `false`; it asks only that all of the table's bytes are there.
 use server::FUNCTIONS;
 use server::FUNCTIONS_AT;
 use server::JOBS;

@@ -19,7 +19,7 @@ abbrev pub numbersFree : JobRow → Bool
 numbersFree r =
     eqb (r .function) 0 && (eqb (r .priority) 0 && (not (r .background) && (isEmpty (r .listeners) && (eqb (r .holder) 0 && eqb (r .size) 0))))
 
--- the numbers have a meaning in the layout, with 16 functions and 16 connections
+-- the numbers have a meaning in the layout
 abbrev pub numbersMean : JobRow → Bool
 numbersMean r = cond (live r) (leb (r .priority) 2 && (ltb (r .function) functionCount && leb (r .holder) connectionCount)) (numbersFree r)
 

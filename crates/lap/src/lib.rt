@@ -1,6 +1,6 @@
 // The job server for a host in C: include/lap.h has these functions with their promises in words. Format: the table of docs/TABLE.md,
-// 32 workloads of 1,024 bytes, and addressed packets in the output. Each function answers document 01's number: 0 is done, 1 to 15
-// refuse, and then table and workloads are as they were. No caller has to check anything first but that the buffers do not overlap.
+// 32 workloads of 1,024 bytes, and addressed packets in the output. Each function answers document 01's number: 0 is done, any
+// other refuses, and then table and workloads are as they were. No caller has to check anything first but that the buffers do not overlap.
 use carry_event::Answer;
 ghost use mathlib.Core.Path.{_≡_};
 ghost use Rattle.server.specs.Sizes.{connectionCount};

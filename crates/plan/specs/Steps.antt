@@ -49,7 +49,7 @@ isLean (SV.Able q s) = true
 isLean (SV.Reset c) = false
 isLean (SV.Leave c) = false
 
--- its places are those of a table of 16 connections, 16 functions and 32 jobs
+-- its places are those of the product's table
 abbrev pub Inside : S′.Step → Type 0
 Inside SV.Nothing = 0 ≤ 0
 Inside (SV.Row p r) = p < jobCount

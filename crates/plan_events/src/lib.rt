@@ -1,5 +1,5 @@
 // What the rest of the events come to, as plans: abilities and sleep of a connection, open and close, worker packets, status and
-// options. An inner crate: it asks for the table's 3,796 bytes, and refuses nothing; a plan carries the number of a refusal.
+// options. An inner crate: it asks for all of the table's bytes, and refuses nothing; a plan carries the number of a refusal.
 use lists::Place;
 use plan::Change;
 use plan::Order;

@@ -1,5 +1,5 @@
 // What an event comes to, as a plan: from what the searches found, and the row, set or connection of the lent table that it is about.
-// An inner crate: it asks for the table's 3,796 bytes, and refuses nothing; a plan carries the number of a refusal.
+// An inner crate: it asks for all of the table's bytes, and refuses nothing; a plan carries the number of a refusal.
 use lists::Place;
 use plan::Change;
 use plan::Order;

@@ -1,5 +1,5 @@
 // All numbers of a table after a step that is not lean: a connection gives up its abilities, or it leaves. Loops over the rows by
-// value. An inner crate: its callers name connections below 16.
+// value. An inner crate: its callers name connections that there are.
 use plan::Step;
 use plan::Values;
 use server::Connection;

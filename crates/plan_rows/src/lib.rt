@@ -1,5 +1,5 @@
 // The numbers of a table by value, read and put anew at a place. A place beyond the last is read as an empty one, and nothing is put
-// there. An inner crate: its callers name connections below 16.
+// there. An inner crate: its callers name connections that there are.
 use plan::Values;
 use server::CONNECTIONS;
 use server::Connection;

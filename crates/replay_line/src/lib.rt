@@ -54,7 +54,7 @@ fn put_answer(text: &mut [u8], output: &[u8], answer: Answer) -> usize
 }
 
 // One line of the replay, without its line end: lays what it says over the start of the text, and returns how long that is. Nothing is
-// said, and nothing changed, where the text has less room than 49,779 bytes.
+// said, and nothing changed, where the text has less room than `TEXT_SIZE` bytes.
 pub fn step(
     table: &mut [u8],
     workloads: &mut [u8],

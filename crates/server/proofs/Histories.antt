@@ -25,7 +25,7 @@ unfoldable pub response : ℕ → ℕ → List Bytes → Bytes
 unfolding packet join
 response c kind as′ = c ∷ packet (responses .magic) kind (join as′)
 
--- what a history of a fresh server of sixteen connections answers: the number of each event, and the packets
+-- what a history of a fresh server of the product answers: the number of each event, and the packets
 abbrev numberOf : Answer → ℕ
 numberOf a = a .number
 

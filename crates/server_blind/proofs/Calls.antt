@@ -102,7 +102,7 @@ blind-calls n few t w lt lw a l m =
     rw (make-start n t w lt lw)
     (match-calls n few t w lt lw (λ p q z. z) a l m (start n) (start n) (running-start n) (running-start n) refl (related-agree (agree-from (events-alike a) (start n) (start n) refl)))
 
--- 16 connections: a table of 3,796 bytes and workloads of 32,768
-pub sixteen-blind : (t w : Bytes) → tableSize connectionCount ≤ length t → workloadsSize ≤ length w → {xs ys : List Call} → AlikeEvents xs ys → LongOutputs connectionCount xs → LongOutputs connectionCount ys
+-- the product's number of connections, and its sizes of table and workloads
+pub product-blind : (t w : Bytes) → tableSize connectionCount ≤ length t → workloadsSize ≤ length w → {xs ys : List Call} → AlikeEvents xs ys → LongOutputs connectionCount xs → LongOutputs connectionCount ys
     → Both (Match Like) xs ys (calls connectionCount xs (make connectionCount t w .table) (make connectionCount t w .workloads)) (calls connectionCount ys (make connectionCount t w .table) (make connectionCount t w .workloads))
-sixteen-blind t w lt lw a l m = blind-calls connectionCount (omega arith) t w lt lw a l m
+product-blind t w lt lw a l m = blind-calls connectionCount (omega arith) t w lt lw a l m

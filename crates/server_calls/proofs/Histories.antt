@@ -142,6 +142,6 @@ module _ (n : ℕ) (t w : Bytes) (longTable : tableSize n ≤ length t) (longWor
       let s = after (start n) (events xs) in
       ap (drop workloadsSize) (history few .workloads) ∙ drop-put workloadsSize (concat (s .workloads)) w (omega (arith, length-workloads n few s (running-after n (events xs))))
 
--- 16 connections: a table of 3,796 bytes and workloads of 32,768
-pub sixteen-history : (t w : Bytes) → tableSize connectionCount ≤ length t → workloadsSize ≤ length w → (xs : List Call) → LongOutputs connectionCount xs → History connectionCount t w xs
-sixteen-history t w lt lw xs l = history connectionCount t w lt lw xs l (omega arith)
+-- the product's number of connections, and its sizes of table and workloads
+pub product-history : (t w : Bytes) → tableSize connectionCount ≤ length t → workloadsSize ≤ length w → (xs : List Call) → LongOutputs connectionCount xs → History connectionCount t w xs
+product-history t w lt lw xs l = history connectionCount t w lt lw xs l (omega arith)

@@ -1,5 +1,5 @@
--- Demand 1, of calls on lent bytes: a call whose number is not 0 leaves table and workloads as they were. By 1 to 8 nothing is
--- written and the length is 0; by 9 to 15 the output begins with one ERROR packet to the sender, and is unchanged beyond it.
+-- Demand 1, of calls on lent bytes: a call whose number is not 0 leaves table and workloads as they were. By one without a text
+-- nothing is written and the length is 0; by one with a text the output begins with one ERROR packet to the sender, and is unchanged beyond it.
 -- Assumes nothing.
 use Prim.Native.Nat.{ℕ, zero, suc, _-_, _≤_}
 use mathlib.Core.Path.{_≡_, refl, sym, ap, _∙_}
