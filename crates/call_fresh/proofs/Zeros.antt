@@ -1,5 +1,5 @@
 -- A fresh table's bytes are zeros, column by column. Assumes nothing.
-use Prim.Native.Nat.{ℕ, zero, suc, _+_, _*_}
+use Prim.Native.Nat.{ℕ, zero, suc, _+_, _-_, _*_}
 use mathlib.Core.Path.{_≡_, refl, ap, ap₂, _∙_}
 use mathlib.Core.List.{[], _∷_, _++_}
 use native.Mathlib.Nat.{mul-suc, mul-zero}
@@ -11,7 +11,7 @@ use Rattle.server.specs.declared.Connection.{Connection}
 use Rattle.lists.specs.Lists.{fit}
 use Rattle.server.specs.Sizes.{functionCount, jobCount, nameSize, uniqueSize, numberSize}
 use Rattle.server.specs.Table.{Table, closed, noFunction, noJob, fresh}
-use Rattle.server.specs.Layout.{little, column, setSize, tableSize, bytesOf}
+use Rattle.server.specs.Layout.{little, column, setSize, tableSize, rowBytes, bytesOf, serialsAt, namesAt}
 use Rattle.lists.proofs.Lists.{fit-none}
 use Rattle.table_texts.specs.Places.{zeros}
 
@@ -57,17 +57,13 @@ empty n q p = record { last = 0; connections = replicate n closed; functions = r
 abbrev sets : ℕ → ℕ
 sets n = setSize (length (replicate n closed))
 
-empty-zeros : (n q p : ℕ) → bytesOf (empty n q p)
-    ≡ zeros (4 + (4 * p + (2 * p + (2 * p + (1 * p + (1 * p + (1 * p + (nameSize * q + (uniqueSize * p + (numberSize * p + (numberSize * p + (sets n * q + (sets n * p + (1 * n + (1 * n + 1 * n)))))))))))))))
+-- the rows of p free places are k zeros
+empty-zeros : (n q p k : ℕ) → rowBytes (replicate p noJob) ≡ zeros k → bytesOf (empty n q p)
+    ≡ zeros (4 + (k + (nameSize * q + (uniqueSize * p + (numberSize * p + (numberSize * p + (sets n * q + (sets n * p + (1 * n + (1 * n + 1 * n))))))))))
 unfolding bytesOf
-empty-zeros n q p =
+empty-zeros n q p k e =
     then 4 _ (little-zeros 4)
-    (then (4 * p) _ (rows _ noJob 4 (little-zeros 4) p)
-    (then (2 * p) _ (rows _ noJob 2 (little-zeros 2) p)
-    (then (2 * p) _ (rows _ noJob 2 (little-zeros 2) p)
-    (then (1 * p) _ (rows _ noJob 1 (little-zeros 1) p)
-    (then (1 * p) _ (rows _ noJob 1 flag-zeros p)
-    (then (1 * p) _ (rows _ noJob 1 (little-zeros 1) p)
+    (then k _ e
     (then (nameSize * q) _ (rows _ noFunction nameSize (text-zeros nameSize) q)
     (then (uniqueSize * p) _ (rows _ noJob uniqueSize (text-zeros uniqueSize) p)
     (then (numberSize * p) _ (rows _ noJob numberSize (text-zeros numberSize) p)
@@ -75,9 +71,14 @@ empty-zeros n q p =
     (then (sets n * q) _ (rows _ noFunction (sets n) (little-zeros (sets n)) q)
     (then (sets n * p) _ (rows _ noJob (sets n) (little-zeros (sets n)) p)
     (then (1 * n) _ (rows _ closed 1 flag-zeros n)
-    (then (1 * n) _ (rows _ closed 1 flag-zeros n) (rows _ closed 1 flag-zeros n)))))))))))))))
+    (then (1 * n) _ (rows _ closed 1 flag-zeros n) (rows _ closed 1 flag-zeros n))))))))))
+
+-- the rows of all places: the bytes between the serials and the names
+row-zeros : rowBytes (replicate jobCount noJob) ≡ zeros (namesAt - serialsAt)
+unfolding rowBytes little zeros
+row-zeros = refl
 
 -- a fresh table of n connections
 pub fresh-zeros : (n : ℕ) → bytesOf (fresh n) ≡ zeros (tableSize n)
 unfolding fresh
-fresh-zeros n = empty-zeros n functionCount jobCount ∙ ap (λ (k : ℕ). zeros k) (omega (arith, length-replicate {A = Connection} n closed))
+fresh-zeros n = empty-zeros n functionCount jobCount (namesAt - serialsAt) row-zeros ∙ ap (λ (k : ℕ). zeros k) (omega (arith, length-replicate {A = Connection} n closed))

@@ -16,7 +16,7 @@ use Rattle.server.specs.Sizes.{connectionCount, workloadsSize, outputSize}
 use Rattle.server.specs.Table.{Table, fresh}
 use Rattle.server.specs.Requests.{Event}
 use Rattle.server.specs.Server.{Server, addressed, next, answer, start}
-use Rattle.server.specs.Layout.{little, tableSize, bytesOf, tableOf}
+use Rattle.server.specs.Layout.{little, tableSize, rowBytes, bytesOf, tableOf}
 use Rattle.server.specs.Call.{Result, refusedBy, sentBytes, performed, Made, make}
 use Rattle.server.specs.Replay.{frame}
 use Rattle.table_laws.proofs.Round.{table-put}
@@ -131,7 +131,7 @@ module _ (room : ℕ) (says : ℕ → Speech) (fits : (k : ℕ) → Fits room (s
 -- ---- from zeros, as the programs lend them
 
 fresh-zeros : bytesOf (fresh connectionCount) ≡ replicate (tableSize connectionCount) 0
-unfolding bytesOf fresh little
+unfolding bytesOf rowBytes fresh little
 fresh-zeros = refl
 
 put-itself : (s : Bytes) → put 0 s s ≡ s

@@ -5,9 +5,9 @@ use mathlib.Core.Path.{_≡_, refl, ap, sym, _∙_, subst}
 use mathlib.Core.Bool.{true, not, _&&_}
 use mathlib.Core.List.{[], _∷_}
 use native.Mathlib.Omega.{arith}
-use borrow.Author.Tests.{ltb-true, leb-true, le-leb}
+use borrow.Author.Tests.{leb-true, le-leb}
 use lib.ListN.{length, getD, take, drop, length-take, length-drop, List·getD-map}
-use lib.Dec.{leb, ltb}
+use lib.Dec.{leb}
 use Rattle.octets.specs.Bytes.{Bytes, same}
 use Rattle.octets.proofs.Strings.{and-left, and-right, and-both}
 use Rattle.packet.specs.declared.Rule.the-variants.{Text}
@@ -24,6 +24,7 @@ use Rattle.table_laws.proofs.Columns.{length-places, places-at}
 use Rattle.plan.specs.Values.{valuesOf}
 use Rattle.plan.specs.Parts as P
 use Rattle.lists.proofs.Rows.{clash, implies-use, all-at}
+use Rattle.server.proofs.Rows.{in-range}
 use Rattle.server_laws.proofs.Sound.{Sound, jobNamed, rowMeans}
 use Rattle.server_laws.proofs.Obeyed.{obeyed}
 
@@ -88,7 +89,7 @@ module _ (b : Bytes) (sound : isSound connectionCount b ≡ true) (p : ℕ) (row
   function-inside =
       rw row-there
       (subst (λ (n : ℕ). held .row .function < n) sixteen
-      (ltb-true _ _ (and-left (ltb (held .row .function) (length (tableOf connectionCount b .functions))) _ (and-right (leb (held .row .priority) 2) _ means))))
+      (in-range (length (tableOf connectionCount b .functions)) (length (tableOf connectionCount b .connections)) (held .row) means .function))
 
   abbrev its-function : Function
   its-function = functionAt (tableOf connectionCount b) (held .row .function)

@@ -10,21 +10,20 @@ use Rattle.server.specs.declared.JobRow.{JobRow}
 use Rattle.lists.specs.Lists.{fit}
 use Rattle.server.specs.Sizes.{connectionCount, nameSize, uniqueSize, numberSize}
 use Rattle.server.specs.Table.{noRow, live}
-use Rattle.server.specs.Layout.{little, flagByte, ableAt, serialsAt, listenersAt, sizesAt, holdersAt, prioritiesAt, backgroundsAt, functionsAt, namesAt, uniquesAt, numeratorsAt, denominatorsAt, openedAt, asleepAt, exceptionsAt}
+use Rattle.server.specs.Layout.{little, flagByte, ableAt, serialsAt, listenersAt, sizesAt, holdersAt, namesAt, uniquesAt, numeratorsAt, denominatorsAt, openedAt, asleepAt, exceptionsAt}
+use Rattle.table_laws.specs.Rows.{rowLaid}
 
 -- ---- a job
 
 abbrev pub laidFours : ℕ → ℕ → ℕ → Bytes → Bytes
-laidFours p serial listeners b = put (listenersAt connectionCount + 4 * p) (little 4 listeners) (put (serialsAt + 4 * p) (little 4 serial) b)
+laidFours p serial listeners b = put (serialsAt + 4 * p) (little 4 serial) (put (listenersAt connectionCount + 4 * p) (little 4 listeners) b)
 
 abbrev pub laidTwos : ℕ → ℕ → ℕ → Bytes → Bytes
 laidTwos p size holder b = put (holdersAt + 2 * p) (little 2 holder) (put (sizesAt + 2 * p) (little 2 size) b)
 
--- the seven numbers of a row
+-- the numbers of a row: its listeners, then the others
 unfoldable pub laidRow : ℕ → JobRow → Bytes → Bytes
-laidRow p r b =
-    put (functionsAt + p) (little 1 (r .function)) (put (backgroundsAt + p) (flagByte (r .background)) (put (prioritiesAt + p) (little 1 (r .priority))
-    (laidTwos p (r .size) (r .holder) (laidFours p (r .serial) (r .listeners) b))))
+laidRow p r b = rowLaid p r (put (listenersAt connectionCount + 4 * p) (little 4 (r .listeners)) b)
 
 -- the two stored texts
 abbrev pub laidNumbers : ℕ → Bytes → Bytes → Bytes → Bytes

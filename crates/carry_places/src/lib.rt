@@ -61,8 +61,8 @@ fn put_fours(table: &mut [u8], p: usize, serial: u32, listeners: u32)
     requires { ⌜ (tableSize connectionCount ≤ length (now table)) × (p < jobCount) ⌝ }
     ensures { λ _. ⌜ now (table .exit) ≡ laidFours p serial listeners (now (table .entry)) ⌝ }
 {
-    table_little::put4(table, SERIALS_AT + 4 * p, serial);
     table_little::put4(table, LISTENERS_AT + 4 * p, listeners);
+    table_little::put4(table, SERIALS_AT + 4 * p, serial);
 }
 
 // The two numbers of a row in two bytes.

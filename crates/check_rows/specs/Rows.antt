@@ -4,7 +4,7 @@ use mathlib.Core.Path.{_≡_}
 use mathlib.Core.Bool.{Bool, not, cond, _&&_, _||_}
 use mathlib.Core.List.{List}
 use lib.ListN.{getD}
-use lib.Dec.{eqb, leb, ltb}
+use lib.Dec.{eqb, leb}
 use Rattle.octets.specs.Bytes.{Bytes}
 use Rattle.sets.specs.Sets.{isEmpty}
 use Rattle.server.specs.declared.JobRow.{JobRow}
@@ -12,16 +12,13 @@ use Rattle.lists.specs.Lists.{all, numbers, implies}
 use Rattle.server.specs.Sizes.{connectionCount, functionCount, jobCount}
 use Rattle.server.specs.Table.{live, queued}
 use Rattle.server.specs.Layout.{littleAt, rowIn, prioritiesAt, backgroundsAt, functionsAt}
+use Rattle.server.specs.Rules.{numbersFree, numbersInRange}
 
 -- ---- the rules
 
-abbrev pub numbersFree : JobRow → Bool
-numbersFree r =
-    eqb (r .function) 0 && (eqb (r .priority) 0 && (not (r .background) && (isEmpty (r .listeners) && (eqb (r .holder) 0 && eqb (r .size) 0))))
-
 -- the numbers have a meaning in the layout
 abbrev pub numbersMean : JobRow → Bool
-numbersMean r = cond (live r) (leb (r .priority) 2 && (ltb (r .function) functionCount && leb (r .holder) connectionCount)) (numbersFree r)
+numbersMean r = cond (live r) (numbersInRange functionCount connectionCount r) (numbersFree r)
 
 abbrev pub isAwaited : JobRow → Bool
 isAwaited r = implies (queued r) (r .background || not (isEmpty (r .listeners)))

@@ -17,7 +17,7 @@ use Rattle.lists.specs.Lists.{all, numbers, implies}
 use Rattle.server.specs.Sizes.{connectionCount, functionCount, jobCount, nameSize, uniqueSize, numberSize}
 use Rattle.server.specs.Table.{live, queued}
 use Rattle.server.specs.Layout.{littleAt, textAt, functionIn, rowIn, jobIn, tableOf, backgroundsAt, namesAt, uniquesAt, numeratorsAt, denominatorsAt, openedAt, tableSize}
-use Rattle.server.specs.Rules.{nextSmall, serialsBelow, serialsDistinct, textWithin, storedNumber, namesWithin, textsWithin, sizesWithin, rowIsFree, rowHasMeaning, rowsHaveMeaning, functionsDistinct, functionsAsDefined, abilitiesOpen, listenersOpen, holdersOpen, closedClear, queuedAwaited, uniquesDistinct, sleepersIdle, obeys}
+use Rattle.server.specs.Rules.{nextSmall, serialsBelow, serialsDistinct, textWithin, storedNumber, namesWithin, textsWithin, sizesWithin, numbersFree, numbersInRange, rowIsFree, rowHasMeaning, rowsHaveMeaning, functionsDistinct, functionsAsDefined, abilitiesOpen, listenersOpen, holdersOpen, closedClear, queuedAwaited, uniquesDistinct, sleepersIdle, obeys}
 use Rattle.server.specs.Call.{isSound}
 use Rattle.table_laws.specs.Tests.{areFlags, arePadded, imageTests}
 use Rattle.table_laws.proofs.Image.{image-tests}
@@ -69,21 +69,17 @@ next-small b small =
 
 -- ---- the rules of one job
 
--- a job: what of a free row is zero, f p g l h z and the texts u n d; what a live one has, m, and its numbers, s and t; whether it is awaited, a
-free-row : (f p g l h z u n d a : Bool) → ((f && (p && (g && (l && (h && z))))) && a) && (u && (n && d)) ≡ (true && (f && (p && (g && (l && (h && (z && (u && (n && d))))))))) && a
-free-row false p g l h z u n d a = refl
-free-row true false g l h z u n d a = refl
-free-row true true false l h z u n d a = refl
-free-row true true true false h z u n d a = refl
-free-row true true true true false z u n d a = refl
-free-row true true true true true false u n d a = refl
-free-row true true true true true true u n d true = go u (n && d)
+-- a job: whether the numbers f and the texts u n d of a free one are empty; whether a live one's numbers have a meaning, m, and its texts, s;
+-- whether it is awaited, a
+free-row : (f u n d a : Bool) → (f && a) && (u && (n && d)) ≡ (true && (f && (u && (n && d)))) && a
+free-row false u n d a = refl
+free-row true u n d true = go u (n && d)
   where
     go : (x y : Bool) → x && y ≡ (x && y) && true
     go true true = refl
     go true false = refl
     go false y = refl
-free-row true true true true true true u n d false = go u (n && d)
+free-row true u n d false = go u (n && d)
   where
     go : (x y : Bool) → false ≡ (x && y) && false
     go true true = refl
@@ -108,17 +104,13 @@ module _ (b : Bytes) (long : tableSize connectionCount ≤ length b) where
   one-job k h =
       rw (functions-length connectionCount b, connections-length connectionCount b, text-fits 64 b (uniquesAt + uniqueSize * k), ← empty-text 63 b (uniquesAt + uniqueSize * k) (omega arith)) (go (live (rowIn connectionCount b k)))
     where
-      go : (t : Bool) → (cond t (leb (rowIn connectionCount b k .priority) 2 && (ltb (rowIn connectionCount b k .function) functionCount && leb (rowIn connectionCount b k .holder) connectionCount))
-          (eqb (rowIn connectionCount b k .function) 0 && (eqb (rowIn connectionCount b k .priority) 0 && (not (rowIn connectionCount b k .background) && (isEmpty (rowIn connectionCount b k .listeners) && (eqb (rowIn connectionCount b k .holder) 0 && eqb (rowIn connectionCount b k .size) 0)))))
-          && isAwaited (rowIn connectionCount b k))
+      go : (t : Bool) → (cond t (numbersInRange functionCount connectionCount (rowIn connectionCount b k)) (numbersFree (rowIn connectionCount b k)) && isAwaited (rowIn connectionCount b k))
           && ((t || same (jobIn connectionCount b k .unique) []) && cond t (storedNumber (jobIn connectionCount b k .numerator) && storedNumber (jobIn connectionCount b k .denominator)) (same (jobIn connectionCount b k .numerator) [] && same (jobIn connectionCount b k .denominator) []))
           ≡ (implies t (true && (storedNumber (jobIn connectionCount b k .numerator) && storedNumber (jobIn connectionCount b k .denominator)))
-          && cond t (leb (rowIn connectionCount b k .priority) 2 && (ltb (rowIn connectionCount b k .function) functionCount && leb (rowIn connectionCount b k .holder) connectionCount)) (rowIsFree (jobIn connectionCount b k))) && isAwaited (rowIn connectionCount b k)
-      go true =
-          live-row (leb (rowIn connectionCount b k .priority) 2 && (ltb (rowIn connectionCount b k .function) functionCount && leb (rowIn connectionCount b k .holder) connectionCount)) (isAwaited (rowIn connectionCount b k)) (storedNumber (jobIn connectionCount b k .numerator) && storedNumber (jobIn connectionCount b k .denominator))
+          && cond t (numbersInRange functionCount connectionCount (rowIn connectionCount b k)) (rowIsFree (jobIn connectionCount b k))) && isAwaited (rowIn connectionCount b k)
+      go true = live-row (numbersInRange functionCount connectionCount (rowIn connectionCount b k)) (isAwaited (rowIn connectionCount b k)) (storedNumber (jobIn connectionCount b k .numerator) && storedNumber (jobIn connectionCount b k .denominator))
       go false =
-          free-row (eqb (rowIn connectionCount b k .function) 0) (eqb (rowIn connectionCount b k .priority) 0) (not (rowIn connectionCount b k .background)) (isEmpty (rowIn connectionCount b k .listeners)) (eqb (rowIn connectionCount b k .holder) 0) (eqb (rowIn connectionCount b k .size) 0)
-          (same (jobIn connectionCount b k .unique) []) (same (jobIn connectionCount b k .numerator) []) (same (jobIn connectionCount b k .denominator) []) (isAwaited (rowIn connectionCount b k))
+          free-row (numbersFree (rowIn connectionCount b k)) (same (jobIn connectionCount b k .unique) []) (same (jobIn connectionCount b k .numerator) []) (same (jobIn connectionCount b k .denominator) []) (isAwaited (rowIn connectionCount b k))
 
   -- the tests of all rows are the rules of all jobs
   jobs-hold : rowsMean b && (all (freeOrJob b) (numbers 0 jobCount) && all (storedAt b) (numbers 0 jobCount)) ≡ (textsWithin (tableOf connectionCount b) && rowsHaveMeaning (tableOf connectionCount b)) && queuedAwaited (tableOf connectionCount b)

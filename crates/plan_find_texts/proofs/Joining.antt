@@ -6,11 +6,11 @@ use mathlib.Core.Bool.{Bool, true, false, not, _&&_, _||_}
 use mathlib.Core.Option.{Option, none, some}
 use mathlib.Core.List.{[], _∷_}
 use native.Mathlib.Omega.{arith}
-use borrow.Author.Tests.{ltb-true, eqb-true, eq-eqb, not-true}
+use borrow.Author.Tests.{eqb-true, eq-eqb, not-true}
 use lib.ListN.{length, take, drop}
-use lib.Dec.{eqb, leb, ltb}
+use lib.Dec.{eqb}
 use Rattle.octets.specs.Bytes.{Bytes, same, zeroFree}
-use Rattle.octets.proofs.Strings.{and-false, and-left, and-right, same-is, same-lengths, same-refl}
+use Rattle.octets.proofs.Strings.{and-false, same-is, same-lengths, same-refl}
 use Rattle.lists.specs.Lists.{find, fit, numbers}
 use Rattle.server.specs.Sizes.{connectionCount, jobCount, uniqueSize}
 use Rattle.server.specs.Table.{Table, noFunction, noJob, functionAt, jobAt, live, known, joins, joined}
@@ -24,6 +24,7 @@ use Rattle.lists.proofs.Places.{searched}
 use Rattle.table_texts.specs.Places.{agree}
 use Rattle.lists.proofs.Searches.{found}
 use Rattle.lists.proofs.Rows.{clash, iff, all-at, pairwise-at}
+use Rattle.server.proofs.Rows.{in-range}
 use Rattle.server_laws.proofs.Sound.{Sound, rowMeans}
 use Rattle.plan_find_texts.specs.Uniques.{isFor, joinedAt, liesFor}
 use Rattle.lists.proofs.Alike.{find-numbers, find-same, find-nothing, skipped, not-skipped}
@@ -94,7 +95,7 @@ module _ (t : Table) (ok : Sound t) where
   function-place : (i : ℕ) → i < length (t .jobs) → live (jobAt t i .row) ≡ true → jobAt t i .row .function < length (t .functions)
   function-place i l v =
       let m : rowHasMeaning t (jobAt t i) ≡ true = rw v at (all-at (rowMeans t) (t .jobs) i noJob (ok .rows) l) in
-      ltb-true _ _ (and-left (ltb (jobAt t i .row .function) (length (t .functions))) _ (and-right (leb (jobAt t i .row .priority) 2) _ m))
+      in-range (length (t .functions)) (length (t .connections)) (jobAt t i .row) m .function
 
   joined-unknown : (f u : Bytes) → known (t .functions) f ≡ none → joined t f u ≡ none
   unfolding joined

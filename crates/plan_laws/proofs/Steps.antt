@@ -4,12 +4,12 @@ use Prim.Native.Nat.{ℕ, zero, suc, _<_, zero-le}
 use mathlib.Core.Path.{_≡_, refl, ap, ap₂, sym, _∙_, subst}
 use mathlib.Core.Bool.{Bool, true, false, not, cond, _&&_, _||_}
 use mathlib.Core.Option.{Option, none, some}
-use mathlib.Core.List.{List, [], _∷_, map}
+use mathlib.Core.List.{List, [], _∷_}
 use native.Mathlib.Decide.{ℕ-discrete}
-use borrow.Author.Tests.{not-true, eq-eqb, ne-eqb, ltb-true}
+use borrow.Author.Tests.{not-true, eq-eqb, ne-eqb}
 use lib.ListN.{length, getD, set, length-set}
 use lib.Seq.{getD-set-same, getD-set-other, map-set-same}
-use lib.Dec.{leb, ltb, eqb, eqb·suc-zero}
+use lib.Dec.{eqb, eqb·suc-zero}
 use Rattle.octets.specs.Bytes.{Bytes, same}
 use Rattle.octets.proofs.Strings.{and-left, and-right, and-both, and-false}
 use Rattle.sets.specs.Sets.{has, isEmpty, insert, remove, members}
@@ -19,6 +19,7 @@ use Rattle.lists.specs.declared.Place.the-variants.{At, Nowhere}
 use Rattle.lists.proofs.Cases.{cond-both}
 use Rattle.lists.proofs.Maps.{map-set, any-set-same}
 use Rattle.lists.proofs.Rows.{clash, or-right, all-row, all-at, all-set, row-set}
+use Rattle.server.proofs.Rows.{in-range}
 use Rattle.lists.proofs.Searches.{found}
 use Rattle.server.specs.declared.Connection.{Connection}
 use Rattle.server.specs.declared.JobRow.{JobRow}
@@ -336,7 +337,7 @@ module _ (w : Words) (c : ℕ) (t : Table) (ok : obeys t ≡ true) where
       let is : jobAt t p .row .function ≡ q = ap (λ (r : JobRow). r .function) (sym (row-at t p)) in
       let m : rowHasMeaning t (jobAt t p) ≡ true = rw (held-found t c h p e) at (all-at (rowMeans t) (t .jobs) p noJob (o .sound .rows) (work-inside h p e)) in
       let here : q < length (t .functions) =
-      subst (λ (n : ℕ). n < length (t .functions)) is (ltb-true _ _ (and-left (ltb (jobAt t p .row .function) (length (t .functions))) _ (and-right (leb (jobAt t p .row .priority) 2) _ m))) in
+      subst (λ (n : ℕ). n < length (t .functions)) is (in-range (length (t .functions)) (length (t .connections)) (jobAt t p .row) m .function) in
       let b : Bool = not (isEmpty (getD (ablesOf t) q 0)) || any (names q) (set (rowsOf t) p noRow) in
       let rows : rowsOf (setJob t p noJob) ≡ set (rowsOf t) p noRow = map-set (λ (j : Job). j .row) (t .jobs) p noJob in
       lean-by (SV.End p) t t (setJob t p noJob)

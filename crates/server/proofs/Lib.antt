@@ -1,3 +1,4 @@
 pub mod Histories
 pub mod Edge
 pub mod Mistakes
+pub mod Rows

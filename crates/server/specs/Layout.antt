@@ -139,16 +139,21 @@ abbrev pub column : {A : Type 0} → (A → Bytes) → List A → Bytes
 column f [] = []
 column f (x ∷ xs) = f x ++ column f xs
 
+-- the numbers of the jobs' rows, but for the sets of listeners
+unfoldable pub rowBytes : List Job → Bytes
+rowBytes js =
+    column (λ j. little 4 (j .row .serial)) js
+    ++ (column (λ j. little 2 (j .row .size)) js
+    ++ (column (λ j. little 2 (j .row .holder)) js
+    ++ (column (λ j. little 1 (j .row .priority)) js
+    ++ (column (λ j. flagByte (j .row .background)) js
+    ++ column (λ j. little 1 (j .row .function)) js))))
+
 unfoldable pub bytesOf : Table → Bytes
 bytesOf t =
     let n = length (t .connections) in
     little 4 (t .last)
-    ++ (column (λ j. little 4 (j .row .serial)) (t .jobs)
-    ++ (column (λ j. little 2 (j .row .size)) (t .jobs)
-    ++ (column (λ j. little 2 (j .row .holder)) (t .jobs)
-    ++ (column (λ j. little 1 (j .row .priority)) (t .jobs)
-    ++ (column (λ j. flagByte (j .row .background)) (t .jobs)
-    ++ (column (λ j. little 1 (j .row .function)) (t .jobs)
+    ++ (rowBytes (t .jobs)
     ++ (column (λ x. fit nameSize (x .name)) (t .functions)
     ++ (column (λ j. fit uniqueSize (j .unique)) (t .jobs)
     ++ (column (λ j. fit numberSize (j .numerator)) (t .jobs)
@@ -157,7 +162,7 @@ bytesOf t =
     ++ (column (λ j. little (setSize n) (j .row .listeners)) (t .jobs)
     ++ (column (λ x. flagByte (x .opened)) (t .connections)
     ++ (column (λ x. flagByte (x .asleep)) (t .connections)
-    ++ column (λ x. flagByte (x .exceptions)) (t .connections)))))))))))))))
+    ++ column (λ x. flagByte (x .exceptions)) (t .connections))))))))))
 
 -- "every field with a meaning in the layout": the bytes are those of the table that they hold, so each table has one byte image
 unfoldable pub isImage : ℕ → Bytes → Bool

@@ -1,6 +1,6 @@
 -- The table rules of document 01, each a test that computes. A table that breaks one is refused by 1. Assumes nothing.
 use Prim.Native.Nat.{ℕ, zero, suc, _+_, _^_}
-use mathlib.Core.Bool.{Bool, true, false, not, cond, _&&_, _||_}
+use mathlib.Core.Bool.{Bool, true, not, cond, _&&_, _||_}
 use mathlib.Core.List.{List, [], _∷_}
 use lib.ListN.{length}
 use lib.Dec.{leb, ltb, eqb}
@@ -50,15 +50,21 @@ sizesWithin t = all (λ j. leb (together t j) 1022) (t .jobs)
 
 -- ---- "every field with a meaning in the layout"
 
--- a free row is zero throughout; a live one has a priority, a known function, and nobody or a connection as its holder
+-- the numbers of a free row, zero throughout
+abbrev pub numbersFree : JobRow → Bool
+numbersFree r =
+    eqb (r .function) 0 && (eqb (r .priority) 0 && (not (r .background) && (isEmpty (r .listeners) && (eqb (r .holder) 0 && eqb (r .size) 0))))
+
+-- the numbers of a live row, with m functions and n connections: a priority, a function's place, and nobody or a connection as its holder
+abbrev pub numbersInRange : ℕ → ℕ → JobRow → Bool
+numbersInRange m n r = leb (r .priority) 2 && (ltb (r .function) m && leb (r .holder) n)
+
+-- a free row is zero throughout and has empty texts; a live one has numbers with a meaning
 abbrev pub rowIsFree : Job → Bool
-rowIsFree j =
-    eqb (j .row .function) 0 && (eqb (j .row .priority) 0 && (not (j .row .background) && (isEmpty (j .row .listeners)
-    && (eqb (j .row .holder) 0 && (eqb (j .row .size) 0 && (same (j .unique) [] && (same (j .numerator) [] && same (j .denominator) [])))))))
+rowIsFree j = numbersFree (j .row) && (same (j .unique) [] && (same (j .numerator) [] && same (j .denominator) []))
 
 abbrev pub rowHasMeaning : Table → Job → Bool
-rowHasMeaning t j =
-    leb (j .row .priority) 2 && (ltb (j .row .function) (length (t .functions)) && leb (j .row .holder) (length (t .connections)))
+rowHasMeaning t j = numbersInRange (length (t .functions)) (length (t .connections)) (j .row)
 
 abbrev pub rowsHaveMeaning : Table → Bool
 rowsHaveMeaning t = all (λ j. cond (live (j .row)) (rowHasMeaning t j) (rowIsFree j)) (t .jobs)

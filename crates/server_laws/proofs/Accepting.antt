@@ -5,20 +5,21 @@ use mathlib.Core.Path.{_≡_, refl, ap, sym, _∙_}
 use mathlib.Core.Bool.{Bool, true, false, not}
 use mathlib.Core.Option.{none, some}
 use mathlib.Core.List.{[]}
-use borrow.Author.Tests.{le-leb, lt-ltb, not-true}
+use borrow.Author.Tests.{le-leb, not-true}
 use lib.ListN.{length, set, length-set}
-use lib.Dec.{leb, ltb, leb·zero, eqb·suc-zero}
+use lib.Dec.{leb, eqb·suc-zero}
 use Rattle.octets.specs.Bytes.{Bytes, same, every, zeroFree, within}
 use Rattle.octets.proofs.Strings.{and-left, and-right, and-both, same-refl}
 use Rattle.packet.specs.Layout.{function, unique}
 use Rattle.packet.specs.Arguments.{fits}
 use Rattle.server.specs.declared.JobRow.{JobRow}
 use Rattle.server.specs.Sizes.{uniqueSize}
-use Rattle.server.specs.Table.{Function, Job, Table, noFunction, noJob, functionAt, jobAt, setFunction, live, roomFor, joins, joined, freshRow, withName}
+use Rattle.server.specs.Table.{Function, Job, Table, noFunction, noJob, functionAt, jobAt, setFunction, live, roomFor, joins, joined, freshRow, withName, unstarted}
 use Rattle.server.specs.Events.{submittedBy, newJob, accepted}
-use Rattle.server.specs.Rules.{textWithin, together, isOpen, onlyOpen}
+use Rattle.server.specs.Rules.{textWithin, together, rowHasMeaning, isOpen, onlyOpen}
 use Rattle.lists.proofs.Searches.{found}
 use Rattle.lists.proofs.Rows.{clash, all-at, all-row}
+use Rattle.server.proofs.Rows.{range-fresh}
 use Rattle.server_laws.proofs.Requests.{Submitted}
 use Rattle.server_laws.proofs.Openness.{none-open, open-insert}
 use Rattle.server_laws.proofs.Sound.{Sound, rowMeans}
@@ -90,12 +91,14 @@ module _ (c : ℕ) (t : Table) (inside : c < length (t .connections)) (opened : 
   new-listeners true = none-open t
   new-listeners false = open-insert t 0 c inside opened (none-open t)
 
+  new-range : (b : Bool) → rowHasMeaning tableNamed (unstarted (submittedBy c b bare) u) ≡ true
+  new-range true = range-fresh (length (set (t .functions) q place)) (length (t .connections)) (suc (t .last)) q priority size (g .low) (rw (length-set (t .functions) q place) (space .inside))
+  new-range false = range-fresh (length (set (t .functions) q place)) (length (t .connections)) (suc (t .last)) q priority size (g .low) (rw (length-set (t .functions) q place) (space .inside))
+
   new-means : rowMeans tableNamed new ≡ true
   new-means =
       let l : live (new .row) ≡ true = rw (keeps .serial) (ap not (eqb·suc-zero (t .last))) in
-      rw l (and-both (leb (new .row .priority) 2) _ (rw (keeps .priority) (le-leb priority 2 (g .low)))
-      (and-both (ltb (new .row .function) (length (set (t .functions) q place))) _ (rw (keeps .function, length-set (t .functions) q place) (lt-ltb q (length (t .functions)) (space .inside)))
-      (rw (keeps .holder) (leb·zero (length (t .connections))))))
+      rw l (new-range background)
 
   is-new : New tableNamed new
   unfolding every

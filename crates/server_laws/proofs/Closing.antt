@@ -5,10 +5,10 @@ use mathlib.Core.Path.{_≡_, refl, ap, sym, _∙_, subst}
 use mathlib.Core.Logic.{_≢_}
 use mathlib.Core.Bool.{Bool, true, false, _&&_}
 use mathlib.Core.List.{[], _∷_, map}
+use native.Mathlib.Omega.{arith}
 use borrow.Author.Tests.{eq-eqb}
 use lib.ListN.{length, set, length-set}
 use lib.Seq.{getD-set-other}
-use lib.Dec.{leb·zero}
 use Rattle.octets.specs.Bytes.{same, every}
 use Rattle.octets.proofs.Strings.{and-left, and-right}
 use Rattle.sets.proofs.Laws.{zero-remove}
@@ -18,6 +18,7 @@ use Rattle.server.specs.Events.{closing, unable, deafTo, leftBy}
 use Rattle.server.specs.Rules.{isOpen, onlyOpen, holderOpen}
 use Rattle.lists.proofs.Cases.{cond-cases, cond-both, all2-map}
 use Rattle.lists.proofs.Rows.{clash, all-both, all-map, all-set}
+use Rattle.server.proofs.Rows.{range-holder}
 use Rattle.server_laws.proofs.Openness.{open-remove, open-without}
 use Rattle.server_laws.proofs.Sound.{Sound, rowMeans, free-none, sound-connections}
 use Rattle.server_laws.proofs.Jobs.{storedBoth, Still, Goes, on, sound-jobs}
@@ -36,8 +37,8 @@ module _ (t : Table) (c : ℕ) where
       go : (b : Bool) → live (j .row) ≡ b → rowMeans t (leftBy c j) ≡ true
       go true l =
           cond-both (λ (k : Job). rowMeans t k ≡ true) (heldBy c (j .row))
-          (live-means t j (withTexts (48 ∷ []) (48 ∷ []) (withRow (withHolder 0 (deafTo c (j .row))) j)) l refl refl refl (λ q. leb·zero (length (t .connections))) e)
-          (live-means t j (withRow (deafTo c (j .row)) j) l refl refl refl (λ q. q) e)
+          (live-means t j (withTexts (48 ∷ []) (48 ∷ []) (withRow (withHolder 0 (deafTo c (j .row))) j)) l refl (range-holder (length (t .functions)) (length (t .connections)) (j .row) 0 (omega arith)) e)
+          (live-means t j (withRow (deafTo c (j .row)) j) l refl (λ q. q) e)
       go false l =
           let n : j ≡ noJob = free-none j l (rw l at e) in
           subst (λ (k : Job). rowMeans t k ≡ true) (sym (ap (leftBy c) n ∙ left-none c)) refl

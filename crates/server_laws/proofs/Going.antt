@@ -5,9 +5,9 @@ use mathlib.Core.Path.{_≡_, refl, sym, _∙_}
 use mathlib.Core.Bool.{Bool, true, false, not, _&&_, _||_}
 use mathlib.Core.Option.{some}
 use mathlib.Core.List.{List, map}
-use borrow.Author.Tests.{le-leb, eqb-true, eqb-false, not-true}
+use borrow.Author.Tests.{eqb-true, eqb-false, not-true}
 use lib.ListN.{length, set, length-set, getD}
-use lib.Dec.{leb, ltb, eqb}
+use lib.Dec.{eqb}
 use Rattle.octets.specs.Bytes.{Bytes}
 use Rattle.octets.proofs.Strings.{and-left, and-right, and-both}
 use Rattle.packet.specs.Layout.{function, unique}
@@ -16,13 +16,14 @@ use Rattle.sets.specs.Sets.{insert}
 use Rattle.server.specs.declared.Connection.{Connection}
 use Rattle.server.specs.declared.JobRow.{JobRow}
 use Rattle.lists.specs.Lists.{find}
-use Rattle.server.specs.Table.{Function, Job, Table, noJob, connectionAt, jobAt, setConnection, setJob, withRow, withTexts, withListeners, inBackground, withHolder, rowsOf, ablesOf, noRow, live, queued, heldBy, grabbable, rank, greatest, bestRow, best, joins, joined}
+use Rattle.server.specs.Table.{Job, Table, noJob, connectionAt, jobAt, setConnection, setJob, withRow, withTexts, withListeners, inBackground, withHolder, rowsOf, ablesOf, noRow, live, queued, heldBy, grabbable, rank, greatest, bestRow, best, joins, joined}
 use Rattle.server.specs.Requests.{Work, tells, reports, ends, throws}
 use Rattle.server.specs.Events.{sleeping, submittedBy, holdsHandle, worked}
 use Rattle.server.specs.Rules.{storedNumber, rowHasMeaning, isOpen}
 use Rattle.lists.proofs.Cases.{all2-set}
 use Rattle.lists.proofs.Searches.{found}
 use Rattle.lists.proofs.Rows.{implies-by, all-imp, all-set}
+use Rattle.server.proofs.Rows.{range-holder}
 use Rattle.server_laws.proofs.Numbers.{row-at, rows-long}
 use Rattle.server_laws.proofs.Requests.{Told}
 use Rattle.server_laws.proofs.Openness.{open-insert, open-more, holder-more, still-open}
@@ -57,16 +58,12 @@ still-same t j = record { serial = refl; function = refl; size = refl; unique = 
 pub sound-job : (t : Table) (p : ℕ) (k : Job) → Goes t (jobAt t p) k → Sound t → Sound (setJob t p k)
 sound-job t p k g h = sound-jobs t (all2-set (Goes t) (λ j. on (still-same t j)) (t .jobs) p noJob k g) h
 
--- an unfinished job's row keeps its meaning with another holder, if that is one
-pub live-means : (t : Table) (j k : Job) → live (j .row) ≡ true → k .row .serial ≡ j .row .serial → k .row .priority ≡ j .row .priority → k .row .function ≡ j .row .function
-    → (leb (j .row .holder) (length (t .connections)) ≡ true → leb (k .row .holder) (length (t .connections)) ≡ true) → rowMeans t j ≡ true → rowMeans t k ≡ true
-live-means t j k l s p f h e =
+-- an unfinished job's row keeps a meaning that its numbers keep
+pub live-means : (t : Table) (j k : Job) → live (j .row) ≡ true → k .row .serial ≡ j .row .serial → (rowHasMeaning t j ≡ true → rowHasMeaning t k ≡ true) → rowMeans t j ≡ true → rowMeans t k ≡ true
+live-means t j k l s h e =
     let m : rowHasMeaning t j ≡ true = rw l at e in
-    let m′ = and-right (leb (j .row .priority) 2) _ m in
     let l′ : live (k .row) ≡ true = rw s l in
-    rw l′ (and-both (leb (k .row .priority) 2) _ (rw p (and-left (leb (j .row .priority) 2) _ m))
-    (and-both (ltb (k .row .function) (length (t .functions))) _ (rw f (and-left (ltb (j .row .function) (length (t .functions))) _ m′))
-    (h (and-right (ltb (j .row .function) (length (t .functions))) _ m′))))
+    rw l′ (h m)
 
 -- ---- what the searches found
 
@@ -110,7 +107,7 @@ module _ (t : Table) (c : ℕ) (inside : c < length (t .connections)) (opened : 
         size = refl;
         unique = refl;
         texts = λ e. e;
-        means = live-means t j (withRow (withHolder (suc c) (j .row)) j) l refl refl refl (λ e. le-leb (suc c) (length (t .connections)) inside);
+        means = live-means t j (withRow (withHolder (suc c) (j .row)) j) l refl (range-holder (length (t .functions)) (length (t .connections)) (j .row) (suc c) inside);
         listeners = λ e. e;
         holder = λ e. opened;
       }
@@ -123,7 +120,7 @@ module _ (t : Table) (c : ℕ) (inside : c < length (t .connections)) (opened : 
         size = refl;
         unique = refl;
         texts = λ e. e;
-        means = live-means t j (withRow (inBackground (j .row)) j) l refl refl refl (λ e. e);
+        means = live-means t j (withRow (inBackground (j .row)) j) l refl (λ e. e);
         listeners = λ e. e;
         holder = λ e. e;
       }
@@ -134,7 +131,7 @@ module _ (t : Table) (c : ℕ) (inside : c < length (t .connections)) (opened : 
         size = refl;
         unique = refl;
         texts = λ e. e;
-        means = live-means t j (withRow (withListeners (insert (j .row .listeners) c) (j .row)) j) l refl refl refl (λ e. e);
+        means = live-means t j (withRow (withListeners (insert (j .row .listeners) c) (j .row)) j) l refl (λ e. e);
         listeners = λ e. open-insert t (j .row .listeners) c inside opened e;
         holder = λ e. e;
       }
@@ -149,7 +146,7 @@ module _ (t : Table) (c : ℕ) (inside : c < length (t .connections)) (opened : 
         size = refl;
         unique = refl;
         texts = λ e. and-both (storedNumber n) (storedNumber d) (g .numerator) (g .denominator);
-        means = live-means t j (withTexts n d j) l refl refl refl (λ e. e);
+        means = live-means t j (withTexts n d j) l refl (λ e. e);
         listeners = λ e. e;
         holder = λ e. e;
       })

@@ -6,16 +6,15 @@ use mathlib.Core.Bool.{Bool, true, false, not, cond}
 use mathlib.Core.List.{List, [], _∷_}
 use native.Mathlib.Nat.{zero-add, le-of-suc-le-suc, not-suc-le-zero}
 use native.Mathlib.Omega.{arith}
-use borrow.Author.Tests.{ltb-true}
 use lib.ListN.{length, getD}
-use lib.Dec.{leb, ltb}
 use Rattle.octets.proofs.Strings.{and-left, and-right, and-both}
 use Rattle.sets.specs.Sets.{isEmpty}
 use Rattle.server.specs.declared.JobRow.{JobRow}
-use Rattle.server.specs.Table.{Function, Job, Table, noFunction, noJob, functionAt, jobAt, rowsOf, live, wanted}
+use Rattle.server.specs.Table.{Function, Table, noFunction, noJob, functionAt, jobAt, rowsOf, live, wanted}
 use Rattle.lists.specs.Lists.{implies}
 use Rattle.server.specs.Rules.{nextSmall, serialsBelow, serialsDistinct, namesWithin, textsWithin, sizesWithin, rowsHaveMeaning, rowHasMeaning, isKnown, functionsDistinct, asDefined, functionsAsDefined, abilitiesOpen, listenersOpen, holdersOpen, closedClear, queuedAwaited, uniquesDistinct, sleepersIdle, obeys}
 use Rattle.lists.proofs.Rows.{clash, implies-by, or-left, all-at, all-by}
+use Rattle.server.proofs.Rows.{in-range}
 use Rattle.server_laws.proofs.Sound.{Sound, jobNamed, jobsNamed, ablesNamed, rowMeans}
 use Rattle.server_laws.proofs.Settled.{placeDefined, job-wants}
 
@@ -56,8 +55,8 @@ jobs-named : (t : Table) → functionsAsDefined t ≡ true → rowsHaveMeaning t
 jobs-named t e r =
     all-by (jobNamed t) (t .jobs) noJob (λ i l. implies-by (live (jobAt t i .row)) _ (λ v.
     let m : rowHasMeaning t (jobAt t i) ≡ true = rw v at (all-at (rowMeans t) (t .jobs) i noJob r l) in
-    let n = and-left (ltb (jobAt t i .row .function) (length (t .functions))) _ (and-right (leb (jobAt t i .row .priority) 2) _ m) in
-    wanted-named t e (jobAt t i .row .function) (ltb-true _ _ n) (job-wants t i (functionAt t (jobAt t i .row .function)) l v)))
+    let n = in-range (length (t .functions)) (length (t .connections)) (jobAt t i .row) m .function in
+    wanted-named t e (jobAt t i .row .function) n (job-wants t i (functionAt t (jobAt t i .row .function)) l v)))
 
 ables-named : (t : Table) → functionsAsDefined t ≡ true → ablesNamed t ≡ true
 ables-named t e =

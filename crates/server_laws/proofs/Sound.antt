@@ -5,18 +5,19 @@ use mathlib.Core.Path.{_≡_, refl, sym, subst}
 use mathlib.Core.Bool.{Bool, true, false, not, cond}
 use mathlib.Core.List.{List, []}
 use native.Mathlib.Omega.{arith}
-use borrow.Author.Tests.{le-leb, leb-true, eqb-true, not-true, not-false}
+use borrow.Author.Tests.{le-leb, leb-true}
 use lib.ListN.{length}
-use lib.Dec.{leb, eqb}
+use lib.Dec.{leb}
 use Rattle.octets.specs.Bytes.{same, firstZero}
 use Rattle.octets.proofs.Strings.{and-left, and-right, same-is}
 use Rattle.sets.specs.Sets.{isEmpty}
 use Rattle.server.specs.declared.Connection.{Connection}
 use Rattle.lists.specs.Lists.{all, implies}
 use Rattle.server.specs.Sizes.{nameSize}
-use Rattle.server.specs.Table.{Function, Job, Table, noFunction, noJob, functionAt, jobAt, live, withConnections, withFunctions}
-use Rattle.server.specs.Rules.{nextSmall, serialsBelow, serialsDistinct, textWithin, namesWithin, textsWithin, together, sizesWithin, rowIsFree, rowHasMeaning, rowsHaveMeaning, isKnown, functionsDistinct, abilitiesOpen, listenersOpen, holdersOpen, closedClear, uniquesDistinct}
+use Rattle.server.specs.Table.{Function, Job, Table, noFunction, noRow, noJob, functionAt, jobAt, live, withConnections, withFunctions}
+use Rattle.server.specs.Rules.{nextSmall, serialsBelow, serialsDistinct, textWithin, namesWithin, textsWithin, together, sizesWithin, numbersFree, rowIsFree, rowHasMeaning, rowsHaveMeaning, isKnown, functionsDistinct, abilitiesOpen, listenersOpen, holdersOpen, closedClear, uniquesDistinct}
 use Rattle.lists.proofs.Rows.{implies-by, implies-use, all-at, all-row, all-by, all-imp}
+use Rattle.server.proofs.Rows.{free-row}
 use Rattle.server_laws.proofs.Openness.{holder-more}
 
 -- a live job's function has a name
@@ -76,33 +77,16 @@ sound-connections t cs long a l o c h =
 
 -- ---- functions anew
 
--- a row without a job is zero throughout
+-- a place without a job is empty
 pub free-none : (j : Job) → live (j .row) ≡ false → rowIsFree j ≡ true → j ≡ noJob
 free-none j l e =
-    let r = j .row in
-    let e2 = and-right (eqb (r .function) 0) _ e in
-    let e3 = and-right (eqb (r .priority) 0) _ e2 in
-    let e4 = and-right (not (r .background)) _ e3 in
-    let e5 = and-right (isEmpty (r .listeners)) _ e4 in
-    let e6 = and-right (eqb (r .holder) 0) _ e5 in
-    let e7 = and-right (eqb (r .size) 0) _ e6 in
-    let e8 = and-right (same (j .unique) []) _ e7 in
-    let a0 : r .serial ≡ 0 = eqb-true _ 0 (not-false _ l) in
-    let a1 : r .function ≡ 0 = eqb-true _ 0 (and-left (eqb (r .function) 0) _ e) in
-    let a2 : r .priority ≡ 0 = eqb-true _ 0 (and-left (eqb (r .priority) 0) _ e2) in
-    let a3 : r .background ≡ false = not-true _ (and-left (not (r .background)) _ e3) in
-    let a4 : r .listeners ≡ 0 = eqb-true _ 0 (and-left (isEmpty (r .listeners)) _ e4) in
-    let a5 : r .holder ≡ 0 = eqb-true _ 0 (and-left (eqb (r .holder) 0) _ e5) in
-    let a6 : r .size ≡ 0 = eqb-true _ 0 (and-left (eqb (r .size) 0) _ e6) in
-    let a7 : j .unique ≡ [] = same-is _ [] (and-left (same (j .unique) []) _ e7) in
-    let a8 : j .numerator ≡ [] = same-is _ [] (and-left (same (j .numerator) []) _ e8) in
-    let a9 : j .denominator ≡ [] = same-is _ [] (and-right (same (j .numerator) []) _ e8) in
-    λ i. record {
-      row = record { serial = a0 i; function = a1 i; priority = a2 i; background = a3 i; listeners = a4 i; holder = a5 i; size = a6 i };
-      unique = a7 i;
-      numerator = a8 i;
-      denominator = a9 i;
-    }
+    let texts = and-right (numbersFree (j .row)) _ e in
+    let numbers = and-right (same (j .unique) []) _ texts in
+    let r : j .row ≡ noRow = free-row (j .row) l (and-left (numbersFree (j .row)) _ e) in
+    let u : j .unique ≡ [] = same-is _ [] (and-left (same (j .unique) []) _ texts) in
+    let n : j .numerator ≡ [] = same-is _ [] (and-left (same (j .numerator) []) _ numbers) in
+    let d : j .denominator ≡ [] = same-is _ [] (and-right (same (j .numerator) []) _ numbers) in
+    λ i. record { row = r i; unique = u i; numerator = n i; denominator = d i }
 
 -- an empty row is within sizes in any table
 pub none-together : (t : Table) → namesWithin t ≡ true → leb (together t noJob) 1022 ≡ true

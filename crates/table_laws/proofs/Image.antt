@@ -4,7 +4,6 @@ use Prim.Native.Nat.{ℕ, zero, suc, _+_, _*_, _<_, _≤_}
 use mathlib.Core.Path.{_≡_, refl, sym, ap, _∙_}
 use mathlib.Core.Bool.{Bool, true, _&&_}
 use mathlib.Core.List.{[], _∷_, _++_, map}
-use native.Mathlib.Nat.{one-mul}
 use native.Mathlib.Omega.{arith}
 use lib.ListN.{length, getD, take, drop}
 use lib.Seq.{take-at}
@@ -16,12 +15,13 @@ use Rattle.server.specs.declared.Connection.{Connection}
 use Rattle.lists.specs.Lists.{numbers}
 use Rattle.server.specs.Sizes.{functionCount, jobCount, nameSize, uniqueSize, numberSize}
 use Rattle.server.specs.Table.{Table}
-use Rattle.server.specs.Layout.{little, littleAt, flagByte, column, bytesOf, tableOf, tableSize, isImage, connectionIn, functionIn, jobIn, setSize, ableAt, serialsAt, listenersAt, sizesAt, holdersAt, prioritiesAt, backgroundsAt, functionsAt, namesAt, uniquesAt, numeratorsAt, denominatorsAt, openedAt, asleepAt, exceptionsAt}
+use Rattle.server.specs.Layout.{little, littleAt, flagByte, column, bytesOf, tableOf, tableSize, isImage, connectionIn, functionIn, jobIn, setSize, ableAt, listenersAt, namesAt, uniquesAt, numeratorsAt, denominatorsAt, openedAt, asleepAt, exceptionsAt}
 use Rattle.table_laws.specs.Tests.{part, areFlags, imageTests}
-use Rattle.table_laws.proofs.Fields.{length-little, little-again, byte-is}
+use Rattle.table_laws.proofs.Fields.{length-little, little-again}
 use Rattle.table_laws.proofs.Columns.{length-places}
 use Rattle.table_laws.proofs.Laid.{length-bytes}
 use Rattle.table_laws.proofs.Round.{Fitting, table-put}
+use Rattle.table_laws.proofs.RowColumns.{rowsSize, next-rows}
 use Rattle.table_laws.proofs.Same.{Agrees, next-agrees, next-numbers, next-flags, next-texts, same-flags, flags-add}
 
 -- ---- an image laid over itself
@@ -69,30 +69,21 @@ module _ (n : ℕ) (b : Bytes) (small : (i : ℕ) → getD b i 0 < 256) (long : 
       (record { agrees = same-flags (λ (x : Connection). x .exceptions) g b (exceptionsAt n) n (omega arith) (λ i. refl) })) in
       record { agrees = c .agrees ∙ ap (λ (z : Bool). areFlags n b (openedAt n) && z) (flags-add n n b (asleepAt n)) ∙ flags-add n (n + n) b (openedAt n) ∙ rw k }
 
-  -- a number in one byte
-  one-byte : (at i : ℕ) → getD b (at + i) 0 ≡ littleAt 1 b (at + 1 * i)
-  one-byte at i = rw one-mul (sym (byte-is b (at + i)))
-
   pub image-tests : isImage n b ≡ imageTests n b
   unfolding isImage tableOf bytesOf imageTests
   image-tests =
-      let k : tableSize n ≡ 4 + (4 * jobCount + (2 * jobCount + (2 * jobCount + (1 * jobCount + (jobCount + (1 * jobCount + (nameSize * functionCount + (uniqueSize * jobCount
-      + (numberSize * jobCount + (numberSize * jobCount + (setSize n * functionCount + (setSize n * jobCount + (n + (n + n)))))))))))))) = omega arith in
+      let k : tableSize n ≡ 4 + (rowsSize + (nameSize * functionCount + (uniqueSize * jobCount
+      + (numberSize * jobCount + (numberSize * jobCount + (setSize n * functionCount + (setSize n * jobCount + (n + (n + n))))))))) = omega arith in
       let z : same (part 4 b 0) (little 4 (littleAt 4 b 0)) ≡ true = rw (little-again 4 b 0 small (omega arith)) (same-refl (part 4 b 0)) in
       let f = functionIn n b in
       let j = jobIn n b in
       rw (k, length-places (connectionIn n b) 0 n)
       ((next-agrees 4 b 0 (little 4 (littleAt 4 b 0)) (omega arith) (length-little 4 (littleAt 4 b 0)) z
-      (next-numbers b j 4 jobCount (λ x. x .row .serial) serialsAt small (omega arith) (λ i. refl)
-      (next-numbers b j 2 jobCount (λ x. x .row .size) sizesAt small (omega arith) (λ i. refl)
-      (next-numbers b j 2 jobCount (λ x. x .row .holder) holdersAt small (omega arith) (λ i. refl)
-      (next-numbers b j 1 jobCount (λ x. x .row .priority) prioritiesAt small (omega arith) (one-byte prioritiesAt)
-      (next-flags b j jobCount (λ x. x .row .background) backgroundsAt (omega arith) (λ i. refl)
-      (next-numbers b j 1 jobCount (λ x. x .row .function) functionsAt small (omega arith) (one-byte functionsAt)
+      (next-rows n b small long
       (next-texts b f nameSize functionCount (λ x. x .name) namesAt (omega arith) (λ i. refl)
       (next-texts b j uniqueSize jobCount (λ x. x .unique) uniquesAt (omega arith) (λ i. refl)
       (next-texts b j numberSize jobCount (λ x. x .numerator) numeratorsAt (omega arith) (λ i. refl)
       (next-texts b j numberSize jobCount (λ x. x .denominator) denominatorsAt (omega arith) (λ i. refl)
       (next-numbers b f (setSize n) functionCount (λ x. x .able) ableAt small (omega arith) (λ i. refl)
       (next-numbers b j (setSize n) jobCount (λ x. x .row .listeners) (listenersAt n) small (omega arith) (λ i. refl)
-      connection-flags))))))))))))) .agrees)
+      connection-flags)))))))) .agrees)

@@ -1,9 +1,10 @@
 pub mod Fields
 pub mod Columns
+pub mod ColumnPuts
+pub mod Same
+pub mod RowColumns
 pub mod Laid
 pub mod Round
 pub mod Obeying
-pub mod Same
 pub mod Image
-pub mod ColumnPuts
 pub mod Puts

@@ -1,23 +1,23 @@
 -- A table of at most 256 connections that obeys the table rules fits its places. Assumes nothing.
 use Prim.Native.Nat.{ℕ, zero, suc, _*_, _^_, _<_, _≤_}
-use mathlib.Core.Path.{_≡_, refl, sym, ap, _∙_}
-use mathlib.Core.Bool.{Bool, true, false, not, cond, _&&_}
+use mathlib.Core.Path.{_≡_, refl, sym, ap, _∙_, subst}
+use mathlib.Core.Bool.{Bool, true, false, cond, _&&_}
 use mathlib.Core.List.{List, [], _∷_}
 use native.Mathlib.Nat.{mul-zero, mul-suc, pow-zero, pow-suc, not-suc-le-zero, le-of-suc-le-suc}
 use native.Mathlib.Omega.{arith}
-use borrow.Author.Tests.{leb-true, ltb-true, eqb-true, ne-eqb, eq-eqb}
+use borrow.Author.Tests.{leb-true, ltb-true, ne-eqb, eq-eqb}
 use lib.ListN.{length, getD}
 use lib.Dec.{leb, ltb, eqb}
 use lib.Pow.{pow-mono, pow-add}
 use Rattle.octets.specs.Bytes.{Bytes, same, firstZero, zeroFree, within, every}
 use Rattle.octets.proofs.Strings.{and-left, and-right, same-is}
 use Rattle.packet.specs.Arguments.{digits}
-use Rattle.sets.specs.Sets.{isEmpty}
 use Rattle.lists.specs.Lists.{all, implies}
 use Rattle.server.specs.Sizes.{functionCount, jobCount, nameSize, uniqueSize}
 use Rattle.server.specs.Table.{Job, Table, noFunction, noJob, functionAt, jobAt, live}
 use Rattle.server.specs.Layout.{setSize}
-use Rattle.server.specs.Rules.{nextSmall, serialsBelow, serialsDistinct, textWithin, storedNumber, namesWithin, textsWithin, together, sizesWithin, rowIsFree, rowHasMeaning, rowsHaveMeaning, functionsDistinct, functionsAsDefined, onlyOpen, abilitiesOpen, listenersOpen, obeys}
+use Rattle.server.specs.Rules.{nextSmall, serialsBelow, serialsDistinct, textWithin, storedNumber, namesWithin, textsWithin, together, sizesWithin, numbersFree, rowIsFree, rowHasMeaning, rowsHaveMeaning, functionsDistinct, functionsAsDefined, onlyOpen, abilitiesOpen, listenersOpen, obeys}
+use Rattle.server.proofs.Rows.{RangeFits, free-fits, free-row, range-fits}
 use Rattle.table_laws.proofs.Round.{TextFits, Fitting}
 
 -- the row at a place passes the test that all rows pass
@@ -68,53 +68,33 @@ set-fits t s e =
 
 -- ---- rows
 
--- the numbers and texts of a row, live or free
-record RowFits (j : Job) : Type 0 where
-  pub holder : j .row .holder < 65536
-  pub priority : j .row .priority < 256
-  pub function : j .row .function < 256
+-- the texts of a job, live or free, and those of its numbers that its row's own rule bounds
+record PlaceFits (j : Job) : Type 0 where
+  pub range : RangeFits (j .row)
   pub unique : TextFits 64 (j .unique)
   pub numerator : TextFits 10 (j .numerator)
   pub denominator : TextFits 10 (j .denominator)
 
 module _ (t : Table) (fs : length (t .functions) ≡ functionCount) (cs : length (t .connections) ≤ 256) where
-  row-fits : (j : Job) (b : Bool) → live (j .row) ≡ b
+  place-fits : (j : Job) (b : Bool) → live (j .row) ≡ b
       → implies b (textWithin uniqueSize (j .unique) && (storedNumber (j .numerator) && storedNumber (j .denominator))) ≡ true
-      → cond b (rowHasMeaning t j) (rowIsFree j) ≡ true → RowFits j
-  row-fits j true l x m =
-      let r = j .row in
+      → cond b (rowHasMeaning t j) (rowIsFree j) ≡ true → PlaceFits j
+  place-fits j true l x m =
       let x2 = and-right (textWithin uniqueSize (j .unique)) _ x in
-      let m2 = and-right (leb (r .priority) 2) _ m in
-      let p : r .priority ≤ 2 = leb-true _ _ (and-left (leb (r .priority) 2) _ m) in
-      let f : r .function < length (t .functions) = ltb-true _ _ (and-left (ltb (r .function) (length (t .functions))) _ m2) in
-      let h : r .holder ≤ length (t .connections) = leb-true _ _ (and-right (ltb (r .function) (length (t .functions))) _ m2) in
       record {
-        holder = omega arith;
-        priority = omega arith;
-        function = omega arith;
+        range = range-fits (length (t .functions)) (length (t .connections)) (omega arith) cs (j .row) m;
         unique = text-fits 64 (j .unique) (and-left (textWithin uniqueSize (j .unique)) _ x);
         numerator = number-fits (j .numerator) (and-left (storedNumber (j .numerator)) (storedNumber (j .denominator)) x2);
         denominator = number-fits (j .denominator) (and-right (storedNumber (j .numerator)) (storedNumber (j .denominator)) x2);
       }
-  row-fits j false l x m =
-      let r = j .row in
-      let e2 = and-right (eqb (r .function) 0) _ m in
-      let e3 = and-right (eqb (r .priority) 0) _ e2 in
-      let e4 = and-right (not (r .background)) _ e3 in
-      let e5 = and-right (isEmpty (r .listeners)) _ e4 in
-      let e6 = and-right (eqb (r .holder) 0) _ e5 in
-      let e7 = and-right (eqb (r .size) 0) _ e6 in
-      let e8 = and-right (same (j .unique) []) _ e7 in
-      let f : r .function ≡ 0 = eqb-true _ 0 (and-left (eqb (r .function) 0) _ m) in
-      let p : r .priority ≡ 0 = eqb-true _ 0 (and-left (eqb (r .priority) 0) _ e2) in
-      let h : r .holder ≡ 0 = eqb-true _ 0 (and-left (eqb (r .holder) 0) _ e5) in
+  place-fits j false l x m =
+      let texts = and-right (numbersFree (j .row)) _ m in
+      let numbers = and-right (same (j .unique) []) _ texts in
       record {
-        holder = omega arith;
-        priority = omega arith;
-        function = omega arith;
-        unique = none-fits 64 (j .unique) (and-left (same (j .unique) []) _ e7);
-        numerator = none-fits 10 (j .numerator) (and-left (same (j .numerator) []) (same (j .denominator) []) e8);
-        denominator = none-fits 10 (j .denominator) (and-right (same (j .numerator) []) (same (j .denominator) []) e8);
+        range = subst RangeFits (sym (free-row (j .row) l (and-left (numbersFree (j .row)) _ m))) free-fits;
+        unique = none-fits 64 (j .unique) (and-left (same (j .unique) []) _ texts);
+        numerator = none-fits 10 (j .numerator) (and-left (same (j .numerator) []) (same (j .denominator) []) numbers);
+        denominator = none-fits 10 (j .denominator) (and-right (same (j .numerator) []) (same (j .denominator) []) numbers);
       }
 
 -- ---- the table
@@ -153,18 +133,19 @@ obeys-fitting t fs js cs e =
       jobs = λ p h.
           let i : p < length (t .jobs) = rw js h in
           let j = jobAt t p in
-          let r = row-fits t fs cs j (live (j .row)) refl
+          let r = place-fits t fs cs j (live (j .row)) refl
           (all-at (λ j. implies (live (j .row)) (textWithin uniqueSize (j .unique) && (storedNumber (j .numerator) && storedNumber (j .denominator)))) (t .jobs) p noJob texts i)
           (all-at (λ j. cond (live (j .row)) (rowHasMeaning t j) (rowIsFree j)) (t .jobs) p noJob rows i) in
           let s : j .row .serial ≤ t .last = leb-true _ _ (all-at (λ j. leb (j .row .serial) (t .last)) (t .jobs) p noJob below i) in
           let z : together t j ≤ 1022 = leb-true _ _ (all-at (λ j. leb (together t j) 1022) (t .jobs) p noJob sizes i) in
           record {
-            serial = omega arith;
-            listeners = set-fits t (j .row .listeners) (all-at (λ j. onlyOpen t (j .row .listeners)) (t .jobs) p noJob hearers i);
-            size = omega arith;
-            holder = r .holder;
-            priority = r .priority;
-            function = r .function;
+            row =
+                record {
+                  serial = omega arith;
+                  listeners = set-fits t (j .row .listeners) (all-at (λ j. onlyOpen t (j .row .listeners)) (t .jobs) p noJob hearers i);
+                  size = omega arith;
+                  range = r .range;
+                };
             unique = r .unique;
             numerator = r .numerator;
             denominator = r .denominator;

@@ -13,10 +13,12 @@ use Rattle.server.specs.declared.JobRow.{JobRow}
 use Rattle.lists.specs.Lists.{fit}
 use Rattle.server.specs.Sizes.{functionCount, jobCount, nameSize, uniqueSize, numberSize}
 use Rattle.server.specs.Table.{Function, Job, Table, closed, noJob, noFunction, connectionAt, jobAt, functionAt, setConnection, setFunction, setJob, withRow, withTexts, withLastSerial, withAsleep, withName, withAble}
-use Rattle.server.specs.Layout.{little, flagByte, column, bytesOf, setSize, ableAt, serialsAt, listenersAt, sizesAt, holdersAt, prioritiesAt, backgroundsAt, functionsAt, namesAt, uniquesAt, numeratorsAt, denominatorsAt, openedAt, asleepAt, exceptionsAt}
+use Rattle.server.specs.Layout.{little, flagByte, column, rowBytes, bytesOf, setSize, ableAt, listenersAt, namesAt, uniquesAt, numeratorsAt, denominatorsAt, openedAt, asleepAt, exceptionsAt}
 use Rattle.lists.proofs.Lists.{length-fit}
 use Rattle.table_laws.proofs.Fields.{length-little}
 use Rattle.table_laws.proofs.Columns.{numbers-long, flags-long, texts-long}
+use Rattle.table_laws.specs.Rows.{rowLaid}
+use Rattle.table_laws.proofs.RowColumns.{rowsSize, rows-long, rows-same, next-row}
 use Rattle.table_laws.proofs.ColumnPuts.{column-same, laid, Over, next, next1, put-middle}
 
 -- a table of the product's size
@@ -30,12 +32,7 @@ pub record Sized (t : Table) : Type 0 where
 abbrev pub segmentsOf : ℕ → ℕ → List Job → List Job → List Job → List Function → List Function → List Connection → List Bytes
 segmentsOf n last js us ns fs xs cs =
     little 4 last
-    ∷ column (λ j. little 4 (j .row .serial)) js
-    ∷ column (λ j. little 2 (j .row .size)) js
-    ∷ column (λ j. little 2 (j .row .holder)) js
-    ∷ column (λ j. little 1 (j .row .priority)) js
-    ∷ column (λ j. flagByte (j .row .background)) js
-    ∷ column (λ j. little 1 (j .row .function)) js
+    ∷ rowBytes js
     ∷ column (λ x. fit nameSize (x .name)) fs
     ∷ column (λ j. fit uniqueSize (j .unique)) us
     ∷ column (λ j. fit numberSize (j .numerator)) ns
@@ -52,7 +49,7 @@ segments t = segmentsOf (length (t .connections)) (t .last) (t .jobs) (t .jobs) 
 
 abbrev pub widthsFor : ℕ → List ℕ
 widthsFor n =
-    4 ∷ 4 * jobCount ∷ 2 * jobCount ∷ 2 * jobCount ∷ 1 * jobCount ∷ jobCount ∷ 1 * jobCount ∷ nameSize * functionCount ∷ uniqueSize * jobCount
+    4 ∷ rowsSize ∷ nameSize * functionCount ∷ uniqueSize * jobCount
     ∷ numberSize * jobCount ∷ numberSize * jobCount ∷ setSize n * functionCount ∷ setSize n * jobCount ∷ n ∷ n ∷ n ∷ []
 
 pub bytes-laid : (t : Table) → bytesOf t ≡ laid (segments t)
@@ -67,12 +64,7 @@ module _ (t : Table) (z : Sized t) where
   widths =
       rw (
         length-little 4 (t .last),
-        numbers-long 4 (λ j. j .row .serial) (t .jobs) jobCount (z .jobs),
-        numbers-long 2 (λ j. j .row .size) (t .jobs) jobCount (z .jobs),
-        numbers-long 2 (λ j. j .row .holder) (t .jobs) jobCount (z .jobs),
-        numbers-long 1 (λ j. j .row .priority) (t .jobs) jobCount (z .jobs),
-        flags-long (λ j. j .row .background) (t .jobs) jobCount (z .jobs),
-        numbers-long 1 (λ j. j .row .function) (t .jobs) jobCount (z .jobs),
+        rows-long (t .jobs) (z .jobs),
         texts-long nameSize (λ x. x .name) (t .functions) functionCount (z .functions),
         texts-long uniqueSize (λ j. j .unique) (t .jobs) jobCount (z .jobs),
         texts-long numberSize (λ j. j .numerator) (t .jobs) jobCount (z .jobs),
@@ -96,11 +88,9 @@ module _ (t : Table) (z : Sized t) where
     inside : p < length (t .jobs)
     inside = rw (z .jobs) h
 
-    -- the seven numbers of a row
+    -- the numbers of a row
     abbrev pub rowPuts : JobRow → Bytes → Bytes
-    rowPuts r x =
-        put (functionsAt + p) (little 1 (r .function)) (put (backgroundsAt + p) (flagByte (r .background)) (put (prioritiesAt + p) (little 1 (r .priority))
-        (put (holdersAt + 2 * p) (little 2 (r .holder)) (put (sizesAt + 2 * p) (little 2 (r .size)) (put (listenersAt n + setSize n * p) (little (setSize n) (r .listeners)) (put (serialsAt + 4 * p) (little 4 (r .serial)) x))))))
+    rowPuts r x = rowLaid p r (put (listenersAt n + setSize n * p) (little (setSize n) (r .listeners)) x)
 
     -- the three texts
     abbrev pub textPuts : Job → Bytes → Bytes
@@ -108,21 +98,15 @@ module _ (t : Table) (z : Sized t) where
 
     row-over : (j : Job) → Over b (widthsFor n) (rowPuts (j .row) (put 0 (bytesOf t) b)) (segmentsOf n (t .last) (set (t .jobs) p j) (t .jobs) (t .jobs) (t .functions) (t .functions) (t .connections))
     row-over j =
-        let o0 = start b in
-        let o1 = next o0 (λ (j : Job). little 4 (j .row .serial)) 4 (λ j. length-little 4 (j .row .serial)) 1 serialsAt (t .jobs) p j refl (omega arith) refl inside in
-        let o2 = next o1 (λ (j : Job). little (setSize n) (j .row .listeners)) (setSize n) (λ j. length-little (setSize n) (j .row .listeners)) 12 (listenersAt n) (t .jobs) p j refl (omega arith) (omega arith) inside in
-        let o3 = next o2 (λ (j : Job). little 2 (j .row .size)) 2 (λ j. length-little 2 (j .row .size)) 2 sizesAt (t .jobs) p j refl (omega arith) refl inside in
-        let o4 = next o3 (λ (j : Job). little 2 (j .row .holder)) 2 (λ j. length-little 2 (j .row .holder)) 3 holdersAt (t .jobs) p j refl (omega arith) refl inside in
-        let o5 = next1 o4 (λ (j : Job). little 1 (j .row .priority)) (λ j. length-little 1 (j .row .priority)) 4 prioritiesAt (t .jobs) p j refl (omega arith) refl inside in
-        let o6 = next1 o5 (λ (j : Job). flagByte (j .row .background)) (λ j. refl) 5 backgroundsAt (t .jobs) p j refl (omega arith) refl inside in
-        next1 o6 (λ (j : Job). little 1 (j .row .function)) (λ j. length-little 1 (j .row .function)) 6 functionsAt (t .jobs) p j refl (omega arith) refl inside
+        let o1 = next (start b) (λ (j : Job). little (setSize n) (j .row .listeners)) (setSize n) (λ j. length-little (setSize n) (j .row .listeners)) 7 (listenersAt n) (t .jobs) p j refl (omega arith) (omega arith) inside in
+        next-row (t .jobs) (z .jobs) p h j (length-little 4 (t .last)) o1
 
     pub put-job : (j : Job) → textPuts j (rowPuts (j .row) (put 0 (bytesOf t) b)) ≡ put 0 (bytesOf (setJob t p j)) b
     put-job j =
         let o0 = row-over j in
-        let o1 = next o0 (λ (j : Job). fit uniqueSize (j .unique)) uniqueSize (λ j. length-fit uniqueSize (j .unique)) 8 uniquesAt (t .jobs) p j refl (omega arith) refl inside in
-        let o2 = next o1 (λ (j : Job). fit numberSize (j .numerator)) numberSize (λ j. length-fit numberSize (j .numerator)) 9 numeratorsAt (t .jobs) p j refl (omega arith) refl inside in
-        finish b _ (setJob t p j) (next o2 (λ (j : Job). fit numberSize (j .denominator)) numberSize (λ j. length-fit numberSize (j .denominator)) 10 denominatorsAt (t .jobs) p j refl (omega arith) refl inside)
+        let o1 = next o0 (λ (j : Job). fit uniqueSize (j .unique)) uniqueSize (λ j. length-fit uniqueSize (j .unique)) 3 uniquesAt (t .jobs) p j refl (omega arith) refl inside in
+        let o2 = next o1 (λ (j : Job). fit numberSize (j .numerator)) numberSize (λ j. length-fit numberSize (j .numerator)) 4 numeratorsAt (t .jobs) p j refl (omega arith) refl inside in
+        finish b _ (setJob t p j) (next o2 (λ (j : Job). fit numberSize (j .denominator)) numberSize (λ j. length-fit numberSize (j .denominator)) 5 denominatorsAt (t .jobs) p j refl (omega arith) refl inside)
 
     -- a job that keeps its texts
     pub put-row : (r : JobRow) → rowPuts r (put 0 (bytesOf t) b) ≡ put 0 (bytesOf (setJob t p (withRow r (jobAt t p)))) b
@@ -143,29 +127,24 @@ module _ (t : Table) (z : Sized t) where
     texts-over j e us u =
         sym (bytes-laid (setJob t p j)
         ∙ rw (
-          column-same (λ (j : Job). little 4 (j .row .serial)) (t .jobs) p j noJob (ap (λ (r : JobRow). little 4 (r .serial)) e),
+          rows-same (t .jobs) p j e,
           column-same (λ (j : Job). little (setSize n) (j .row .listeners)) (t .jobs) p j noJob (ap (λ (r : JobRow). little (setSize n) (r .listeners)) e),
-          column-same (λ (j : Job). little 2 (j .row .size)) (t .jobs) p j noJob (ap (λ (r : JobRow). little 2 (r .size)) e),
-          column-same (λ (j : Job). little 2 (j .row .holder)) (t .jobs) p j noJob (ap (λ (r : JobRow). little 2 (r .holder)) e),
-          column-same (λ (j : Job). little 1 (j .row .priority)) (t .jobs) p j noJob (ap (λ (r : JobRow). little 1 (r .priority)) e),
-          column-same (λ (j : Job). flagByte (j .row .background)) (t .jobs) p j noJob (ap (λ (r : JobRow). flagByte (r .background)) e),
-          column-same (λ (j : Job). little 1 (j .row .function)) (t .jobs) p j noJob (ap (λ (r : JobRow). little 1 (r .function)) e),
           u,
         ))
 
     pub put-texts : (j : Job) → j .row ≡ jobAt t p .row → textPuts j (put 0 (bytesOf t) b) ≡ put 0 (bytesOf (setJob t p j)) b
     put-texts j e =
-        let o1 = next (start b) (λ (j : Job). fit uniqueSize (j .unique)) uniqueSize (λ j. length-fit uniqueSize (j .unique)) 8 uniquesAt (t .jobs) p j refl (omega arith) refl inside in
-        let o2 = next o1 (λ (j : Job). fit numberSize (j .numerator)) numberSize (λ j. length-fit numberSize (j .numerator)) 9 numeratorsAt (t .jobs) p j refl (omega arith) refl inside in
-        let o3 = next o2 (λ (j : Job). fit numberSize (j .denominator)) numberSize (λ j. length-fit numberSize (j .denominator)) 10 denominatorsAt (t .jobs) p j refl (omega arith) refl inside in
+        let o1 = next (start b) (λ (j : Job). fit uniqueSize (j .unique)) uniqueSize (λ j. length-fit uniqueSize (j .unique)) 3 uniquesAt (t .jobs) p j refl (omega arith) refl inside in
+        let o2 = next o1 (λ (j : Job). fit numberSize (j .numerator)) numberSize (λ j. length-fit numberSize (j .numerator)) 4 numeratorsAt (t .jobs) p j refl (omega arith) refl inside in
+        let o3 = next o2 (λ (j : Job). fit numberSize (j .denominator)) numberSize (λ j. length-fit numberSize (j .denominator)) 5 denominatorsAt (t .jobs) p j refl (omega arith) refl inside in
         o3 .is ∙ ap (λ (s : Bytes). put 0 s b) (texts-over j e (set (t .jobs) p j) refl)
 
     -- a job that keeps its unique too
     pub put-numbers : (n d : Bytes) → put (denominatorsAt + numberSize * p) (fit numberSize d) (put (numeratorsAt + numberSize * p) (fit numberSize n) (put 0 (bytesOf t) b)) ≡ put 0 (bytesOf (setJob t p (withTexts n d (jobAt t p)))) b
     put-numbers n d =
         let j : Job = withTexts n d (jobAt t p) in
-        let o1 = next (start b) (λ (j : Job). fit numberSize (j .numerator)) numberSize (λ j. length-fit numberSize (j .numerator)) 9 numeratorsAt (t .jobs) p j refl (omega arith) refl inside in
-        let o2 = next o1 (λ (j : Job). fit numberSize (j .denominator)) numberSize (λ j. length-fit numberSize (j .denominator)) 10 denominatorsAt (t .jobs) p j refl (omega arith) refl inside in
+        let o1 = next (start b) (λ (j : Job). fit numberSize (j .numerator)) numberSize (λ j. length-fit numberSize (j .numerator)) 4 numeratorsAt (t .jobs) p j refl (omega arith) refl inside in
+        let o2 = next o1 (λ (j : Job). fit numberSize (j .denominator)) numberSize (λ j. length-fit numberSize (j .denominator)) 5 denominatorsAt (t .jobs) p j refl (omega arith) refl inside in
         o2 .is ∙ ap (λ (s : Bytes). put 0 s b) (texts-over j refl (t .jobs) (sym (column-same (λ (j : Job). fit uniqueSize (j .unique)) (t .jobs) p j noJob refl)))
 
   -- ---- one function
@@ -176,14 +155,14 @@ module _ (t : Table) (z : Sized t) where
 
     pub put-function : (x : Function) → put (namesAt + nameSize * q) (fit nameSize (x .name)) (put (ableAt + setSize n * q) (little (setSize n) (x .able)) (put 0 (bytesOf t) b)) ≡ put 0 (bytesOf (setFunction t q x)) b
     put-function x =
-        let o1 = next (start b) (λ (x : Function). little (setSize n) (x .able)) (setSize n) (λ x. length-little (setSize n) (x .able)) 11 ableAt (t .functions) q x refl (omega arith) refl inside-functions in
-        finish b _ (setFunction t q x) (next o1 (λ (x : Function). fit nameSize (x .name)) nameSize (λ x. length-fit nameSize (x .name)) 7 namesAt (t .functions) q x refl (omega arith) refl inside-functions)
+        let o1 = next (start b) (λ (x : Function). little (setSize n) (x .able)) (setSize n) (λ x. length-little (setSize n) (x .able)) 6 ableAt (t .functions) q x refl (omega arith) refl inside-functions in
+        finish b _ (setFunction t q x) (next o1 (λ (x : Function). fit nameSize (x .name)) nameSize (λ x. length-fit nameSize (x .name)) 2 namesAt (t .functions) q x refl (omega arith) refl inside-functions)
 
     -- a function that keeps its set
     pub put-name : (a : Bytes) → put (namesAt + nameSize * q) (fit nameSize a) (put 0 (bytesOf t) b) ≡ put 0 (bytesOf (setFunction t q (withName a (functionAt t q)))) b
     put-name a =
         let x : Function = withName a (functionAt t q) in
-        let o1 = next (start b) (λ (x : Function). fit nameSize (x .name)) nameSize (λ x. length-fit nameSize (x .name)) 7 namesAt (t .functions) q x refl (omega arith) refl inside-functions in
+        let o1 = next (start b) (λ (x : Function). fit nameSize (x .name)) nameSize (λ x. length-fit nameSize (x .name)) 2 namesAt (t .functions) q x refl (omega arith) refl inside-functions in
         o1 .is
         ∙ ap (λ (s : Bytes). put 0 s b) (sym (bytes-laid (setFunction t q x) ∙ rw (column-same (λ (x : Function). little (setSize n) (x .able)) (t .functions) q x noFunction refl)))
 
@@ -191,7 +170,7 @@ module _ (t : Table) (z : Sized t) where
     pub put-able : (s : ℕ) → put (ableAt + setSize n * q) (little (setSize n) s) (put 0 (bytesOf t) b) ≡ put 0 (bytesOf (setFunction t q (withAble s (functionAt t q)))) b
     put-able s =
         let x : Function = withAble s (functionAt t q) in
-        let o1 = next (start b) (λ (x : Function). little (setSize n) (x .able)) (setSize n) (λ x. length-little (setSize n) (x .able)) 11 ableAt (t .functions) q x refl (omega arith) refl inside-functions in
+        let o1 = next (start b) (λ (x : Function). little (setSize n) (x .able)) (setSize n) (λ x. length-little (setSize n) (x .able)) 6 ableAt (t .functions) q x refl (omega arith) refl inside-functions in
         o1 .is
         ∙ ap (λ (s : Bytes). put 0 s b) (sym (bytes-laid (setFunction t q x) ∙ rw (column-same (λ (x : Function). fit nameSize (x .name)) (t .functions) q x noFunction refl)))
 
@@ -208,16 +187,16 @@ module _ (t : Table) (z : Sized t) where
         → put (exceptionsAt n + c) (flagByte (x .exceptions)) (put (asleepAt n + c) (flagByte (x .asleep)) (put (openedAt n + c) (flagByte (x .opened)) (put 0 (bytesOf t) b)))
         ≡ put 0 (bytesOf (setConnection t c x)) b
     put-connection x =
-        let o1 = next1 (start b) (λ (x : Connection). flagByte (x .opened)) (λ x. refl) 13 (openedAt n) (t .connections) c x refl (omega arith) (omega arith) h in
-        let o2 = next1 o1 (λ (x : Connection). flagByte (x .asleep)) (λ x. refl) 14 (asleepAt n) (t .connections) c x refl (omega arith) (omega arith) h in
-        let o3 = next1 o2 (λ (x : Connection). flagByte (x .exceptions)) (λ x. refl) 15 (exceptionsAt n) (t .connections) c x refl (omega arith) (omega arith) h in
+        let o1 = next1 (start b) (λ (x : Connection). flagByte (x .opened)) (λ x. refl) 8 (openedAt n) (t .connections) c x refl (omega arith) (omega arith) h in
+        let o2 = next1 o1 (λ (x : Connection). flagByte (x .asleep)) (λ x. refl) 9 (asleepAt n) (t .connections) c x refl (omega arith) (omega arith) h in
+        let o3 = next1 o2 (λ (x : Connection). flagByte (x .exceptions)) (λ x. refl) 10 (exceptionsAt n) (t .connections) c x refl (omega arith) (omega arith) h in
         o3 .is ∙ ap (λ (s : Bytes). put 0 s b) (as-many x)
 
     -- a connection that keeps its other flags
     pub put-asleep : (a : Bool) → put (asleepAt n + c) (flagByte a) (put 0 (bytesOf t) b) ≡ put 0 (bytesOf (setConnection t c (withAsleep a (connectionAt t c)))) b
     put-asleep a =
         let x : Connection = withAsleep a (connectionAt t c) in
-        let o1 = next1 (start b) (λ (x : Connection). flagByte (x .asleep)) (λ x. refl) 14 (asleepAt n) (t .connections) c x refl (omega arith) (omega arith) h in
+        let o1 = next1 (start b) (λ (x : Connection). flagByte (x .asleep)) (λ x. refl) 9 (asleepAt n) (t .connections) c x refl (omega arith) (omega arith) h in
         o1 .is
         ∙ ap (λ (s : Bytes). put 0 s b)
         (sym (sym (as-many x)

@@ -15,7 +15,8 @@ use Rattle.server.specs.Sizes.{functionCount, jobCount}
 use Rattle.server.specs.Table.{Function, Job, Table, closed, noFunction, noJob, connectionAt, functionAt, jobAt}
 use Rattle.server.specs.Layout.{bytesOf, tableOf, tableSize, setSize, connectionIn, functionIn, rowIn, jobIn}
 use Rattle.table_laws.proofs.Fields.{little-lies}
-use Rattle.table_laws.proofs.Columns.{places-are, number-at, byte-at, flag-at, text-at}
+use Rattle.table_laws.proofs.Columns.{places-are, number-at, flag-at, text-at}
+use Rattle.table_laws.proofs.RowColumns.{RowFits, rows-laid, row-back}
 use Rattle.table_laws.proofs.Laid.{Laid, laid, length-bytes}
 
 -- ---- what fits
@@ -30,12 +31,7 @@ pub record FunctionFits (n : ℕ) (x : Function) : Type 0 where
   pub name : TextFits 32 (x .name)
 
 pub record JobFits (n : ℕ) (j : Job) : Type 0 where
-  pub serial : j .row .serial < 2 ^ 32
-  pub listeners : j .row .listeners < 256 ^ setSize n
-  pub size : j .row .size < 65536
-  pub holder : j .row .holder < 65536
-  pub priority : j .row .priority < 256
-  pub function : j .row .function < 256
+  pub row : RowFits n (j .row)
   pub unique : TextFits 64 (j .unique)
   pub numerator : TextFits 10 (j .numerator)
   pub denominator : TextFits 10 (j .denominator)
@@ -56,10 +52,6 @@ connection-is x p q r = rw (p, q, r)
 
 function-is : (x : Function) {n : Bytes} {a : ℕ} → n ≡ x .name → a ≡ x .able → _≡_ {A = Function} (record { name = n; able = a }) x
 function-is x p q = rw (p, q)
-
-row-is : (r : JobRow) {s f p l h z : ℕ} {b : Bool} → s ≡ r .serial → f ≡ r .function → p ≡ r .priority → b ≡ r .background → l ≡ r .listeners → h ≡ r .holder → z ≡ r .size
-    → _≡_ {A = JobRow} (record { serial = s; function = f; priority = p; background = b; listeners = l; holder = h; size = z }) r
-row-is r e1 e2 e3 e4 e5 e6 e7 = rw (e1, e2, e3, e4, e5, e6, e7)
 
 job-is : (j : Job) {r : JobRow} {u n d : Bytes} → r ≡ j .row → u ≡ j .unique → n ≡ j .numerator → d ≡ j .denominator
     → _≡_ {A = Job} (record { row = r; unique = u; numerator = n; denominator = d }) j
@@ -88,17 +80,7 @@ module _ (t : Table) (b : Bytes) (ok : Fitting t) (l : Laid t b) where
       (number-at b _ (t .functions) q noFunction i (setSize (length (t .connections))) (λ x. x .able) (l .able) (f .able))
 
   rows-back : (p : ℕ) → p < jobCount → rowIn (length (t .connections)) b p ≡ jobAt t p .row
-  rows-back p h =
-      let f = ok .jobs p h in
-      let i : p < length (t .jobs) = rw (ok .thirtyTwo) h in
-      row-is (jobAt t p .row)
-      (number-at b _ (t .jobs) p noJob i 4 (λ j. j .row .serial) (l .serial) (f .serial))
-      (byte-at b _ (t .jobs) p noJob i (λ j. j .row .function) (l .function) (f .function))
-      (byte-at b _ (t .jobs) p noJob i (λ j. j .row .priority) (l .priority) (f .priority))
-      (flag-at b _ (t .jobs) p noJob i (λ j. j .row .background) (l .background))
-      (number-at b _ (t .jobs) p noJob i (setSize (length (t .connections))) (λ j. j .row .listeners) (l .listening) (f .listeners))
-      (number-at b _ (t .jobs) p noJob i 2 (λ j. j .row .holder) (l .holder) (f .holder))
-      (number-at b _ (t .jobs) p noJob i 2 (λ j. j .row .size) (l .size) (f .size))
+  rows-back p h = row-back (length (t .connections)) b (t .jobs) p (rows-laid (t .jobs) b (ok .thirtyTwo) (l .rows)) (l .listening) (rw (ok .thirtyTwo) h) (ok .jobs p h .row)
 
   jobs-back : (p : ℕ) → p < jobCount → jobIn (length (t .connections)) b p ≡ jobAt t p
   jobs-back p h =
