@@ -1,0 +1,347 @@
+-- Each packet that a running server sends reads back, by the packet layer, to its type and its arguments. Assumes nothing.
+use Prim.Native.Nat.{ℕ, _+_, _/_, _%_, _<_, _≤_}
+use mathlib.Core.Path.{_≡_, refl, ap, sym, _∙_, subst}
+use mathlib.Core.Bool.{Bool, true, false, not, cond, _&&_}
+use mathlib.Core.Option.{Option, none, some}
+use mathlib.Core.List.{List, [], _∷_, _++_, map, append-nil, append-assoc}
+use native.Mathlib.Omega.{arith}
+use borrow.Author.Tests.{le-leb, leb-true, eqb-true, ltb-true, ltb-false}
+use lib.ListN.{length, getD, drop, length-append, length-drop, length-take, List·getD-eq-default}
+use lib.Seq.{drop-append-le}
+use lib.Dec.{leb, ltb, eqb}
+use Rattle.octets.specs.Bytes.{Bytes, same, within, zeroFree, every, firstZero, numberAt}
+use Rattle.octets.proofs.Strings.{and-left, and-right, and-both, same-is}
+use Rattle.handle.specs.Handle.{handle, lap}
+use Rattle.handle.proofs.Handles.{handle-least, handle-most, lap-zero-free}
+use Rattle.packet.specs.Layout.{rulesOf, requestShape, responseShape, separatorsOf, isOwn}
+use Rattle.packet.specs.Layout as L
+use Rattle.packet.specs.declared.Shape.the-variants.{Echo, Handle}
+use Rattle.packet.specs.declared.Rule.the-variants.{Text, Flag, Opaque}
+use Rattle.packet.specs.Arguments.{fits, fitAll, join, digits}
+use Rattle.packet.specs.Packet.{Reading, got, read, requests, responses}
+use Rattle.packet.specs.Opaque.{hides, past, seen, visible, opaque}
+use Rattle.packet_laws.proofs.Packets.{responses-well, Headed, header-good, Got, read-got}
+use Rattle.packet_laws.proofs.Splitting.{split-join}
+use Rattle.packet_laws.proofs.RoundTrip.{packet-reads}
+use Rattle.packet_laws.proofs.Blindness.{visible-opaque}
+use Rattle.lists.specs.Lists.{fit, find, filter}
+use Rattle.lists.proofs.Lists.{length-fit}
+use Rattle.lists.proofs.Searches.{found}
+use Rattle.lists.proofs.Rows.{clash, implies-use, all-at, all-row}
+use Rattle.lists.proofs.Cases.{All, cond-both, cond-cases, all-append, all-map, all-any}
+use Rattle.server.specs.Sizes.{nameSize, uniqueSize}
+use Rattle.server.specs.Table.{Table, noFunction, noJob, functionAt, jobAt, live, queued, best, hasHandle}
+use Rattle.server.specs.Rules.{textWithin, storedNumber, together, isKnown}
+use Rattle.server.specs.Requests.{Event, sends, Work, Request, requestIn, getStatus, echo, work}
+use Rattle.server.specs.Refusals.{isTold, errorText, refusalTexts}
+use Rattle.server.specs.Events.{Send, plain, copy, assign, Decision, silence, refuse, settle, noop, created, dropped, toWake, hears, listenersOf, flag, statusOf, exceptionsName}
+use Rattle.server.specs.Server.{Server, Sent, render, shownBy, opaqueOf, assignment, answer, decided}
+use Rattle.server_laws.proofs.Outcome.{Change, Served, Outcome, outcome}
+use Rattle.server_laws.proofs.Going.{best-found}
+use Rattle.server_laws.proofs.Obeyed.{obeyed}
+use Rattle.server_laws.proofs.Sound.{jobNamed}
+use Rattle.server_calls.proofs.Follows.{Running}
+use Rattle.server_calls.proofs.Refusals.{short-at}
+use Rattle.server_blind.proofs.OpaqueParts.{packetOf}
+use Rattle.demands.specs.Messages.{Message, argumentsIn, argumentsOf, messageOf}
+use Rattle.demands.proofs.Arguments.{WorkRead, work-read, EchoRead, echo-read, StatusRead, status-read}
+
+-- arguments that may be sent by this type
+record Sendable (kind : ℕ) (args : List Bytes) : Type 0 where
+  own : isOwn (responseShape kind) ≡ true
+  fit : fitAll (rulesOf (responseShape kind)) args ≡ true
+  limited : length (join args) ≤ 1088
+
+reads-by : (p : Sent) (args : List Bytes) → p .shown ++ p .opaquePart ≡ join args → Sendable (p .kind) args → read responses (packetOf p) ≡ got (p .kind) args
+reads-by p args q h = rw q (packet-reads responses responses-well (p .kind) args (h .own) (h .fit) (h .limited))
+
+-- ---- arguments
+
+handle-fits : (n : ℕ) → fits L.handle (handle lap n) ≡ true
+unfolding fits
+handle-fits n =
+    let a = handle-least lap n in
+    let b = handle-most lap n in
+    and-both (within 1 63 (length (handle lap n))) _ (and-both (leb 1 (length (handle lap n))) _ (le-leb 1 (length (handle lap n)) (omega arith)) (le-leb (length (handle lap n)) 63 (omega arith))) (lap-zero-free n)
+
+one-sendable : (h : Bytes) → fits L.handle h ≡ true → length h ≤ 63 → Sendable 8 (h ∷ [])
+unfolding rulesOf responseShape fitAll join
+one-sendable h f l = record { own = refl; fit = and-both (fits L.handle h) true f refl; limited = omega arith }
+
+empty-sendable : (kind : ℕ) → isOwn (responseShape kind) ≡ true → rulesOf (responseShape kind) ≡ [] → Sendable kind []
+unfolding fitAll join
+empty-sendable kind o r = record { own = o; fit = rw r; limited = omega arith }
+
+-- 19 ERROR: a number that has a text is in the table, and the texts have no zero byte
+told-small : (n : ℕ) → isTold n ≡ true → n ≤ 15
+unfolding isTold same
+told-small n t = by (ltb n 16) refl
+  where
+    by : (b : Bool) → ltb n 16 ≡ b → n ≤ 15
+    by true e = let h = ltb-true n 16 e in omega arith
+    by false e = let q : errorText n ≡ [] = List·getD-eq-default refusalTexts [] (ltb-false n 16 e) in clash t (rw q)
+
+error-sendable : (n : ℕ) → isTold n ≡ true → Sendable 19 (((n / 10 + 48) ∷ (n % 10 + 48) ∷ []) ∷ errorText n ∷ [])
+unfolding rulesOf responseShape fitAll fits every join firstZero
+error-sendable n t =
+    let h = told-small n t in
+    let x = n / 10 + 48 in
+    let y = n % 10 + 48 in
+    let f : zeroFree (errorText n) ≡ true = all-row zeroFree refusalTexts n [] refl refl in
+    let d : within 48 57 x && (within 48 57 y && true) ≡ true
+    = and-both (within 48 57 x) _ (and-both (leb 48 x) _ (le-leb 48 x (omega arith)) (le-leb x 57 (omega arith)))
+    (and-both (within 48 57 y) true (and-both (leb 48 y) _ (le-leb 48 y (omega arith)) (le-leb y 57 (omega arith))) refl) in
+    record { own = refl; fit = and-both (within 48 57 x && (within 48 57 y && true)) _ d (and-both (zeroFree (errorText n)) true f refl); limited = omega (arith, short-at 9 refusalTexts n refl) }
+
+-- 27 OPTION_RES
+option-sendable : (name : Bytes) → same name exceptionsName ≡ true → Sendable 27 (name ∷ [])
+unfolding rulesOf responseShape fitAll fits join firstZero
+option-sendable name e = rw (same-is name exceptionsName e) (record { own = refl; fit = refl; limited = omega arith })
+
+-- 20 STATUS_RES
+flag-fits : (b : Bool) → fits Flag (flag b) ≡ true
+unfolding fits same
+flag-fits true = refl
+flag-fits false = refl
+
+text-short : (least most : ℕ) (a : Bytes) → fits (Text least most) a ≡ true → length a ≤ most
+unfolding fits
+text-short least most a e = leb-true (length a) most (and-right (leb least (length a)) _ (and-left (within least most (length a)) _ e))
+
+number-short : (a : Bytes) → storedNumber a ≡ true → length a ≤ 10
+number-short a e = leb-true (length a) 10 (and-right (leb 1 (length a)) _ (and-left (within 1 10 (length a)) _ e))
+
+status-sendable : (h n d : Bytes) (known running : Bool) → fits L.handle h ≡ true → storedNumber n ≡ true → storedNumber d ≡ true
+    → Sendable 20 (h ∷ flag known ∷ flag running ∷ n ∷ d ∷ [])
+unfolding rulesOf responseShape fitAll fits join
+status-sendable h n d known running f en ed =
+    let a = number-short n en in
+    let b = number-short d ed in
+    let c = text-short 1 63 h f in
+    record {
+      own = refl;
+      fit = and-both (fits L.handle h) _ f (and-both (fits Flag (flag known)) _ (flag-fits known) (and-both (fits Flag (flag running)) _ (flag-fits running) (and-both (storedNumber n) _ en (and-both (storedNumber d) true ed refl))));
+      limited = rw (length-append h (0 ∷ (flag known ++ (0 ∷ (flag running ++ (0 ∷ (n ++ (0 ∷ d))))))), length-append n (0 ∷ d)) (omega arith);
+    }
+
+-- the handle that a status request names
+status-fits : (b h : Bytes) → requestIn b ≡ getStatus h → fits L.handle h ≡ true
+unfolding rulesOf fitAll
+status-fits b h q =
+    let r = status-read b h q in
+    let g : Got requests b (r .kind) (r .args) = read-got requests b (r .kind) (r .args) (r .reads) in
+    let f : fitAll (rulesOf (requestShape (r .kind))) (r .args) ≡ true = split-join _ (drop 12 b) (r .args) (g .splits) .1 in
+    rw (r .first) (first (r .args) (rw (r .shape) at f))
+  where
+    first : (args : List Bytes) → fitAll (L.handle ∷ []) args ≡ true → fits L.handle (getD args 0 []) ≡ true
+    first [] e = clash e refl
+    first (a ∷ as′) e = and-left (fits L.handle a) _ e
+
+-- ---- packets that are passed on
+
+seen-most : (b : Bool) (m n : ℕ) → 12 ≤ n → 12 ≤ cond b (12 + m) n
+seen-most true m n h = omega arith
+seen-most false m n h = h
+
+-- what is shown and what is opaque is all data
+data-whole : (p : Bytes) → 12 ≤ length p → drop 12 (visible requests p) ++ opaque requests p ≡ drop 12 p
+unfolding visible seen
+data-whole p h =
+    let l : 12 ≤ length (visible requests p) = rw length-take (omega (arith, seen-most (hides requests p) (past (separatorsOf (requests .shape (numberAt p 4))) (drop 12 p)) (length p) h)) in
+    sym (drop-append-le 12 (visible requests p) (opaque requests p) l) ∙ ap (drop 12) (visible-opaque requests p)
+
+-- a packet that was read as a request may go out by a type of the same shape, with its arguments as they came
+record Passed (b : Bytes) (kind : ℕ) (args : List Bytes) : Type 0 where
+  sendable : Sendable kind args
+  whole : drop 12 (visible requests b) ++ opaque requests b ≡ join args
+
+passed : (b : Bytes) (k kind : ℕ) (args : List Bytes) → read requests b ≡ got k args → responseShape kind ≡ requestShape k → Passed b kind args
+passed b k kind args e q =
+    let g : Got requests b k args = read-got requests b k args e in
+    let j = split-join (rulesOf (requestShape k)) (drop 12 b) args (g .splits) in
+    let h : Headed (requests .magic) (requests .most) b = header-good _ _ b (g .headed) in
+    record {
+      sendable = record { own = rw q (g .own); fit = rw q (j .1); limited = rw (j .0, length-drop) (omega (arith, h .limited, h .whole)) };
+      whole = data-whole b (h .long) ∙ sym (j .0);
+    }
+
+arguments-are : (c : ℕ) (b : Bytes) (k : ℕ) (args : List Bytes) → read requests b ≡ got k args → argumentsOf (sends c b) ≡ args
+unfolding argumentsOf
+arguments-are c b k args e = ap argumentsIn e
+
+-- ---- each packet that an event sends
+
+module _ (e : Event) (s : Server) where
+  -- it reads back
+  abbrev pub Reads : Send → Type 0
+  Reads x = read responses (packetOf (render e s x)) ≡ messageOf e s x .says
+
+  reads-plain : (to kind : ℕ) (args : List Bytes) → Sendable kind args → Reads (plain to kind args)
+  unfolding render messageOf
+  reads-plain to kind args h = reads-by (render e s (plain to kind args)) args (append-nil (join args)) h
+
+  reads-noop : (c : ℕ) → Reads (noop c)
+  unfolding rulesOf responseShape
+  reads-noop c = reads-plain c 6 [] (empty-sendable 6 refl refl)
+
+  reads-settled : (ss : List Send) (u : Table) → All Reads ss → All Reads (settle ss u .packets)
+  unfolding settle
+  reads-settled ss u p = all-append p (all-map noop {Q = λ l. Unit {0}} (λ l x. reads-noop l) (all-any (λ l. tt) (toWake (dropped u))))
+
+  reads-refused : (c n : ℕ) (t : Table) → All Reads (refuse c n t .packets)
+  unfolding refuse
+  reads-refused c n t = cond-cases (All Reads) (isTold n) (λ h. All.more (reads-plain c 19 _ (error-sendable n h)) All.none) (λ h. All.none)
+
+  reads-created : (c n : ℕ) → Reads (created c n)
+  reads-created c n = reads-plain c 8 _ (one-sendable (handle lap n) (handle-fits n) (omega (arith, handle-most lap n)))
+
+-- ---- copies
+
+module _ (c : ℕ) (b : Bytes) (s : Server) where
+  reads-copy : (to kind : ℕ) (args : List Bytes) → Passed b kind args → argumentsOf (sends c b) ≡ args → Reads (sends c b) s (copy to kind)
+  unfolding render messageOf shownBy opaqueOf
+  reads-copy to kind args p q = rw q (reads-by (render (sends c b) s (copy to kind)) args (p .whole) (p .sendable))
+
+  reads-echo : requestIn b ≡ echo → Reads (sends c b) s (copy c 17)
+  unfolding responseShape
+  reads-echo q = let r = echo-read b q in reads-copy c 17 (r .args) (passed b (r .kind) 17 (r .args) (r .reads) (sym (r .shape))) (arguments-are c b (r .kind) (r .args) (r .reads))
+
+  reads-work : (how : Work) (kind : ℕ) (h n d : Bytes) → requestIn b ≡ work how kind h n d → (to : ℕ) → Reads (sends c b) s (copy to kind)
+  reads-work how kind h n d q to =
+      let r = work-read b how kind h n d q in
+      reads-copy to kind (r .args) (passed b kind kind (r .args) (r .reads) (r .shape)) (arguments-are c b kind (r .args) (r .reads))
+
+-- ---- assignments
+
+-- the texts of an unfinished job of a running server
+record Texts (t : Table) (p : ℕ) : Type 0 where
+  function : fits L.function (functionAt t (jobAt t p .row .function) .name) ≡ true
+  unique : fits L.unique (jobAt t p .unique) ≡ true
+  numerator : storedNumber (jobAt t p .numerator) ≡ true
+  denominator : storedNumber (jobAt t p .denominator) ≡ true
+  small : together t (jobAt t p) ≤ 1022
+
+some-length : (a : Bytes) → not (same a []) ≡ true → 1 ≤ length a
+unfolding same
+some-length [] e = clash e refl
+some-length (x ∷ a) e = omega arith
+
+text-fits : (least most : ℕ) (a : Bytes) → least ≤ length a → textWithin most a ≡ true → fits (Text least most) a ≡ true
+unfolding fits
+text-fits least most a l e =
+    and-both (within least most (length a)) _ (and-both (leb least (length a)) _ (le-leb least (length a) l) (and-left (leb (length a) most) _ e)) (and-right (leb (length a) most) _ e)
+
+texts : (n : ℕ) (s : Server) → Running n s → (p : ℕ) → p < length (s .table .jobs) → live (jobAt (s .table) p .row) ≡ true → Texts (s .table) p
+unfolding firstZero
+texts n s h p i l =
+    let t = s .table in
+    let j = jobAt t p in
+    let o = obeyed t (h .rules) .sound in
+    let f = functionAt t (j .row .function) .name in
+    let u : textWithin uniqueSize (j .unique) && (storedNumber (j .numerator) && storedNumber (j .denominator)) ≡ true = implies-use (live (j .row)) _ (all-at _ (t .jobs) p noJob (o .texts) i) l in
+    let m = and-right (textWithin uniqueSize (j .unique)) _ u in
+    let k : not (same f []) ≡ true = implies-use (live (j .row)) _ (all-at (jobNamed t) (t .jobs) p noJob (o .jobsKnown) i) l in
+    record {
+      function = text-fits 1 32 f (some-length f k) (all-row (λ x. textWithin nameSize (x .name)) (t .functions) (j .row .function) noFunction (o .names) refl);
+      unique = text-fits 0 64 (j .unique) (omega arith) (and-left (textWithin uniqueSize (j .unique)) _ u);
+      numerator = and-left (storedNumber (j .numerator)) _ m;
+      denominator = and-right (storedNumber (j .numerator)) _ m;
+      small = leb-true _ 1022 (all-at (λ k. leb (together t k) 1022) (t .jobs) p noJob (o .sizes) i);
+    }
+
+assign-data : (uniq : Bool) (h f u w : Bytes) → join (h ∷ f ∷ cond uniq (u ∷ [] ∷ []) ([] ∷ [])) ++ w ≡ join (h ∷ f ∷ cond uniq (u ∷ w ∷ []) (w ∷ []))
+unfolding join
+assign-data true h f u w = simp append-assoc
+assign-data false h f u w = simp append-assoc
+
+opaque-fits : (w : Bytes) → fits Opaque w && true ≡ true
+unfolding fits
+opaque-fits w = refl
+
+module _ (e : Event) (s : Server) (to p : ℕ) (x : Texts (s .table) p) where
+  assign-sendable : (uniq : Bool) (w : Bytes) → length w ≡ jobAt (s .table) p .row .size
+      → let j = jobAt (s .table) p in Sendable (cond uniq 31 11) (handle lap (j .row .serial) ∷ functionAt (s .table) (j .row .function) .name ∷ cond uniq (j .unique ∷ w ∷ []) (w ∷ []))
+  unfolding rulesOf responseShape fitAll join
+  assign-sendable true w l =
+      let j = jobAt (s .table) p in
+      let h = handle lap (j .row .serial) in
+      let f = functionAt (s .table) (j .row .function) .name in
+      let m = handle-most lap (j .row .serial) in
+      record {
+        own = refl;
+        fit = and-both (fits L.handle h) _ (handle-fits _) (and-both (fits L.function f) _ (x .function) (and-both (fits L.unique (j .unique)) _ (x .unique) (opaque-fits w)));
+        limited = rw (length-append h (0 ∷ (f ++ (0 ∷ (j .unique ++ (0 ∷ w))))), length-append f (0 ∷ (j .unique ++ (0 ∷ w))), length-append (j .unique) (0 ∷ w)) (omega (arith, x .small));
+      }
+  assign-sendable false w l =
+      let j = jobAt (s .table) p in
+      let h = handle lap (j .row .serial) in
+      let f = functionAt (s .table) (j .row .function) .name in
+      let m = handle-most lap (j .row .serial) in
+      record {
+        own = refl;
+        fit = and-both (fits L.handle h) _ (handle-fits _) (and-both (fits L.function f) _ (x .function) (opaque-fits w));
+        limited = rw (length-append h (0 ∷ (f ++ (0 ∷ w))), length-append f (0 ∷ w)) (omega (arith, x .small));
+      }
+
+  reads-assigned : (uniq : Bool) → Reads e s (assign uniq to p)
+  unfolding render messageOf
+  reads-assigned uniq =
+      let j = jobAt (s .table) p in
+      let w = fit (j .row .size) (getD (s .workloads) p []) in
+      reads-by (render e s (assign uniq to p)) _ (assign-data uniq (handle lap (j .row .serial)) (functionAt (s .table) (j .row .function) .name) (j .unique) w) (assign-sendable uniq w (length-fit (j .row .size) _))
+
+-- ---- every event
+
+module _ (n : ℕ) (s : Server) (h : Running n s) where
+  module _ (c : ℕ) (b : Bytes) where
+    abbrev e : Event
+    e = sends c b
+
+    reads-grabbed : (uniq : Bool) (p : ℕ) → best (s .table) c ≡ some p → All (Reads e s) (assign uniq c p ∷ [])
+    reads-grabbed uniq p r =
+        let (i, g) = best-found (s .table) c p r in
+        let l = and-left (live (jobAt (s .table) p .row)) _ (and-left (queued (jobAt (s .table) p .row)) _ g) in
+        All.more (reads-assigned e s c p (texts n s h p i l) uniq) All.none
+
+    reads-status : (j : Bytes) (o : Option ℕ) → requestIn b ≡ getStatus j → find (λ x. hasHandle j (x .row)) (s .table .jobs) ≡ o → Reads e s (plain c 20 (statusOf o j (s .table)))
+    unfolding hasHandle every
+    reads-status j none q r = reads-plain e s c 20 _ (status-sendable j _ _ false false (status-fits b j q) refl refl)
+    reads-status j (some p) q r =
+        let f = found (λ x. hasHandle j (x .row)) noJob (s .table .jobs) (some p) r in
+        let x = texts n s h p (f .inside) (and-left (live (jobAt (s .table) p .row)) _ (f .passes)) in
+        let k = jobAt (s .table) p in
+        reads-plain e s c 20 _ (status-sendable j (k .numerator) (k .denominator) true (not (eqb (k .row .holder) 0)) (status-fits b j q) (x .numerator) (x .denominator))
+
+    reads-one : (kind : ℕ) (args : List Bytes) → Sendable kind args → All (Reads e s) (plain c kind args ∷ [])
+    reads-one kind args k = All.more (reads-plain e s c kind args k) All.none
+
+    reads-change : {a : Request} {ss : List Send} {u : Table} → requestIn b ≡ a → Change c (s .table) a ss u → All (Reads e s) ss
+    unfolding rulesOf responseShape
+    reads-change q (Change.able f k r) = All.none
+    reads-change q (Change.unknown f r) = All.none
+    reads-change q (Change.disabled f k r) = All.none
+    reads-change q Change.cleared = All.none
+    reads-change q Change.slept = All.none
+    reads-change q (Change.noJobFor uniq r) = reads-one 10 [] (empty-sendable 10 refl refl)
+    reads-change q (Change.grabbed uniq p r) = reads-grabbed uniq p r
+    reads-change q (Change.joins priority background f u size p r) = All.more (reads-created e s c _) All.none
+    reads-change q (Change.accepts priority background f u size k p r₁ r₂ r₃ l) = All.more (reads-created e s c _) All.none
+    reads-change q (Change.worker how kind j x y p r) =
+        all-map (λ l. copy l kind) {Q = λ l. Unit {0}} (λ l z. reads-work c b s how kind j x y q l) (all-any (λ l. tt) (filter (hears how (s .table)) (listenersOf (s .table) (jobAt (s .table) p .row))))
+    reads-change q (Change.status j o r) = All.more (reads-status j o q r) All.none
+    reads-change q (Change.optioned name r) = reads-one 27 _ (option-sendable name r)
+    reads-change q Change.echoed = All.more (reads-echo c b s q) All.none
+
+    reads-served : {a : Request} {d : Decision} → requestIn b ≡ a → Served c (s .table) a d → All (Reads e s) (d .packets)
+    reads-served q (Served.refused a m r) = reads-refused e s c m (s .table)
+    reads-served q (Served.done a ss u m) = reads-settled e s ss u (reads-change q m)
+
+  reads-outcome : (e : Event) {d : Decision} → Outcome (s .table) e d → All (Reads e s) (d .packets)
+  unfolding silence
+  reads-outcome e (Outcome.silenced f m r) = All.none
+  reads-outcome e (Outcome.opened c o) = reads-settled e s [] _ All.none
+  reads-outcome e (Outcome.closed c o) = reads-settled e s [] _ All.none
+  reads-outcome e (Outcome.serves c b d o r) = reads-served c b refl r
+
+pub all-read : (n : ℕ) (e : Event) (s : Server) → Running n s → All (Reads e s) (decided e s .packets)
+all-read n e s h = reads-outcome n s h e (outcome e s)

@@ -1,0 +1,75 @@
+-- What a host reads in an output is what the server says: the packets, one by one, by type and arguments. Assumes nothing.
+use Prim.Native.Nat.{ℕ, zero, suc, _+_, _≤_}
+use mathlib.Core.Path.{_≡_, refl, ap, ap₂, sym, _∙_}
+use mathlib.Core.List.{List, [], _∷_, _++_, map}
+use native.Mathlib.Omega.{arith}
+use lib.ListN.{length, take, drop, length-append}
+use lib.Seq.{take-at, drop-at, take-append-seam}
+use Rattle.octets.specs.Bytes.{Bytes, numberAt}
+use Rattle.octets.specs.Put.{put}
+use Rattle.octets.proofs.Laying.{put-start}
+use Rattle.packet.specs.Packet.{Reading, got, read, responses}
+use Rattle.packet_laws.proofs.Packets.{Headed, header-good, read-got}
+use Rattle.packet_laws.proofs.Blindness.{number-front}
+use Rattle.lists.proofs.Cases.{All}
+use Rattle.server.specs.Sizes.{outputSize}
+use Rattle.server.specs.Requests.{Event}
+use Rattle.server.specs.Events.{Send, plain, copy, assign}
+use Rattle.server.specs.Server.{Server, render, answer, decided}
+use Rattle.server.specs.Call.{Result, sentBytes, performed}
+use Rattle.server_calls.proofs.Follows.{Running}
+use Rattle.server_calls.proofs.Output.{output-fits}
+use Rattle.server_blind.proofs.OpaqueParts.{packetOf}
+use Rattle.demands.specs.Messages.{Message, cut, messagesIn, told, messageOf, messagesOf}
+use Rattle.demands.proofs.ReadsBack.{Reads, all-read}
+
+-- a packet that is read, and what follows it: its size leads to its end
+record Ends (p rest : Bytes) : Type 0 where
+  size : 12 + numberAt (p ++ rest) 8 ≡ length p
+
+got-ends : (p rest : Bytes) (kind : ℕ) (args : List Bytes) → read responses p ≡ got kind args → Ends p rest
+got-ends p rest kind args e =
+    let h : Headed (responses .magic) (responses .most) p = header-good _ _ p (read-got responses p kind args e .headed) in
+    record { size = omega (arith, number-front p rest 8 (omega (arith, h .long)), h .whole) }
+
+module _ (e : Event) (s : Server) where
+  reads-ends : (x : Send) (rest : Bytes) → Reads e s x → Ends (packetOf (render e s x)) rest
+  unfolding messageOf
+  reads-ends (plain to kind as′) rest r = got-ends _ rest _ _ r
+  reads-ends (copy to kind) rest r = got-ends _ rest _ _ r
+  reads-ends (assign uniq to p) rest r = got-ends _ rest _ _ r
+
+  same-to : (x : Send) → render e s x .to ≡ messageOf e s x .to
+  unfolding render messageOf
+  same-to (plain to kind as′) = refl
+  same-to (copy to kind) = refl
+  same-to (assign uniq to p) = refl
+
+  -- any bound on the number of packets will do
+  cut-sent : (k : ℕ) (xs : List Send) → All (Reads e s) xs → length (sentBytes (map (render e s) xs)) ≤ k → cut k (sentBytes (map (render e s) xs)) ≡ map (messageOf e s) xs
+  unfolding cut sentBytes
+  cut-sent zero [] All.none l = refl
+  cut-sent (suc k) [] All.none l = refl
+  cut-sent zero (x ∷ xs) (All.more r rs) l = absurd (omega arith)
+  cut-sent (suc k) (x ∷ xs) (All.more r rs) l =
+      let p = packetOf (render e s x) in
+      let rest = sentBytes (map (render e s) xs) in
+      let n : 12 + numberAt (p ++ rest) 8 ≡ length p = reads-ends x rest r .size in
+      let a : take (12 + numberAt (p ++ rest) 8) (p ++ rest) ≡ p = take-at p rest _ (sym n) in
+      let b : drop (12 + numberAt (p ++ rest) 8) (p ++ rest) ≡ rest = drop-at p rest _ (sym n) in
+      ap₂ _∷_
+      (ap₂ {C = Message} (λ (c : ℕ) (y : Reading). record { to = c; says = y }) (same-to x) (ap (read responses) a ∙ r))
+      (ap (cut k) b ∙ cut-sent k xs rs (omega (arith, length-append p rest)))
+
+  pub messages-sent : {n : ℕ} → Running n s → messagesIn (sentBytes (answer e s .sent)) ≡ messagesOf e s
+  unfolding messagesIn messagesOf answer
+  messages-sent {n} h = cut-sent _ (decided e s .packets) (all-read n e s h) (omega arith)
+
+  -- what a call that is performed tells
+  pub told-performed : (n : ℕ) → n ≤ 256 → Running n s → (t w o : Bytes) → outputSize n ≤ length o → told (performed e s t w o) ≡ messagesOf e s
+  unfolding told performed
+  told-performed n few h t w o l =
+      let b = sentBytes (answer e s .sent) in
+      let f = output-fits n few e s h in
+      let q : put 0 b o ≡ b ++ drop (length b) o = put-start b o (omega arith) in
+      ap messagesIn (ap (take (length b)) q ∙ take-append-seam b (drop (length b) o)) ∙ messages-sent h

@@ -1,0 +1,85 @@
+-- What a host reads in an output: the bytes cut into addressed packets by the sizes that they say, and each packet read by the packet
+-- layer. And what the server's definitions say that it must read there. Assumes nothing.
+use Prim.Native.Nat.{ℕ, zero, suc, _+_}
+use mathlib.Core.Bool.{Bool, true, false, cond, _||_, _&&_}
+use mathlib.Core.List.{List, [], _∷_, map}
+use lib.ListN.{length, getD, take, drop}
+use lib.Dec.{eqb}
+use Rattle.octets.specs.Bytes.{Bytes, same, numberAt}
+use Rattle.handle.specs.Handle.{handle, lap}
+use Rattle.packet.specs.Packet.{Reading, refused, got, read, requests, responses}
+use Rattle.lists.specs.Lists.{fit, any}
+use Rattle.server.specs.Table.{Table, functionAt, jobAt, hasHandle}
+use Rattle.server.specs.Requests.{Event, opens, closes, sends}
+use Rattle.server.specs.Events.{Send, plain, copy, assign}
+use Rattle.server.specs.Server.{Server, decided}
+use Rattle.server.specs.Call.{Result}
+
+-- ---- what a host reads
+
+-- an addressed packet: to whom it goes, and what the packet layer reads in it
+pub record Message : Type 0 where
+  pub to : ℕ
+  pub says : Reading
+
+-- 01: "An addressed packet is one connection byte and then the packet"; a packet is 12 bytes and as many as its size says
+unfoldable pub cut : ℕ → Bytes → List Message
+cut zero b = []
+cut (suc k) [] = []
+cut (suc k) (c ∷ b) = record { to = c; says = read responses (take (12 + numberAt b 8) b) } ∷ cut k (drop (12 + numberAt b 8) b)
+
+-- no packet is empty, so there are at most as many as bytes
+unfoldable pub messagesIn : Bytes → List Message
+messagesIn b = cut (length b) b
+
+-- the packets of a call: they stand in the output's first bytes, as many as the reported length
+unfoldable pub told : Result → List Message
+told r = messagesIn (take (r .length′) (r .output))
+
+-- ---- what the server says
+
+-- the arguments of an event's own packet
+abbrev pub argumentsIn : Reading → List Bytes
+argumentsIn (refused n) = []
+argumentsIn (got kind as′) = as′
+
+unfoldable pub argumentsOf : Event → List Bytes
+argumentsOf (opens c) = []
+argumentsOf (closes c) = []
+argumentsOf (sends c b) = argumentsIn (read requests b)
+
+-- 01: "12, 13, 14, 25, 28, 29 forwarded with the data as it came"; "11 JOB_ASSIGN (handle, function, workload), 31 JOB_ASSIGN_UNIQ
+-- (handle, function, unique, workload)"
+unfoldable pub messageOf : Event → Server → Send → Message
+messageOf e s (plain to kind as′) = record { to = to; says = got kind as′ }
+messageOf e s (copy to kind) = record { to = to; says = got kind (argumentsOf e) }
+messageOf e s (assign uniq to p) =
+    let j = jobAt (s .table) p in
+    let w = fit (j .row .size) (getD (s .workloads) p []) in
+    record { to = to; says = got (cond uniq 31 11) (handle lap (j .row .serial) ∷ functionAt (s .table) (j .row .function) .name ∷ cond uniq (j .unique ∷ w ∷ []) (w ∷ [])) }
+
+unfoldable pub messagesOf : Event → Server → List Message
+messagesOf e s = map (messageOf e s) (decided e s .packets)
+
+-- ---- handles
+
+-- the types that give somebody the handle of a job: 8 JOB_CREATED, 11 JOB_ASSIGN, 31 JOB_ASSIGN_UNIQ
+abbrev pub givesHandle : ℕ → Bool
+givesHandle kind = eqb kind 8 || (eqb kind 11 || eqb kind 31)
+
+-- 000: the handle is their first argument
+abbrev pub firstIs : Bytes → List Bytes → Bool
+firstIs h [] = false
+firstIs h (a ∷ as′) = same a h
+
+abbrev pub readingGives : Bytes → Reading → Bool
+readingGives h (refused n) = false
+readingGives h (got kind as′) = givesHandle kind && firstIs h as′
+
+-- one of these packets gives this handle to somebody
+unfoldable pub given : Bytes → List Message → Bool
+given h ms = any (λ m. readingGives h (m .says)) ms
+
+-- an unfinished job of this table has this handle
+unfoldable pub stands : Bytes → Table → Bool
+stands h t = any (λ j. hasHandle h (j .row)) (t .jobs)
