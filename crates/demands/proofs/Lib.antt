@@ -3,3 +3,7 @@ pub mod Arguments
 pub mod ReadsBack
 pub mod Told
 pub mod Hubs
+pub mod Given
+pub mod Gone
+pub mod Handles
+pub mod Demands

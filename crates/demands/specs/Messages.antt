@@ -1,15 +1,14 @@
 -- What a host reads in an output: the bytes cut into addressed packets by the sizes that they say, and each packet read by the packet
 -- layer. And what the server's definitions say that it must read there. Assumes nothing.
 use Prim.Native.Nat.{ℕ, zero, suc, _+_}
-use mathlib.Core.Bool.{Bool, true, false, cond, _||_, _&&_}
+use mathlib.Core.Bool.{cond}
 use mathlib.Core.List.{List, [], _∷_, map}
 use lib.ListN.{length, getD, take, drop}
-use lib.Dec.{eqb}
-use Rattle.octets.specs.Bytes.{Bytes, same, numberAt}
+use Rattle.octets.specs.Bytes.{Bytes, numberAt}
 use Rattle.handle.specs.Handle.{handle, lap}
 use Rattle.packet.specs.Packet.{Reading, refused, got, read, requests, responses}
-use Rattle.lists.specs.Lists.{fit, any}
-use Rattle.server.specs.Table.{Table, functionAt, jobAt, hasHandle}
+use Rattle.lists.specs.Lists.{fit}
+use Rattle.server.specs.Table.{functionAt, jobAt}
 use Rattle.server.specs.Requests.{Event, opens, closes, sends}
 use Rattle.server.specs.Events.{Send, plain, copy, assign}
 use Rattle.server.specs.Server.{Server, decided}
@@ -60,26 +59,3 @@ messageOf e s (assign uniq to p) =
 
 unfoldable pub messagesOf : Event → Server → List Message
 messagesOf e s = map (messageOf e s) (decided e s .packets)
-
--- ---- handles
-
--- the types that give somebody the handle of a job: 8 JOB_CREATED, 11 JOB_ASSIGN, 31 JOB_ASSIGN_UNIQ
-abbrev pub givesHandle : ℕ → Bool
-givesHandle kind = eqb kind 8 || (eqb kind 11 || eqb kind 31)
-
--- 000: the handle is their first argument
-abbrev pub firstIs : Bytes → List Bytes → Bool
-firstIs h [] = false
-firstIs h (a ∷ as′) = same a h
-
-abbrev pub readingGives : Bytes → Reading → Bool
-readingGives h (refused n) = false
-readingGives h (got kind as′) = givesHandle kind && firstIs h as′
-
--- one of these packets gives this handle to somebody
-unfoldable pub given : Bytes → List Message → Bool
-given h ms = any (λ m. readingGives h (m .says)) ms
-
--- an unfinished job of this table has this handle
-unfoldable pub stands : Bytes → Table → Bool
-stands h t = any (λ j. hasHandle h (j .row)) (t .jobs)

@@ -1,0 +1,219 @@
+-- A handle whose job is gone is nobody's for ever: no place has it, no packet gives it, and a worker packet that names it is refused
+-- by 14. And a new job's handle was given by no packet before. From any running server. Assumes nothing.
+use Prim.Native.Nat.{ℕ, zero, suc, _≤_, _<_, _^_}
+use mathlib.Core.Path.{_≡_, refl, ap, sym, _∙_, subst}
+use mathlib.Core.Bool.{Bool, true, false, not, _&&_, _||_}
+use mathlib.Core.Option.{Option, none, some}
+use mathlib.Core.List.{List, [], _∷_}
+use native.Mathlib.Nat.{le-trans}
+use native.Mathlib.Omega.{arith}
+use borrow.Author.Tests.{eq-eqb, ne-eqb, eqb-true, eqb-false, leb-true, ltb-true, ltb-false, lt-ltb, not-true, not-false}
+use lib.ListN.{length, getD, List·getD-eq-default}
+use lib.Dec.{eqb, leb, ltb}
+use Rattle.octets.specs.Bytes.{Bytes, same}
+use Rattle.octets.proofs.Strings.{and-left, and-right, and-both, same-is}
+use Rattle.handle.specs.Handle.{handle, lap}
+use Rattle.handle.proofs.Handles.{handle-one-to-one}
+use Rattle.packet.specs.Packet.{Reading, refused, got, read, requests}
+use Rattle.lists.specs.Lists.{find}
+use Rattle.lists.proofs.Searches.{found}
+use Rattle.lists.proofs.Rows.{clash, never, or-left, or-right, all-at}
+use Rattle.server.specs.declared.Connection.{Connection}
+use Rattle.server.specs.Table.{Table, closed, noJob, connectionAt, jobAt, live, heldBy, hasHandle}
+use Rattle.server.specs.Requests.{Event, sends, Work, tells, reports, ends, throws, Request, work, requested, fromReading, requestIn}
+use Rattle.server.specs.Events.{Decision, refuse, holdsHandle, workAt, served, isConnection, onlyIfOpen}
+use Rattle.server.specs.Rules.{isOpen}
+use Rattle.server.specs.Server.{Server, decided, answer, next, after}
+use Rattle.server_laws.proofs.Serials.{Creates, Numbered, numbered, grown-creates, last-kept, last-rises}
+use Rattle.server_laws.proofs.Obeyed.{obeyed}
+use Rattle.server_calls.proofs.Follows.{Running, running-next}
+use Rattle.demands.specs.Messages.{messagesOf}
+use Rattle.demands.specs.Handles.{given, stands, isMade, isWork, readingTells, firstIs}
+use Rattle.demands.proofs.Unmasked.{request-read}
+use Rattle.demands.proofs.Given.{At, stands-at, at-stands, Known, standing, newest, given-known}
+
+-- ---- handles that were given out
+
+-- the handle is that of a serial that is used up
+pub record Used (h : Bytes) (t : Table) : Type 0 where
+  pub serial : ℕ
+  pub is : h ≡ handle lap serial
+  pub some : 1 ≤ serial
+  pub past : serial ≤ t .last
+
+-- the last serial of a running server fits into four bytes
+pub last-fits : (n : ℕ) (s : Server) → Running n s → s .table .last < 2 ^ 32
+last-fits n s h = ltb-true (s .table .last) 4294967296 (obeyed (s .table) (h .rules) .sound .small)
+
+-- the serial of an unfinished job lies from 1 to the last
+at-used : (n : ℕ) (s : Server) → Running n s → (h : Bytes) → At h (s .table) → Used h (s .table)
+at-used n s r h a =
+    let t = s .table in
+    let z : jobAt t (a .place) .row .serial ≡ 0 → ⊥ = eqb-false (jobAt t (a .place) .row .serial) 0 (not-true _ (a .live′)) in
+    record {
+      serial = jobAt t (a .place) .row .serial;
+      is = a .is;
+      some = omega arith;
+      past = leb-true _ (t .last) (all-at (λ j. leb (j .row .serial) (t .last)) (t .jobs) (a .place) noJob (obeyed t (r .rules) .sound .below) (a .inside));
+    }
+
+pub stands-used : (n : ℕ) (s : Server) → Running n s → (h : Bytes) → stands h (s .table) ≡ true → Used h (s .table)
+stands-used n s r h e = at-used n s r h (stands-at h (s .table) e)
+
+pub used-after : (es : List Event) (s : Server) (h : Bytes) → Used h (s .table) → Used h (after s es .table)
+used-after es s h u = record { serial = u .serial; is = u .is; some = u .some; past = le-trans (u .past) (last-rises es s) }
+
+used-next : (e : Event) (s : Server) (h : Bytes) → Used h (s .table) → Used h (next e s .table)
+used-next e s h u = record { serial = u .serial; is = u .is; some = u .some; past = le-trans (u .past) (last-kept s e) }
+
+-- what was given is used up
+pub given-used : (n : ℕ) (e : Event) (s : Server) → Running n s → (h : Bytes) → given h (messagesOf e s) ≡ true → Used h (next e s .table)
+given-used n e s r h g = by (given-known e s h g)
+  where
+    by : Known s (next e s .table .last) h → Used h (next e s .table)
+    by (standing a) = used-next e s h (at-used n s r h a)
+    by (newest room last q) = record { serial = suc (s .table .last); is = q; some = omega arith; past = omega arith }
+
+-- ---- a job that is made
+
+inside-live : (t : Table) (p : ℕ) → live (jobAt t p .row) ≡ true → p < length (t .jobs)
+inside-live t p l = by (ltb p (length (t .jobs))) refl
+  where
+    by : (b : Bool) → ltb p (length (t .jobs)) ≡ b → p < length (t .jobs)
+    by true e = ltb-true p (length (t .jobs)) e
+    by false e = let q : jobAt t p ≡ noJob = List·getD-eq-default (t .jobs) noJob (ltb-false p (length (t .jobs)) e) in clash (rw q at l) refl
+
+-- a job stands after the event that stood not before it: it has the next serial
+pub made-newest : (n : ℕ) (e : Event) (s : Server) → Running n s → (h : Bytes) → isMade h (s .table) (next e s .table) ≡ true
+    → (h ≡ handle lap (suc (s .table .last))) × (suc (s .table .last) < 2 ^ 32)
+made-newest n e s r h m =
+    let a = stands-at h (next e s .table) (and-left (stands h (next e s .table)) _ m) in
+    let k = jobAt (next e s .table) (a .place) .row .serial in
+    let absent : jobAt (s .table) (a .place) .row .serial ≡ k → ⊥ = λ q. clash (at-stands h (s .table) (before a q)) (not-true _ (and-right (stands h (next e s .table)) _ m)) in
+    let c : Creates s e k = record { place = a .place; is = refl; some = eqb-false k 0 (not-true _ (a .live′)); new = absent } in
+    let x : Numbered s e k = numbered c in
+    (a .is ∙ ap (handle lap) (x .is), omega (arith, x .is, x .room))
+  where
+    before : (a : At h (next e s .table)) → jobAt (s .table) (a .place) .row .serial ≡ jobAt (next e s .table) (a .place) .row .serial → At h (s .table)
+    before a q =
+        let i : live (jobAt (s .table) (a .place) .row) ≡ true = ap (λ (k : ℕ). not (eqb k 0)) q ∙ a .live′ in
+        record { place = a .place; inside = inside-live (s .table) (a .place) i; live′ = i; is = a .is ∙ ap (handle lap) (sym q) }
+
+-- the job with the next serial is made: it stands, and stood not
+pub newest-made : (n : ℕ) (e : Event) (s : Server) → Running n s → s .table .last < 4294967295 → next e s .table .last ≡ suc (s .table .last)
+    → isMade (handle lap (suc (s .table .last))) (s .table) (next e s .table) ≡ true
+newest-made n e s r room g =
+    let h = handle lap (suc (s .table .last)) in
+    let c = grown-creates s e g in
+    let i : live (jobAt (next e s .table) (c .place) .row) ≡ true = rw (c .is, ne-eqb (suc (s .table .last)) 0 (c .some)) in
+    let a : At h (next e s .table) = record { place = c .place; inside = inside-live (next e s .table) (c .place) i; live′ = i; is = rw (c .is) } in
+    and-both (stands h (next e s .table)) _ (at-stands h (next e s .table) a) (rw (never (stands h (s .table)) (old h refl)))
+  where
+    old : (h : Bytes) → h ≡ handle lap (suc (s .table .last)) → stands h (s .table) ≡ true → ⊥
+    old h q e =
+        let u = stands-used n s r h e in
+        let k : u .serial ≡ suc (s .table .last) = handle-one-to-one lap _ _ (omega (arith, u .past)) (omega arith) (sym (u .is) ∙ q) in
+        omega (arith, u .past)
+
+-- ---- what a packet gives stands before the event, or is made by it
+
+pub given-stands : (n : ℕ) (e : Event) (s : Server) → Running n s → (h : Bytes) → given h (messagesOf e s) ≡ true
+    → stands h (s .table) || isMade h (s .table) (next e s .table) ≡ true
+given-stands n e s r h g = by (given-known e s h g)
+  where
+    by : Known s (next e s .table .last) h → stands h (s .table) || isMade h (s .table) (next e s .table) ≡ true
+    by (standing a) = or-left (stands h (s .table)) _ (at-stands h (s .table) a)
+    by (newest room last q) = or-right (stands h (s .table)) _ (subst (λ (x : Bytes). isMade x (s .table) (next e s .table) ≡ true) (sym q) (newest-made n e s r room last))
+
+-- ---- a new job's handle was given by no packet before
+
+pub new-unheard : (n : ℕ) (e : Event) (s : Server) → Running n s → (between : List Event) (f : Event) (h : Bytes)
+    → let r = after (next e s) between in Running n r → isMade h (r .table) (next f r .table) ≡ true → given h (messagesOf e s) ≡ false
+new-unheard n e s k between f h j m = never (given h (messagesOf e s)) (λ g.
+    let r = after (next e s) between in
+    let u = used-after between (next e s) h (given-used n e s k h g) in
+    let (q, room) = made-newest n f r j h m in
+    let z : u .serial ≡ suc (r .table .last) = handle-one-to-one lap _ _ (omega (arith, u .past)) room (sym (u .is) ∙ q) in
+    omega (arith, u .past))
+
+-- ---- gone for ever
+
+gone-next : (n : ℕ) (e : Event) (s : Server) → Running n s → (h : Bytes) → Used h (s .table) → stands h (s .table) ≡ false → stands h (next e s .table) ≡ false
+gone-next n e s r h u g = never (stands h (next e s .table)) (λ y.
+    let (q, room) = made-newest n e s r h (and-both (stands h (next e s .table)) _ y (rw g)) in
+    let z : u .serial ≡ suc (s .table .last) = handle-one-to-one lap _ _ (omega (arith, u .past)) room (sym (u .is) ∙ q) in
+    omega (arith, u .past))
+
+-- a handle that was given out and is nobody's stays nobody's
+pub gone-after : (n : ℕ) (es : List Event) (s : Server) → Running n s → (h : Bytes) → Used h (s .table) → stands h (s .table) ≡ false → stands h (after s es .table) ≡ false
+unfolding after
+gone-after n [] s r h u g = g
+gone-after n (e ∷ es) s r h u g = gone-after n es (next e s) (running-next n e s r) h (used-next e s h u) (gone-next n e s r h u g)
+
+-- and no packet gives it
+pub gone-ungiven : (n : ℕ) (e : Event) (s : Server) → Running n s → (h : Bytes) → Used h (s .table) → stands h (s .table) ≡ false → given h (messagesOf e s) ≡ false
+gone-ungiven n e s r h u g = never (given h (messagesOf e s)) (λ y. clash (given-stands n e s r h y) (rw (g, gone-next n e s r h u g)))
+
+-- ---- late results
+
+nobody-holds : (c : ℕ) (h : Bytes) (t : Table) → stands h t ≡ false → find (λ j. holdsHandle c h (j .row)) (t .jobs) ≡ none
+unfolding holdsHandle hasHandle
+nobody-holds c h t g = go (find (λ j. holdsHandle c h (j .row)) (t .jobs)) refl
+  where
+    go : (o : Option ℕ) → find (λ j. holdsHandle c h (j .row)) (t .jobs) ≡ o → o ≡ none
+    go none e = refl
+    go (some p) e =
+        let f = found (λ j. holdsHandle c h (j .row)) noJob (t .jobs) (some p) e in
+        let r = jobAt t p .row in
+        let a : hasHandle h r ≡ true = and-right (heldBy c r) _ (f .passes) in
+        clash (at-stands h t (record { place = p; inside = f .inside; live′ = and-left (live r) _ a; is = sym (same-is _ _ (and-right (live r) _ a)) })) g
+
+-- a worker packet that names h asks for work on it
+record AsksWork (b h : Bytes) : Type 0 where
+  how : Work
+  kind : ℕ
+  n : Bytes
+  d : Bytes
+  is : requestIn b ≡ work how kind h n d
+
+work-requested : (kind : ℕ) (a b c : Bytes) → isWork kind ≡ true → (how : Work) × (n : Bytes) × (d : Bytes) × (requested kind a b c ≡ work how kind a n d)
+unfolding requested
+work-requested kind a b c = go (eqb 12 kind) refl (eqb 13 kind) refl (eqb 14 kind) refl (eqb 25 kind) refl (eqb 28 kind) refl (eqb 29 kind) refl
+  where
+    go : (x : Bool) → eqb 12 kind ≡ x → (y : Bool) → eqb 13 kind ≡ y → (z : Bool) → eqb 14 kind ≡ z → (u : Bool) → eqb 25 kind ≡ u → (v : Bool) → eqb 28 kind ≡ v → (w : Bool) → eqb 29 kind ≡ w
+        → x || (y || (z || (u || (v || (w || false))))) ≡ true → (how : Work) × (n : Bytes) × (d : Bytes) × (requested kind a b c ≡ work how kind a n d)
+    go true e y e₁ z e₂ u e₃ v e₄ w e₅ q = (reports, b, c, rw (← (eqb-true 12 kind e)))
+    go false e true e₁ z e₂ u e₃ v e₄ w e₅ q = (ends, [], [], rw (← (eqb-true 13 kind e₁)))
+    go false e false e₁ true e₂ u e₃ v e₄ w e₅ q = (ends, [], [], rw (← (eqb-true 14 kind e₂)))
+    go false e false e₁ false e₂ true e₃ v e₄ w e₅ q = (throws, [], [], rw (← (eqb-true 25 kind e₃)))
+    go false e false e₁ false e₂ false e₃ true e₄ w e₅ q = (tells, [], [], rw (← (eqb-true 28 kind e₄)))
+    go false e false e₁ false e₂ false e₃ false e₄ true e₅ q = (tells, [], [], rw (← (eqb-true 29 kind e₅)))
+    go false e false e₁ false e₂ false e₃ false e₄ false e₅ q = clash q refl
+
+first-is : (h : Bytes) (args : List Bytes) → firstIs h args ≡ true → getD args 0 [] ≡ h
+first-is h [] e = clash e refl
+first-is h (a ∷ as′) e = same-is a h e
+
+asks-work : (b h : Bytes) → readingTells h (read requests b) ≡ true → AsksWork b h
+asks-work b h e = by (read requests b) refl e
+  where
+    by : (r : Reading) → read requests b ≡ r → readingTells h r ≡ true → AsksWork b h
+    by (refused m) q z = clash z refl
+    by (got kind args) q z =
+        let (how, n, d, w) = work-requested kind (getD args 0 []) (getD args 1 []) (getD args 2 []) (and-left (isWork kind) _ z) in
+        record { how = how; kind = kind; n = n; d = d; is = request-read b ∙ ap fromReading q ∙ w ∙ ap (λ (a : Bytes). work how kind a n d) (first-is h args (and-right (isWork kind) _ z)) }
+
+open-inside : (t : Table) (c : ℕ) → isOpen t c ≡ true → isConnection t c ≡ true
+open-inside t c o = by (ltb c (length (t .connections))) refl
+  where
+    by : (b : Bool) → ltb c (length (t .connections)) ≡ b → b ≡ true
+    by true e = refl
+    by false e = let q : connectionAt t c ≡ closed = List·getD-eq-default (t .connections) closed (ltb-false c (length (t .connections)) e) in clash o (ap (λ (x : Connection). x .opened) q)
+
+-- a worker packet for a job that does not stand: 14
+pub late-number : (c : ℕ) (b h : Bytes) (s : Server) → stands h (s .table) ≡ false → isOpen (s .table) c ≡ true → readingTells h (read requests b) ≡ true
+    → answer (sends c b) s .number ≡ 14
+unfolding answer decided onlyIfOpen served workAt refuse
+late-number c b h s g o z =
+    let a = asks-work b h z in
+    rw (open-inside (s .table) c o, o, a .is, nobody-holds c h (s .table) g)
