@@ -6,4 +6,5 @@ pub mod Hubs
 pub mod Given
 pub mod Gone
 pub mod Handles
+pub mod Numbers
 pub mod Demands

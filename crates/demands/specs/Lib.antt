@@ -1,3 +1,4 @@
 pub mod Messages
 pub mod Hub
 pub mod Handles
+pub mod Conditions
