@@ -8,13 +8,22 @@ use lib.ListN.{length}
 use Rattle.octets.specs.Bytes.{Bytes}
 use Rattle.server.specs.Sizes.{workloadsSize}
 use Rattle.server.specs.Layout.{tableSize}
-use Rattle.server.specs.Call.{make}
+use Rattle.server.specs.Requests.{Event}
+use Rattle.server.specs.Server.{Server}
+use Rattle.server.specs.Call.{call, make}
 use Rattle.server_calls.specs.History.{Call, Memory}
+use Rattle.server_calls.proofs.Follows.{Running, tableWith, workloadsWith}
 use Rattle.server_calls.proofs.Histories.{LongOutputs}
 use Rattle.demands.specs.Messages.{told}
+use Rattle.demands.specs.Answered.{Answered}
+use Rattle.demands.specs.Conditions.{first, conditions}
+use Rattle.demands.specs.Exact.{Walk}
 use Rattle.demands.specs.Handles.{given, stands, isMade, NoMore}
-use Rattle.demands.specs.Hub.{Hub, Long, callOn, kept, afterCalls, tableIn}
-use Rattle.demands.proofs.Hubs.{hub-fresh, calls-hub}
+use Rattle.demands.specs.Hub.{Hub, Long, callOn, kept, afterCalls, resultsOf, tableIn, serverOf}
+use Rattle.demands.proofs.Hubs.{hub-with, hub-fresh, calls-hub}
+use Rattle.demands.proofs.Answering.{call-answered}
+use Rattle.demands.proofs.Numbers.{number-first}
+use Rattle.demands.proofs.Walking.{walk-hub}
 use Rattle.demands.proofs.Handles.{call-stands, call-unheard, calls-gone}
 
 -- ---- the memory
@@ -28,7 +37,30 @@ fresh-hub = hub-fresh
 pub later-hub : (n : ℕ) (xs : List Call) (m : Memory) → Hub n m → LongOutputs n xs → Hub n (afterCalls n xs m)
 later-hub = calls-hub
 
+-- and so is whatever holds a server that runs
+pub running-hub : (n : ℕ) → n ≤ 256 → (s : Server) → Running n s → (t w : Bytes) → tableSize n ≤ length t → workloadsSize ≤ length w
+    → Hub n (record { table = tableWith s t; workloads = workloadsWith s w })
+running-hub = hub-with
+
+-- ---- demand 1
+
+-- any event on any bytes, of any length and content: done, or refused with table and workloads kept and the output untouched, or refused
+-- with one ERROR packet to the sender and nothing else changed
+pub demand-1 : (n : ℕ) (e : Event) (t w o : Bytes) → Answered e t w o (call n e t w o)
+demand-1 = call-answered
+
+-- and the number is that of the first row of document 01's table whose condition holds, 0 where none does
+pub demand-1-number : (n : ℕ) (t w o : Bytes) (e : Event) → call n e t w o .number ≡ first (conditions n e t w o)
+demand-1-number = number-first
+
 module _ (n : ℕ) (m : Memory) (hub : Hub n m) where
+  -- ---- demand 2
+
+  -- number, length, output, table and workloads of each call of a history are those of the server of the definitions, and each packet
+  -- reads back to its type and arguments
+  pub demand-2 : (xs : List Call) → LongOutputs n xs → Walk (m .table) (m .workloads) (serverOf n m) xs (resultsOf n xs m)
+  demand-2 = walk-hub n m hub
+
   -- ---- handles
 
   -- whatever handle a packet of types 8, 11 or 31 gives, a job that stands in the table before the call has it, or the job that the call

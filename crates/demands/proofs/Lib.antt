@@ -7,4 +7,6 @@ pub mod Given
 pub mod Gone
 pub mod Handles
 pub mod Numbers
+pub mod Answering
+pub mod Walking
 pub mod Demands

@@ -34,7 +34,7 @@ use Rattle.server.specs.Table.{Table, noFunction, noJob, functionAt, jobAt, liv
 use Rattle.server.specs.Rules.{textWithin, storedNumber, together, isKnown}
 use Rattle.server.specs.Requests.{Event, sends, Work, Request, requestIn, getStatus, echo, work}
 use Rattle.server.specs.Refusals.{isTold, errorText, refusalTexts}
-use Rattle.server.specs.Events.{Send, plain, copy, assign, Decision, silence, refuse, settle, noop, created, dropped, toWake, hears, listenersOf, flag, statusOf, exceptionsName}
+use Rattle.server.specs.Events.{Send, plain, copy, assign, Decision, silence, refuse, settle, error, noop, created, dropped, toWake, hears, listenersOf, flag, statusOf, exceptionsName}
 use Rattle.server.specs.Server.{Server, Sent, render, shownBy, opaqueOf, assignment, answer, decided}
 use Rattle.server_laws.proofs.Outcome.{Change, Served, Outcome, outcome}
 use Rattle.server_laws.proofs.Going.{best-found}
@@ -191,6 +191,9 @@ module _ (e : Event) (s : Server) where
   reads-refused : (c n : ℕ) (t : Table) → All Reads (refuse c n t .packets)
   unfolding refuse
   reads-refused c n t = cond-cases (All Reads) (isTold n) (λ h. All.more (reads-plain c 19 _ (error-sendable n h)) All.none) (λ h. All.none)
+
+  pub reads-error : (c n : ℕ) → isTold n ≡ true → Reads (error c n)
+  reads-error c n h = reads-plain c 19 _ (error-sendable n h)
 
   reads-created : (c n : ℕ) → Reads (created c n)
   reads-created c n = reads-plain c 8 _ (one-sendable (handle lap n) (handle-fits n) (omega (arith, handle-most lap n)))

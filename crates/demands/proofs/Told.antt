@@ -61,9 +61,13 @@ module _ (e : Event) (s : Server) where
       (ap₂ {C = Message} (λ (c : ℕ) (y : Reading). record { to = c; says = y }) (same-to x) (ap (read responses) a ∙ r))
       (ap (cut k) b ∙ cut-sent k xs rs (omega (arith, length-append p rest)))
 
+  pub messages-read : (xs : List Send) → All (Reads e s) xs → messagesIn (sentBytes (map (render e s) xs)) ≡ map (messageOf e s) xs
+  unfolding messagesIn
+  messages-read xs r = cut-sent _ xs r (omega arith)
+
   pub messages-sent : {n : ℕ} → Running n s → messagesIn (sentBytes (answer e s .sent)) ≡ messagesOf e s
-  unfolding messagesIn messagesOf answer
-  messages-sent {n} h = cut-sent _ (decided e s .packets) (all-read n e s h) (omega arith)
+  unfolding messagesOf answer
+  messages-sent {n} h = messages-read (decided e s .packets) (all-read n e s h)
 
   -- what a call that is performed tells
   pub told-performed : (n : ℕ) → n ≤ 256 → Running n s → (t w o : Bytes) → outputSize n ≤ length o → told (performed e s t w o) ≡ messagesOf e s

@@ -2,3 +2,5 @@ pub mod Messages
 pub mod Hub
 pub mod Handles
 pub mod Conditions
+pub mod Answered
+pub mod Exact
