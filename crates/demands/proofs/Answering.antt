@@ -23,7 +23,7 @@ use Rattle.server.specs.Server.{Server, Sent, addressed, render, start}
 use Rattle.server.specs.Call.{Result, left, sentBytes, call}
 use Rattle.server_laws.proofs.Refusals.{errorPacket}
 use Rattle.server_calls.proofs.Refusals.{Refused, ToldOf, call-refused}
-use Rattle.demands.specs.Messages.{Message, messagesIn, told, messageOf}
+use Rattle.demands.specs.Messages.{Message, messageIn, packetsIn, told, messageOf}
 use Rattle.demands.specs.Answered.{errorArguments, errorBytes, Answered, done, silent, tells}
 use Rattle.demands.proofs.ReadsBack.{reads-error}
 use Rattle.demands.proofs.Told.{messages-read}
@@ -41,17 +41,17 @@ error-bytes : (c n : ℕ) → addressed (errorPacket c n) ≡ errorBytes c n
 unfolding join
 error-bytes c n = ap (λ (d : Bytes). c ∷ packet (responses .magic) 19 d) (append-nil (join (errorArguments n)))
 
-error-reads : (c n : ℕ) → isTold n ≡ true → messagesIn (addressed (errorPacket c n)) ≡ record { to = c; says = got 19 (errorArguments n) } ∷ []
+error-reads : (c n : ℕ) → isTold n ≡ true → map messageIn (packetsIn (addressed (errorPacket c n))) ≡ record { to = c; says = got 19 (errorArguments n) } ∷ []
 unfolding sentBytes render messageOf join
-error-reads c n h = ap messagesIn (sym (append-nil (addressed (errorPacket c n)))) ∙ messages-read (sends c []) (start 0) (error c n ∷ []) (All.more (reads-error (sends c []) (start 0) c n h) All.none)
+error-reads c n h = ap (λ (b : Bytes). map messageIn (packetsIn b)) (sym (append-nil (addressed (errorPacket c n)))) ∙ messages-read (sends c []) (start 0) (error c n ∷ []) (All.more (reads-error (sends c []) (start 0) c n h) All.none)
 
 -- a result whose output begins with it tells it
 tells-error : (r : Result) (o : Bytes) (c : ℕ) → r .length′ ≡ length (errorBytes c (r .number)) → r .output ≡ errorBytes c (r .number) ++ drop (length (errorBytes c (r .number))) o
     → isTold (r .number) ≡ true → told r ≡ record { to = c; says = got 19 (errorArguments (r .number)) } ∷ []
 unfolding told
 tells-error r o c l p q =
-    ap₂ (λ (k : ℕ) (b : Bytes). messagesIn (take k b)) l p
-    ∙ ap messagesIn (take-append-seam (errorBytes c (r .number)) _ ∙ sym (error-bytes c (r .number)))
+    ap₂ (λ (k : ℕ) (b : Bytes). map messageIn (packetsIn (take k b))) l p
+    ∙ ap (λ (b : Bytes). map messageIn (packetsIn b)) (take-append-seam (errorBytes c (r .number)) _ ∙ sym (error-bytes c (r .number)))
     ∙ error-reads c (r .number) q
 
 module _ (n : ℕ) (e : Event) (t w o : Bytes) where

@@ -10,7 +10,7 @@ use Rattle.server.specs.Sizes.{workloadsSize}
 use Rattle.server.specs.Layout.{tableSize}
 use Rattle.server.specs.Requests.{Event}
 use Rattle.server.specs.Server.{Server}
-use Rattle.server.specs.Call.{call, make}
+use Rattle.server.specs.Call.{call}
 use Rattle.server_calls.specs.History.{Call, Memory}
 use Rattle.server_calls.proofs.Follows.{Running, tableWith, workloadsWith}
 use Rattle.server_calls.proofs.Histories.{LongOutputs}
@@ -19,18 +19,19 @@ use Rattle.demands.specs.Answered.{Answered}
 use Rattle.demands.specs.Conditions.{first, conditions}
 use Rattle.demands.specs.Exact.{Walk}
 use Rattle.demands.specs.Handles.{given, stands, isMade, NoMore}
-use Rattle.demands.specs.Hub.{Hub, Long, callOn, kept, afterCalls, resultsOf, tableIn, serverOf}
+use Rattle.demands.specs.Hub.{Hub, Long, callOn, kept, afterCalls, resultsOf, tableIn, serverOf, freshMemory, restarted}
 use Rattle.demands.proofs.Hubs.{hub-with, hub-fresh, calls-hub}
 use Rattle.demands.proofs.Answering.{call-answered}
 use Rattle.demands.proofs.Numbers.{number-first}
 use Rattle.demands.proofs.Walking.{walk-hub}
 use Rattle.demands.proofs.Handles.{call-stands, call-unheard, calls-gone}
+use Rattle.demands.proofs.Restart.{restart-hub, told-restart}
 
 -- ---- the memory
 
 -- making a fresh table leaves such memory
 pub fresh-hub : (n : ℕ) → n ≤ 256 → (t w : Bytes) → tableSize n ≤ length t → workloadsSize ≤ length w
-    → Hub n (record { table = make n t w .table; workloads = make n t w .workloads })
+    → Hub n (freshMemory n t w)
 fresh-hub = hub-fresh
 
 -- so do any calls on such memory
@@ -79,3 +80,16 @@ module _ (n : ℕ) (m : Memory) (hub : Hub n m) where
   pub handle-gone : (h : Bytes) → stands h (tableIn n m) ≡ true → (between : List Call) → LongOutputs n between → stands h (tableIn n (afterCalls n between m)) ≡ false
       → (later : List Call) → LongOutputs n later → NoMore n h (afterCalls n later (afterCalls n between m))
   handle-gone = calls-gone n m hub
+
+  -- ---- restart
+
+  -- what is said above holds from one fresh table on: a second one gives the same handles again. But a fresh table, made of any long enough
+  -- buffers, into which the host writes bytes 0 to 3 of the old one, is such memory
+  pub restart-runs : (t w : Bytes) → tableSize n ≤ length t → workloadsSize ≤ length w → Hub n (restarted n m t w)
+  restart-runs = restart-hub n m hub
+
+  -- and no handle that a call x gave before the restart is given after it, nor is a late result for it taken
+  pub restart-unheard : (h : Bytes) (x : Call) → Long n x → given h (told (callOn n m x)) ≡ true → (between : List Call) → LongOutputs n between
+      → (t w : Bytes) → tableSize n ≤ length t → workloadsSize ≤ length w → (later : List Call) → LongOutputs n later
+      → NoMore n h (afterCalls n later (restarted n (afterCalls n between (kept (callOn n m x))) t w))
+  restart-unheard = told-restart n m hub

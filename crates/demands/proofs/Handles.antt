@@ -29,6 +29,15 @@ module _ (n : ℕ) (m : Memory) (hub : Hub n m) where
   unfolding serverIn
   table-after xs l = ap (λ (s : Server). s .table) (calls-after n xs m hub l)
 
+-- what a used handle without a job comes to
+pub no-more : (n : ℕ) (h : Bytes) (u : Memory) → Hub n u → Used h (serverOf n u .table) → stands h (serverOf n u .table) ≡ false → NoMore n h u
+no-more n h u hu used g =
+    record {
+      nobody = rw (table-in n u hu) g;
+      ungiven = λ x l. ap (given h) (call-tells n u hu x l) ∙ gone-ungiven n (x .event) (serverOf n u) (hub-runs n u hu) h used g;
+      late = λ x l c b e o z. call-number n u hu x l ∙ ap (λ (v : Event). answer v (serverOf n u) .number) e ∙ late-number c b h (serverOf n u) g (rw (← (table-in n u hu)) o) z;
+    }
+
 module _ (n : ℕ) (m : Memory) (hub : Hub n m) (h : Bytes) where
   pub call-stands : (x : Call) → Long n x → given h (told (callOn n m x)) ≡ true
       → stands h (tableIn n m) || isMade h (tableIn n m) (tableIn n (kept (callOn n m x))) ≡ true
@@ -49,14 +58,6 @@ module _ (n : ℕ) (m : Memory) (hub : Hub n m) (h : Bytes) where
       ap (given h) (call-tells n m hub x lx)
       ∙ new-unheard n (x .event) (serverOf n m) (hub-runs n m hub) (events between) (y .event) h (subst (Running n) q (hub-runs n u hu)) (subst (λ (s : Server). isMade h (s .table) (next (y .event) s .table) ≡ true) q k)
 
-  no-more : (u : Memory) → Hub n u → Used h (serverOf n u .table) → stands h (serverOf n u .table) ≡ false → NoMore n h u
-  no-more u hu used g =
-      record {
-        nobody = rw (table-in n u hu) g;
-        ungiven = λ x l. ap (given h) (call-tells n u hu x l) ∙ gone-ungiven n (x .event) (serverOf n u) (hub-runs n u hu) h used g;
-        late = λ x l c b e o z. call-number n u hu x l ∙ ap (λ (v : Event). answer v (serverOf n u) .number) e ∙ late-number c b h (serverOf n u) g (rw (← (table-in n u hu)) o) z;
-      }
-
   -- a job stood, and after some calls it does not: so it is after any calls more
   pub calls-gone : stands h (tableIn n m) ≡ true → (between : List Call) → LongOutputs n between → stands h (tableIn n (afterCalls n between m)) ≡ false
       → (later : List Call) → LongOutputs n later → NoMore n h (afterCalls n later (afterCalls n between m))
@@ -68,6 +69,6 @@ module _ (n : ℕ) (m : Memory) (hub : Hub n m) (h : Bytes) where
       let hv = calls-hub n later u hu ll in
       let q = calls-after n later u hu ll in
       let a : Used h (serverOf n u .table) = subst (λ (s : Server). Used h (s .table)) (sym (calls-after n between m hub lb)) (used-after (events between) (serverOf n m) h (stands-used n (serverOf n m) (hub-runs n m hub) h stood)) in
-      no-more v hv
+      no-more n h v hv
       (subst (λ (s : Server). Used h (s .table)) (sym q) (used-after (events later) (serverOf n u) h a))
       (ap (λ (s : Server). stands h (s .table)) q ∙ gone-after n (events later) (serverOf n u) (hub-runs n u hu) h a gone)

@@ -9,4 +9,5 @@ pub mod Handles
 pub mod Numbers
 pub mod Answering
 pub mod Walking
+pub mod Restart
 pub mod Demands

@@ -20,7 +20,7 @@ use Rattle.server.specs.Call.{Result, sentBytes, performed}
 use Rattle.server_calls.proofs.Follows.{Running}
 use Rattle.server_calls.proofs.Output.{output-fits}
 use Rattle.server_blind.proofs.OpaqueParts.{packetOf}
-use Rattle.demands.specs.Messages.{Message, cut, messagesIn, told, messageOf, messagesOf}
+use Rattle.demands.specs.Messages.{Addressed, cut, packetsIn, Message, messageIn, told, messageOf, messagesOf}
 use Rattle.demands.proofs.ReadsBack.{Reads, all-read}
 
 -- a packet that is read, and what follows it: its size leads to its end
@@ -32,6 +32,10 @@ got-ends p rest kind args e =
     let h : Headed (responses .magic) (responses .most) p = header-good _ _ p (read-got responses p kind args e .headed) in
     record { size = omega (arith, number-front p rest 8 (omega (arith, h .long)), h .whole) }
 
+-- a packet as it is sent
+abbrev pub sentAs : Event → Server → Send → Addressed
+sentAs e s x = record { to = render e s x .to; bytes = packetOf (render e s x) }
+
 module _ (e : Event) (s : Server) where
   reads-ends : (x : Send) (rest : Bytes) → Reads e s x → Ends (packetOf (render e s x)) rest
   unfolding messageOf
@@ -39,14 +43,14 @@ module _ (e : Event) (s : Server) where
   reads-ends (copy to kind) rest r = got-ends _ rest _ _ r
   reads-ends (assign uniq to p) rest r = got-ends _ rest _ _ r
 
-  same-to : (x : Send) → render e s x .to ≡ messageOf e s x .to
+  same-message : (x : Send) → Reads e s x → messageIn (sentAs e s x) ≡ messageOf e s x
   unfolding render messageOf
-  same-to (plain to kind as′) = refl
-  same-to (copy to kind) = refl
-  same-to (assign uniq to p) = refl
+  same-message (plain to kind as′) r = ap (λ (y : Reading). record { to = to; says = y }) r
+  same-message (copy to kind) r = ap (λ (y : Reading). record { to = to; says = y }) r
+  same-message (assign uniq to p) r = ap (λ (y : Reading). record { to = to; says = y }) r
 
   -- any bound on the number of packets will do
-  cut-sent : (k : ℕ) (xs : List Send) → All (Reads e s) xs → length (sentBytes (map (render e s) xs)) ≤ k → cut k (sentBytes (map (render e s) xs)) ≡ map (messageOf e s) xs
+  cut-sent : (k : ℕ) (xs : List Send) → All (Reads e s) xs → length (sentBytes (map (render e s) xs)) ≤ k → cut k (sentBytes (map (render e s) xs)) ≡ map (sentAs e s) xs
   unfolding cut sentBytes
   cut-sent zero [] All.none l = refl
   cut-sent (suc k) [] All.none l = refl
@@ -57,15 +61,20 @@ module _ (e : Event) (s : Server) where
       let n : 12 + numberAt (p ++ rest) 8 ≡ length p = reads-ends x rest r .size in
       let a : take (12 + numberAt (p ++ rest) 8) (p ++ rest) ≡ p = take-at p rest _ (sym n) in
       let b : drop (12 + numberAt (p ++ rest) 8) (p ++ rest) ≡ rest = drop-at p rest _ (sym n) in
-      ap₂ _∷_
-      (ap₂ {C = Message} (λ (c : ℕ) (y : Reading). record { to = c; says = y }) (same-to x) (ap (read responses) a ∙ r))
-      (ap (cut k) b ∙ cut-sent k xs rs (omega (arith, length-append p rest)))
+      ap₂ _∷_ (ap (λ (y : Bytes). record { to = render e s x .to; bytes = y }) a) (ap (cut k) b ∙ cut-sent k xs rs (omega (arith, length-append p rest)))
 
-  pub messages-read : (xs : List Send) → All (Reads e s) xs → messagesIn (sentBytes (map (render e s) xs)) ≡ map (messageOf e s) xs
-  unfolding messagesIn
-  messages-read xs r = cut-sent _ xs r (omega arith)
+  pub packets-sent : (xs : List Send) → All (Reads e s) xs → packetsIn (sentBytes (map (render e s) xs)) ≡ map (sentAs e s) xs
+  unfolding packetsIn
+  packets-sent xs r = cut-sent _ xs r (omega arith)
 
-  pub messages-sent : {n : ℕ} → Running n s → messagesIn (sentBytes (answer e s .sent)) ≡ messagesOf e s
+  same-messages : (xs : List Send) → All (Reads e s) xs → map messageIn (map (sentAs e s) xs) ≡ map (messageOf e s) xs
+  same-messages [] All.none = refl
+  same-messages (x ∷ xs) (All.more r rs) = ap₂ _∷_ (same-message x r) (same-messages xs rs)
+
+  pub messages-read : (xs : List Send) → All (Reads e s) xs → map messageIn (packetsIn (sentBytes (map (render e s) xs))) ≡ map (messageOf e s) xs
+  messages-read xs r = ap (map messageIn) (packets-sent xs r) ∙ same-messages xs r
+
+  pub messages-sent : {n : ℕ} → Running n s → map messageIn (packetsIn (sentBytes (answer e s .sent))) ≡ messagesOf e s
   unfolding messagesOf answer
   messages-sent {n} h = messages-read (decided e s .packets) (all-read n e s h)
 
@@ -76,4 +85,4 @@ module _ (e : Event) (s : Server) where
       let b = sentBytes (answer e s .sent) in
       let f = output-fits n few e s h in
       let q : put 0 b o ≡ b ++ drop (length b) o = put-start b o (omega arith) in
-      ap messagesIn (ap (take (length b)) q ∙ take-append-seam b (drop (length b) o)) ∙ messages-sent h
+      ap (λ (y : Bytes). map messageIn (packetsIn y)) (ap (take (length b)) q ∙ take-append-seam b (drop (length b) o)) ∙ messages-sent h

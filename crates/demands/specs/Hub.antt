@@ -3,12 +3,14 @@ use Prim.Native.Nat.{ℕ, _≤_}
 use mathlib.Core.Path.{_≡_}
 use mathlib.Core.Bool.{true}
 use mathlib.Core.List.{List}
-use lib.ListN.{length}
+use lib.ListN.{length, take}
+use Rattle.octets.specs.Bytes.{Bytes}
+use Rattle.octets.specs.Put.{put}
 use Rattle.server.specs.Sizes.{workloadsSize, outputSize}
 use Rattle.server.specs.Table.{Table}
 use Rattle.server.specs.Server.{Server}
 use Rattle.server.specs.Layout.{tableSize, tableOf}
-use Rattle.server.specs.Call.{Result, serverIn, isSound, call}
+use Rattle.server.specs.Call.{Result, serverIn, isSound, call, make}
 use Rattle.server_calls.specs.History.{Call, Memory, calls, leaves}
 
 -- kept buffers for n connections: long enough, and the table breaks no table rule. Whatever a call leaves of such memory is such memory,
@@ -43,3 +45,11 @@ tableIn n m = tableOf n (m .table)
 
 abbrev pub serverOf : ℕ → Memory → Server
 serverOf n m = serverIn n (m .table) (m .workloads)
+
+-- a fresh table made of the buffers t and w
+abbrev pub freshMemory : ℕ → Bytes → Bytes → Memory
+freshMemory n t w = record { table = make n t w .table; workloads = make n t w .workloads }
+
+-- the same, with the last serial of an old table, its bytes 0 to 3, written into it
+abbrev pub restarted : ℕ → Memory → Bytes → Bytes → Memory
+restarted n old t w = record { table = put 0 (take 4 (old .table)) (make n t w .table); workloads = make n t w .workloads }

@@ -1,0 +1,175 @@
+-- A fresh table into which the host writes the last serial of an old one: it runs, and no handle of the old one is given again.
+-- Assumes nothing.
+use Prim.Native.Nat.{ℕ, zero, suc, _+_, _≤_, _<_, _^_}
+use mathlib.Core.Path.{_≡_, refl, ap, ap₂, sym, _∙_, subst}
+use mathlib.Core.Bool.{Bool, true, false, not}
+use mathlib.Core.List.{List, [], _∷_, _++_}
+use native.Mathlib.Omega.{arith}
+use borrow.Author.Tests.{lt-ltb, le-leb, ltb-true}
+use lib.ListN.{length, take, drop, replicate, length-replicate}
+use lib.Seq.{take-take}
+use lib.Dec.{ltb, leb}
+use Rattle.octets.specs.Bytes.{Bytes, same, firstZero}
+use Rattle.octets.specs.Put.{put}
+use Rattle.octets.proofs.Strings.{and-left}
+use Rattle.octets.proofs.Laying.{put-upon, length-put}
+use Rattle.lists.proofs.Cases.{All}
+use Rattle.lists.proofs.Rows.{all-replicate}
+use Rattle.server.specs.Sizes.{workloadsSize}
+use Rattle.server.specs.Table.{Table, closed, noFunction, noJob, fresh, withLastSerial, hasHandle}
+use Rattle.server.specs.Rules.{onlyOpen, sleepersIdleFrom, obeys}
+use Rattle.server.specs.Server.{Server, next, start, after}
+use Rattle.server.specs.Layout.{little, tableSize, tableOf, bytesOf, isImage}
+use Rattle.server.specs.Call.{Made, serverIn, isSound, make}
+use Rattle.table_laws.proofs.Image.{image-is}
+use Rattle.server_laws.proofs.Obeyed.{obeyed, obeys-by}
+use Rattle.server_laws.proofs.Openness.{none-open}
+use Rattle.server_laws.proofs.Lengths.{Shaped}
+use Rattle.server_calls.specs.History.{Call, Memory, events}
+use Rattle.server_calls.proofs.Follows.{tableWith, workloadsWith, Running, server-back}
+use Rattle.server_calls.proofs.Histories.{LongOutputs, running-start, make-start}
+use Rattle.demands.specs.Messages.{told}
+use Rattle.demands.specs.Handles.{given, stands, NoMore}
+use Rattle.demands.specs.Hub.{Hub, Long, callOn, kept, afterCalls, tableIn, serverOf, restarted}
+use Rattle.demands.proofs.Hubs.{hub-with, hub-runs, call-tells, call-hub, call-next, calls-hub, calls-after}
+use Rattle.demands.proofs.Gone.{Used, used-after, given-used, gone-after}
+use Rattle.demands.proofs.Handles.{no-more}
+
+-- ---- the server
+
+-- a fresh server whose last serial is k
+unfoldable startFrom : ℕ → ℕ → Server
+startFrom n k = record { table = withLastSerial k (start n .table); workloads = start n .workloads }
+
+fresh-idle : (t : Table) (i n : ℕ) → sleepersIdleFrom t i (replicate n closed) ≡ true
+fresh-idle t i zero = refl
+fresh-idle t i (suc n) = fresh-idle t (suc i) n
+
+obeys-from : (n k : ℕ) → k < 2 ^ 32 → obeys (withLastSerial k (fresh n)) ≡ true
+unfolding fresh same firstZero
+obeys-from n k small =
+    let t = withLastSerial k (fresh n) in
+    obeys-by t
+    (record {
+      sound =
+          record {
+            small = lt-ltb k 4294967296 small;
+            below = all-replicate (λ j. leb (j .row .serial) k) 32 noJob (le-leb 0 k (omega arith));
+            serials = refl;
+            names = refl;
+            texts = refl;
+            sizes = refl;
+            rows = refl;
+            functions = refl;
+            abilities = all-replicate (λ x. onlyOpen t (x .able)) 16 noFunction (none-open t);
+            listeners = all-replicate (λ j. onlyOpen t (j .row .listeners)) 32 noJob (none-open t);
+            holders = refl;
+            clear = all-replicate _ n closed refl;
+            uniques = refl;
+            jobsKnown = refl;
+            ablesKnown = refl;
+          };
+      defined = refl;
+      awaited = refl;
+      idle = fresh-idle t 0 n;
+    })
+
+running-from : (n k : ℕ) → k < 2 ^ 32 → Running n (startFrom n k)
+unfolding startFrom start
+running-from n k small =
+    let h = running-start n in
+    record { shaped = record { connections = h .shaped .connections; functions = h .shaped .functions; jobs = h .shaped .jobs; workloads = h .shaped .workloads; whole = h .shaped .whole }; rules = obeys-from n k small }
+
+-- ---- the bytes
+
+-- the last serial is the first four bytes
+bytes-last : (t : Table) → (rest : Bytes) × ((k : ℕ) → bytesOf (withLastSerial k t) ≡ little 4 k ++ rest)
+unfolding bytesOf
+bytes-last t = (_, λ k. refl)
+
+length-little : (k : ℕ) → length (little 4 k) ≡ 4
+unfolding little
+length-little k = refl
+
+take-little : (k : ℕ) (rest : Bytes) → take 4 (little 4 k ++ rest) ≡ little 4 k
+unfolding little
+take-little k rest = refl
+
+own-last : (t : Table) → withLastSerial (t .last) t ≡ t
+own-last t = refl
+
+-- the first four bytes of a host's memory are its last serial
+first-four : (n : ℕ) (m : Memory) → Hub n m → take 4 (m .table) ≡ little 4 (tableIn n m .last)
+unfolding isSound
+first-four n m hub =
+    let b = m .table in
+    let t = tableOf n b in
+    let (rest, q) = bytes-last t in
+    let i : bytesOf t ≡ take (tableSize n) b = image-is n b (and-left (isImage n b) _ (hub .sound)) in
+    sym (take-take 4 (tableSize n) b (omega arith)) ∙ ap (take 4) (sym i ∙ q (t .last)) ∙ take-little (t .last) rest
+
+module _ (n : ℕ) (old : Memory) (hub : Hub n old) (t w : Bytes) (lt : tableSize n ≤ length t) (lw : workloadsSize ≤ length w) where
+  abbrev last : ℕ
+  last = tableIn n old .last
+
+  last-small : last < 2 ^ 32
+  unfolding serverIn
+  last-small = ltb-true last 4294967296 (obeyed (tableIn n old) (hub-runs n old hub .rules) .sound .small)
+
+  table-is : put 0 (take 4 (old .table)) (make n t w .table) ≡ tableWith (startFrom n last) t
+  unfolding startFrom start fresh
+  table-is =
+      let (rest, q) = bytes-last (fresh n) in
+      ap₂ (put 0) (first-four n old hub) (ap (λ (x : Made). x .table) (make-start n t w lt lw) ∙ ap (λ (b : Bytes). put 0 b t) (q 0))
+      ∙ put-upon 0 (little 4 last) (little 4 0) rest t (length-little last ∙ sym (length-little 0))
+      ∙ ap (λ (b : Bytes). put 0 b t) (sym (q last))
+
+  workloads-are : make n t w .workloads ≡ workloadsWith (startFrom n last) w
+  unfolding startFrom
+  workloads-are = ap (λ (x : Made). x .workloads) (make-start n t w lt lw)
+
+  restarted-is : restarted n old t w ≡ record { table = tableWith (startFrom n last) t; workloads = workloadsWith (startFrom n last) w }
+  restarted-is = ap₂ {C = Memory} (λ (x y : Bytes). record { table = x; workloads = y }) table-is workloads-are
+
+  -- it is a host's memory
+  pub restart-hub : Hub n (restarted n old t w)
+  restart-hub = rw restarted-is (hub-with n (hub .few) (startFrom n last) (running-from n last last-small) t w lt lw)
+
+  restart-server : serverOf n (restarted n old t w) ≡ startFrom n last
+  restart-server = ap (serverOf n) restarted-is ∙ server-back n (hub .few) (startFrom n last) (running-from n last last-small) t w lt lw
+
+  -- a handle that was used in the old table is used, and nobody has it
+  restart-used : (h : Bytes) → Used h (serverOf n old .table) → Used h (serverOf n (restarted n old t w) .table)
+  unfolding serverIn startFrom
+  restart-used h u = subst (λ (s : Server). Used h (s .table)) (sym restart-server) (record { serial = u .serial; is = u .is; some = u .some; past = u .past })
+
+  restart-nobody : (h : Bytes) → stands h (serverOf n (restarted n old t w) .table) ≡ false
+  unfolding startFrom start fresh stands hasHandle
+  restart-nobody h = ap (λ (s : Server). stands h (s .table)) restart-server
+
+  -- no handle that was used in the old table is anybody's later
+  pub restart-gone : (h : Bytes) → Used h (serverOf n old .table) → (later : List Call) → LongOutputs n later → NoMore n h (afterCalls n later (restarted n old t w))
+  restart-gone h u later l =
+      let m = restarted n old t w in
+      let v = afterCalls n later m in
+      let hv = calls-hub n later m restart-hub l in
+      let q = calls-after n later m restart-hub l in
+      let used = restart-used h u in
+      no-more n h v hv
+      (subst (λ (s : Server). Used h (s .table)) (sym q) (used-after (events later) (serverOf n m) h used))
+      (ap (λ (s : Server). stands h (s .table)) q ∙ gone-after n (events later) (serverOf n m) (hub-runs n m restart-hub) h used (restart-nobody h))
+
+-- a handle that some call x gave before: after any calls more, and a restart, it is nobody's
+module _ (n : ℕ) (m : Memory) (hub : Hub n m) (h : Bytes) (x : Call) (lx : Long n x) (g : given h (told (callOn n m x)) ≡ true) (between : List Call) (lb : LongOutputs n between) where
+  abbrev oldMemory : Memory
+  oldMemory = afterCalls n between (kept (callOn n m x))
+
+  pub told-restart : (t w : Bytes) → tableSize n ≤ length t → workloadsSize ≤ length w → (later : List Call) → LongOutputs n later
+      → NoMore n h (afterCalls n later (restarted n oldMemory t w))
+  told-restart t w lt lw later ll =
+      let hx = call-hub n m hub x lx in
+      let ho = calls-hub n between (kept (callOn n m x)) hx lb in
+      let q : serverOf n oldMemory ≡ after (next (x .event) (serverOf n m)) (events between)
+      = calls-after n between (kept (callOn n m x)) hx lb ∙ ap (λ (s : Server). after s (events between)) (call-next n m hub x lx) in
+      let u : Used h (next (x .event) (serverOf n m) .table) = given-used n (x .event) (serverOf n m) (hub-runs n m hub) h (sym (ap (given h) (call-tells n m hub x lx)) ∙ g) in
+      restart-gone n oldMemory ho t w lt lw h (subst (λ (s : Server). Used h (s .table)) (sym q) (used-after (events between) (next (x .event) (serverOf n m)) h u)) later ll
