@@ -14,10 +14,15 @@ use Rattle.server.specs.Call.{call}
 use Rattle.server_calls.specs.History.{Call, Memory}
 use Rattle.server_calls.proofs.Follows.{Running, tableWith, workloadsWith}
 use Rattle.server_calls.proofs.Histories.{LongOutputs}
+use Rattle.server_blind.proofs.Alike.{Alike}
+use Rattle.server_blind.proofs.Outputs.{Both}
+use Rattle.server_blind.proofs.Calls.{AlikeEvents}
+use Rattle.server_blind.proofs.LoneCalls.{SameEvents}
 use Rattle.demands.specs.Messages.{told}
 use Rattle.demands.specs.Answered.{Answered}
 use Rattle.demands.specs.Conditions.{first, conditions}
 use Rattle.demands.specs.Exact.{Walk}
+use Rattle.demands.specs.Blind.{Agree, One}
 use Rattle.demands.specs.Handles.{given, stands, isMade, NoMore}
 use Rattle.demands.specs.Hub.{Hub, Long, callOn, kept, afterCalls, resultsOf, tableIn, serverOf, freshMemory, restarted}
 use Rattle.demands.proofs.Hubs.{hub-with, hub-fresh, calls-hub}
@@ -26,6 +31,8 @@ use Rattle.demands.proofs.Numbers.{number-first}
 use Rattle.demands.proofs.Walking.{walk-hub}
 use Rattle.demands.proofs.Handles.{call-stands, call-unheard, calls-gone}
 use Rattle.demands.proofs.Restart.{restart-hub, told-restart}
+use Rattle.demands.proofs.Agreeing.{histories-agree}
+use Rattle.demands.proofs.OneChanged.{one-changed}
 
 -- ---- the memory
 
@@ -93,3 +100,17 @@ module _ (n : ℕ) (m : Memory) (hub : Hub n m) where
       → (t w : Bytes) → tableSize n ≤ length t → workloadsSize ≤ length w → (later : List Call) → LongOutputs n later
       → NoMore n h (afterCalls n later (restarted n (afterCalls n between (kept (callOn n m x))) t w))
   restart-unheard = told-restart n m hub
+
+-- ---- demand 3
+
+-- two histories whose events differ in opaque bytes alone, on two hosts' memories whose tables are equal, whatever else differs in them (the
+-- workloads, the bytes beyond the layout, the lengths) and whatever outputs are lent: every two calls agree in everything but opaque bytes
+pub demand-3 : (n : ℕ) {xs ys : List Call} → AlikeEvents xs ys → LongOutputs n xs → LongOutputs n ys → (m w : Memory) → Hub n m → Hub n w → tableIn n m ≡ tableIn n w
+    → Both (Agree n) xs ys (resultsOf n xs m) (resultsOf n ys w)
+demand-3 = histories-agree
+
+-- one packet alone has other opaque bytes, of whatever type, refused or not, and all calls after it have the same events: besides, only the
+-- copies of that packet differ, then only the workload in assignments of the job that it made, and no other packet to anybody
+pub demand-3-one : (n : ℕ) (m w : Memory) → Hub n m → Hub n w → serverOf n m ≡ serverOf n w → (x y : Call) → Long n x → Long n y → Alike (x .event) (y .event)
+    → {xs ys : List Call} → SameEvents xs ys → LongOutputs n xs → LongOutputs n ys → One n m w x y xs ys
+demand-3-one = one-changed

@@ -83,21 +83,25 @@ inside-live t p l = by (ltb p (length (t .jobs))) refl
     by true e = ltb-true p (length (t .jobs)) e
     by false e = let q : jobAt t p ≡ noJob = List·getD-eq-default (t .jobs) noJob (ltb-false p (length (t .jobs)) e) in clash (rw q at l) refl
 
--- a job stands after the event that stood not before it: it has the next serial
-pub made-newest : (n : ℕ) (e : Event) (s : Server) → Running n s → (h : Bytes) → isMade h (s .table) (next e s .table) ≡ true
-    → (h ≡ handle lap (suc (s .table .last))) × (suc (s .table .last) < 2 ^ 32)
-made-newest n e s r h m =
+-- a job stands after the event that stood not before it: the event creates it
+pub made-creates : (e : Event) (s : Server) (h : Bytes) → isMade h (s .table) (next e s .table) ≡ true → (k : ℕ) × (h ≡ handle lap k) × Creates s e k
+made-creates e s h m =
     let a = stands-at h (next e s .table) (and-left (stands h (next e s .table)) _ m) in
     let k = jobAt (next e s .table) (a .place) .row .serial in
     let absent : jobAt (s .table) (a .place) .row .serial ≡ k → ⊥ = λ q. clash (at-stands h (s .table) (before a q)) (not-true _ (and-right (stands h (next e s .table)) _ m)) in
-    let c : Creates s e k = record { place = a .place; is = refl; some = eqb-false k 0 (not-true _ (a .live′)); new = absent } in
-    let x : Numbered s e k = numbered c in
-    (a .is ∙ ap (handle lap) (x .is), omega (arith, x .is, x .room))
+    (k, a .is, record { place = a .place; is = refl; some = eqb-false k 0 (not-true _ (a .live′)); new = absent })
   where
     before : (a : At h (next e s .table)) → jobAt (s .table) (a .place) .row .serial ≡ jobAt (next e s .table) (a .place) .row .serial → At h (s .table)
     before a q =
         let i : live (jobAt (s .table) (a .place) .row) ≡ true = ap (λ (k : ℕ). not (eqb k 0)) q ∙ a .live′ in
         record { place = a .place; inside = inside-live (s .table) (a .place) i; live′ = i; is = a .is ∙ ap (handle lap) (sym q) }
+
+-- so it has the next serial
+pub made-newest : (e : Event) (s : Server) (h : Bytes) → isMade h (s .table) (next e s .table) ≡ true → (h ≡ handle lap (suc (s .table .last))) × (suc (s .table .last) < 2 ^ 32)
+made-newest e s h m =
+    let (k, q, c) = made-creates e s h m in
+    let x : Numbered s e k = numbered c in
+    (q ∙ ap (handle lap) (x .is), omega (arith, x .is, x .room))
 
 -- the job with the next serial is made: it stands, and stood not
 pub newest-made : (n : ℕ) (e : Event) (s : Server) → Running n s → s .table .last < 4294967295 → next e s .table .last ≡ suc (s .table .last)
@@ -132,7 +136,7 @@ pub new-unheard : (n : ℕ) (e : Event) (s : Server) → Running n s → (betwee
 new-unheard n e s k between f h j m = never (given h (messagesOf e s)) (λ g.
     let r = after (next e s) between in
     let u = used-after between (next e s) h (given-used n e s k h g) in
-    let (q, room) = made-newest n f r j h m in
+    let (q, room) = made-newest f r h m in
     let z : u .serial ≡ suc (r .table .last) = handle-one-to-one lap _ _ (omega (arith, u .past)) room (sym (u .is) ∙ q) in
     omega (arith, u .past))
 
@@ -140,7 +144,7 @@ new-unheard n e s k between f h j m = never (given h (messagesOf e s)) (λ g.
 
 gone-next : (n : ℕ) (e : Event) (s : Server) → Running n s → (h : Bytes) → Used h (s .table) → stands h (s .table) ≡ false → stands h (next e s .table) ≡ false
 gone-next n e s r h u g = never (stands h (next e s .table)) (λ y.
-    let (q, room) = made-newest n e s r h (and-both (stands h (next e s .table)) _ y (rw g)) in
+    let (q, room) = made-newest e s h (and-both (stands h (next e s .table)) _ y (rw g)) in
     let z : u .serial ≡ suc (s .table .last) = handle-one-to-one lap _ _ (omega (arith, u .past)) room (sym (u .is) ∙ q) in
     omega (arith, u .past))
 

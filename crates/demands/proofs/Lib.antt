@@ -10,4 +10,6 @@ pub mod Numbers
 pub mod Answering
 pub mod Walking
 pub mod Restart
+pub mod Agreeing
+pub mod OneChanged
 pub mod Demands

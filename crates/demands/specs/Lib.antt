@@ -4,3 +4,4 @@ pub mod Handles
 pub mod Conditions
 pub mod Answered
 pub mod Exact
+pub mod Blind

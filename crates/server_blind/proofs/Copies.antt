@@ -42,13 +42,13 @@ data Carries (P : ℕ → Type 0) : Send → Type 0 where
 
 -- ---- what the server sends
 
-members-have : (n s : ℕ) → All (λ (l : ℕ). has s l ≡ true) (members n s)
+pub members-have : (n s : ℕ) → All (λ (l : ℕ). has s l ≡ true) (members n s)
 unfolding members
 members-have zero s = All.none
 members-have (suc n) s =
     all-append (members-have n s) (cond-cases (All (λ (l : ℕ). has s l ≡ true)) (has s n) (λ e. All.more e All.none) (λ e. All.none))
 
-all-filter : {P : ℕ → Type 0} (f : ℕ → Bool) {xs : List ℕ} → All P xs → All P (filter f xs)
+pub all-filter : {P : ℕ → Type 0} (f : ℕ → Bool) {xs : List ℕ} → All P xs → All P (filter f xs)
 all-filter f All.none = All.none
 all-filter {P} f (All.more {a = x} q qs) = cond-both (All P) (f x) (All.more q (all-filter f qs)) (all-filter f qs)
 

@@ -66,7 +66,7 @@ pub record LoneMade (k : ℕ) (n : ℕ) (m : Memory) (x y : Call) (xs ys : List 
 abbrev pub SameEvents : List Call → List Call → Type 0
 SameEvents xs ys = All2 (λ (x y : Call). x .event ≡ y .event) xs ys
 
-same-alike : {xs ys : List Call} → SameEvents xs ys → AlikeEvents xs ys
+pub same-alike : {xs ys : List Call} → SameEvents xs ys → AlikeEvents xs ys
 same-alike All2.none = All2.none
 same-alike (All2.more {a = x} e rest) = All2.more (subst (Alike (x .event)) e (alike-same (x .event))) (same-alike rest)
 

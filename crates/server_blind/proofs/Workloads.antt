@@ -36,7 +36,7 @@ near-same k [] ws = beyond
 near-same k (j ∷ js) [] = short
 near-same k (j ∷ js) (w ∷ ws) = place (λ n. refl) (near-same k js ws)
 
-near-at : {k : ℕ} {js : List Job} {ws vs : List Bytes} → Near k js ws vs → (i : ℕ) → ¬ (getD js i noJob .row .serial ≡ k) → getD ws i [] ≡ getD vs i []
+pub near-at : {k : ℕ} {js : List Job} {ws vs : List Bytes} → Near k js ws vs → (i : ℕ) → ¬ (getD js i noJob .row .serial ≡ k) → getD ws i [] ≡ getD vs i []
 near-at beyond i n = refl
 near-at short i n = refl
 near-at (place f r) zero n = f n

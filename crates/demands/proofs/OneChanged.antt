@@ -1,0 +1,207 @@
+-- One packet of a history has other opaque bytes: the copies of that packet differ, later the assignments of the job that it made, and
+-- nothing else. Assumes nothing.
+use Prim.Native.Nat.{ℕ, zero, suc, _<_}
+use mathlib.Core.Path.{_≡_, refl, ap, ap₂, sym, _∙_, subst}
+use mathlib.Core.Bool.{Bool, true, false, cond, not}
+use mathlib.Core.Option.{some}
+use mathlib.Core.List.{List, [], _∷_, _++_, map}
+use native.Mathlib.Decide.{ℕ-discrete}
+use native.Mathlib.Omega.{arith}
+use lib.ListN.{length, getD}
+use Rattle.octets.specs.Bytes.{Bytes}
+use Rattle.octets.proofs.Strings.{and-left, and-right}
+use Rattle.handle.specs.Handle.{handle, lap}
+use Rattle.sets.specs.Sets.{has}
+use Rattle.lists.specs.Lists.{fit, filter}
+use Rattle.lists.proofs.Lists.{length-fit}
+use Rattle.lists.proofs.Cases.{All, All2, cond-both, all-append, all-map, all-any}
+use Rattle.lists.proofs.Rows.{never}
+use Rattle.server.specs.Table.{Table, jobAt, functionAt}
+use Rattle.server.specs.Requests.{Event, sends, Request, requestIn}
+use Rattle.server.specs.Refusals.{isTold}
+use Rattle.server.specs.Events.{Send, plain, copy, assign, Decision, silence, refuse, settle, noop, dropped, toWake, hears, listenersOf}
+use Rattle.server.specs.Server.{Server, decided, next, after}
+use Rattle.server.specs.Call.{serverIn}
+use Rattle.server_laws.proofs.Outcome.{Change, Served, Outcome, outcome}
+use Rattle.server_laws.proofs.Serials.{Creates, Creation, nothing, one, creation, numbered, creates-grown}
+use Rattle.server_calls.specs.History.{Call, Memory, events, calls, leaves}
+use Rattle.server_calls.proofs.Follows.{Running}
+use Rattle.server_calls.proofs.Histories.{LongOutputs}
+use Rattle.server_blind.proofs.Alike.{Alike, alike-same, decided-alike}
+use Rattle.server_blind.proofs.Workloads.{Apart, near-at, next-apart}
+use Rattle.server_blind.proofs.Copies.{members-have, all-filter}
+use Rattle.server_blind.proofs.Lone.{lone-none}
+use Rattle.server_blind.proofs.Stored.{created-apart}
+use Rattle.server_blind.proofs.Outputs.{Both}
+use Rattle.server_blind.proofs.LoneCalls.{SameEvents, same-alike}
+use Rattle.demands.specs.Messages.{Message, told, messageOf, messagesOf}
+use Rattle.demands.specs.Handles.{isMade}
+use Rattle.demands.specs.Hub.{Hub, Long, callOn, kept, afterCalls, resultsOf, tableIn, serverOf}
+use Rattle.demands.specs.Blind.{Agree, Copied, echoed, forwarded, ButCopies, copies, ButAssigned, assigned, Packets, Later, made-none, made-one, One}
+use Rattle.demands.specs.Blind as B
+use Rattle.demands.proofs.Hubs.{hub-runs, call-tells, call-hub, call-next, calls-hub, calls-after}
+use Rattle.demands.proofs.Gone.{made-creates, newest-made}
+use Rattle.demands.proofs.Agreeing.{calls-agree, histories-agree, tables-next}
+
+-- ---- which packets are copies
+
+data Fair (t : Table) (e : Event) : Send → Type 0 where
+  a-plain : {to kind : ℕ} {as′ : List Bytes} → Fair t e (plain to kind as′)
+  an-assignment : {uniq : Bool} {to p : ℕ} → Fair t e (assign uniq to p)
+  a-copy : {to kind : ℕ} → Copied t e to kind → Fair t e (copy to kind)
+
+module _ (c : ℕ) (b : Bytes) (t : Table) where
+  fair-change : {a : Request} {ss : List Send} {u : Table} → requestIn b ≡ a → Change c t a ss u → All (Fair t (sends c b)) ss
+  fair-change q (Change.able f k r) = All.none
+  fair-change q (Change.unknown f r) = All.none
+  fair-change q (Change.disabled f k r) = All.none
+  fair-change q Change.cleared = All.none
+  fair-change q Change.slept = All.none
+  fair-change q (Change.noJobFor uniq r) = All.more a-plain All.none
+  fair-change q (Change.grabbed uniq p r) = All.more an-assignment All.none
+  fair-change q (Change.joins priority background f u size p r) = All.more a-plain All.none
+  fair-change q (Change.accepts priority background f u size k p r₁ r₂ r₃ l) = All.more a-plain All.none
+  fair-change q (Change.worker how kind h n d p r) =
+      all-map (λ l. copy l kind) (λ l m. a-copy (forwarded c b how kind h n d q p r l m)) (all-filter (hears how t) (members-have (length (t .connections)) (jobAt t p .row .listeners)))
+  fair-change q (Change.status h o r) = All.more a-plain All.none
+  fair-change q (Change.optioned name r) = All.more a-plain All.none
+  fair-change q Change.echoed = All.more (a-copy (echoed c b q)) All.none
+
+fair-settled : (t : Table) (e : Event) (ss : List Send) (u : Table) → All (Fair t e) ss → All (Fair t e) (settle ss u .packets)
+unfolding settle
+fair-settled t e ss u p = all-append p (all-map noop {Q = λ l. Unit {0}} (λ l x. a-plain) (all-any (λ l. tt) (toWake (dropped u))))
+
+fair-served : (c : ℕ) (b : Bytes) (t : Table) {a : Request} {d : Decision} → requestIn b ≡ a → Served c t a d → All (Fair t (sends c b)) (d .packets)
+unfolding refuse
+fair-served c b t q (Served.refused a n r) = cond-both (All (Fair t (sends c b))) (isTold n) (All.more a-plain All.none) All.none
+fair-served c b t q (Served.done a ss u m) = fair-settled t (sends c b) ss u (fair-change c b t q m)
+
+fair-outcome : (t : Table) {e : Event} {d : Decision} → Outcome t e d → All (Fair t e) (d .packets)
+unfolding silence
+fair-outcome t (Outcome.silenced e n r) = All.none
+fair-outcome t (Outcome.opened c o) = fair-settled t _ [] _ All.none
+fair-outcome t (Outcome.closed c o) = fair-settled t _ [] _ All.none
+fair-outcome t (Outcome.serves c b d o r) = fair-served c b t refl r
+
+-- ---- the event itself
+
+module _ {e f : Event} (a : Alike e f) (s : Server) where
+  but-copies : {xs : List Send} → All (Fair (s .table) e) xs → All2 (ButCopies (s .table) e f) (map (messageOf e s) xs) (map (messageOf f s) xs)
+  unfolding messageOf
+  but-copies All.none = All2.none
+  but-copies (All.more a-plain ps) = All2.more (B.ButCopies.equal refl) (but-copies ps)
+  but-copies (All.more an-assignment ps) = All2.more (B.ButCopies.equal refl) (but-copies ps)
+  but-copies (All.more (a-copy {to} {kind} x) ps) = All2.more (copies to kind x refl refl) (but-copies ps)
+
+  pub itself-copies : All2 (ButCopies (s .table) e f) (messagesOf e s) (messagesOf f s)
+  unfolding messagesOf
+  itself-copies = rw (← (decided-alike a s s refl)) (but-copies (fair-outcome (s .table) (outcome e s)))
+
+-- ---- events after one that made a job
+
+module _ (k : ℕ) (e : Event) (s r : Server) (a : Apart k s r) where
+  but-assigned : (x : Send) → ButAssigned k (messageOf e s x) (messageOf e r x)
+  unfolding messageOf
+  but-assigned (plain to kind as′) = B.ButAssigned.equal refl
+  but-assigned (copy to kind) = B.ButAssigned.equal refl
+  but-assigned (assign uniq to p) = by uniq (ℕ-discrete (jobAt (s .table) p .row .serial) k)
+    where
+      by : (z : Bool) → Dec (jobAt (s .table) p .row .serial ≡ k) → ButAssigned k (messageOf e s (assign z to p)) (messageOf e r (assign z to p))
+      by z (no m) = B.ButAssigned.equal (rw (near-at (a .workloads) p m, a .table))
+      by true (yes q) =
+          let j = jobAt (s .table) p in
+          let n = j .row .size in
+          assigned to true (functionAt (s .table) (j .row .function) .name) (j .unique ∷ []) (fit n (getD (s .workloads) p [])) (fit n (getD (r .workloads) p [])) (length-fit n _ ∙ sym (length-fit n _)) (rw q) (rw (← (a .table), q))
+      by false (yes q) =
+          let j = jobAt (s .table) p in
+          let n = j .row .size in
+          assigned to false (functionAt (s .table) (j .row .function) .name) [] (fit n (getD (s .workloads) p [])) (fit n (getD (r .workloads) p [])) (length-fit n _ ∙ sym (length-fit n _)) (rw q) (rw (← (a .table), q))
+
+  all-assigned : (xs : List Send) → All2 (ButAssigned k) (map (messageOf e s) xs) (map (messageOf e r) xs)
+  all-assigned [] = All2.none
+  all-assigned (x ∷ xs) = All2.more (but-assigned x) (all-assigned xs)
+
+  apart-messages : All2 (ButAssigned k) (messagesOf e s) (messagesOf e r)
+  unfolding messagesOf
+  apart-messages = rw (← (decided-alike (alike-same e) s r (a .table))) (all-assigned (decided e s .packets))
+
+-- ---- over calls
+
+all-same : {A : Type 0} (xs : List A) → All2 (λ (a b : A). a ≡ b) xs xs
+all-same [] = All2.none
+all-same (x ∷ xs) = All2.more refl (all-same xs)
+
+all-equal : {A : Type 0} (xs ys : List A) → xs ≡ ys → All2 (λ (a b : A). a ≡ b) xs ys
+all-equal xs ys q = subst (All2 (λ a b. a ≡ b) xs) q (all-same xs)
+
+module _ (n : ℕ) where
+  -- memory that holds one server
+  same-calls : {xs ys : List Call} → SameEvents xs ys → LongOutputs n xs → LongOutputs n ys → (u v : Memory) → Hub n u → Hub n v → serverOf n u ≡ serverOf n v
+      → Both (Packets (λ a b. a ≡ b)) xs ys (resultsOf n xs u) (resultsOf n ys v)
+  unfolding calls
+  same-calls All2.none All.none All.none u v hu hv q = Both.none
+  same-calls (All2.more {a = x} {b = y} e rest) (All.more lx ls) (All.more ly ms) u v hu hv q =
+      Both.more
+      (all-equal _ _ (call-tells n u hu x lx ∙ ap₂ messagesOf e q ∙ sym (call-tells n v hv y ly)))
+      (same-calls rest ls ms (kept (callOn n u x)) (kept (callOn n v y)) (call-hub n u hu x lx) (call-hub n v hv y ly) (call-next n u hu x lx ∙ ap₂ next e q ∙ sym (call-next n v hv y ly)))
+
+  -- memory that holds two servers that differ in the workload of the job with serial k
+  apart-next : (k : ℕ) (u v : Memory) → Hub n u → Hub n v → Apart k (serverOf n u) (serverOf n v) → (x y : Call) → Long n x → Long n y → x .event ≡ y .event
+      → Apart k (serverOf n (kept (callOn n u x))) (serverOf n (kept (callOn n v y)))
+  apart-next k u v hu hv a x y lx ly e = rw (call-next n u hu x lx, call-next n v hv y ly, ← e) (next-apart k (x .event) (serverOf n u) (serverOf n v) a)
+
+  apart-calls : (k : ℕ) {xs ys : List Call} → SameEvents xs ys → LongOutputs n xs → LongOutputs n ys → (u v : Memory) → Hub n u → Hub n v → Apart k (serverOf n u) (serverOf n v)
+      → Both (Packets (ButAssigned k)) xs ys (resultsOf n xs u) (resultsOf n ys v) × Apart k (serverOf n (afterCalls n xs u)) (serverOf n (afterCalls n ys v))
+  unfolding calls leaves
+  apart-calls k All2.none All.none All.none u v hu hv a = (Both.none, a)
+  apart-calls k (All2.more {a = x} {b = y} e rest) (All.more lx ls) (All.more ly ms) u v hu hv a =
+      let (b, c) = apart-calls k rest ls ms (kept (callOn n u x)) (kept (callOn n v y)) (call-hub n u hu x lx) (call-hub n v hv y ly) (apart-next k u v hu hv a x y lx ly e) in
+      let q : All2 (ButAssigned k) (told (callOn n u x)) (told (callOn n v y)) = rw (call-tells n u hu x lx, call-tells n v hv y ly, ← e) (apart-messages k (x .event) (serverOf n u) (serverOf n v) a) in
+      (Both.more q b, c)
+
+-- ---- one changed call
+
+module _ (n : ℕ) (m w : Memory) (hm : Hub n m) (hw : Hub n w) (same : serverOf n m ≡ serverOf n w) (x y : Call) (lx : Long n x) (ly : Long n y) (a : Alike (x .event) (y .event))
+    {xs ys : List Call} (rest : SameEvents xs ys) (lxs : LongOutputs n xs) (lys : LongOutputs n ys) where
+  abbrev u : Memory
+  u = kept (callOn n m x)
+
+  abbrev v : Memory
+  v = kept (callOn n w y)
+
+  hu : Hub n u
+  hu = call-hub n m hm x lx
+
+  hv : Hub n v
+  hv = call-hub n w hw y ly
+
+  server-v : serverOf n v ≡ next (y .event) (serverOf n m)
+  server-v = call-next n w hw y ly ∙ ap (next (y .event)) (sym same)
+
+  same-table : tableIn n m ≡ tableIn n w
+  unfolding serverIn
+  same-table = ap (λ (s : Server). s .table) same
+
+  later-by : Creation (serverOf n m) (x .event) → Later n m u v xs ys
+  unfolding serverIn
+  later-by (nothing k z) =
+      let q : serverOf n u ≡ serverOf n v = call-next n m hm x lx ∙ lone-none a (serverOf n m) z ∙ sym server-v in
+      made-none (λ h. never _ (λ g. let (i, p, c) = made-creates (x .event) (serverOf n m) h (subst (λ (s : Server). isMade h (tableIn n m) (s .table) ≡ true) (call-next n m hm x lx) g) in z i c))
+      q (same-calls n rest lxs lys u v hu hv q)
+  later-by (one c i k d f) =
+      let s = serverOf n m in
+      let l : ℕ = suc (s .table .last) in
+      let ap′ : Apart l (serverOf n u) (serverOf n v) = rw (call-next n m hm x lx, server-v) (created-apart a s l d) in
+      let (b, r) = apart-calls n l rest lxs lys u v hu hv ap′ in
+      made-one l (subst (λ (z : Server). isMade (handle lap l) (tableIn n m) (z .table) ≡ true) (sym (call-next n m hm x lx)) (newest-made n (x .event) s (hub-runs n m hm) (k .room) (creates-grown d)))
+      b (λ p z. near-at (r .workloads) p z)
+
+  pub one-changed : One n m w x y xs ys
+  unfolding serverIn
+  one-changed =
+      record {
+        itself = calls-agree n m w hm hw same-table x y lx ly a;
+        packets = rw (call-tells n m hm x lx, call-tells n w hw y ly, ← same) (itself-copies a (serverOf n m));
+        others = histories-agree n (same-alike rest) lxs lys u v hu hv (tables-next n m w hm hw same-table x y lx ly a);
+        later = later-by (creation (serverOf n m) (x .event));
+      }
