@@ -12,4 +12,5 @@ pub mod Walking
 pub mod Restart
 pub mod Agreeing
 pub mod OneChanged
+pub mod Submissions
 pub mod Demands

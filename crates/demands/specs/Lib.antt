@@ -5,3 +5,4 @@ pub mod Conditions
 pub mod Answered
 pub mod Exact
 pub mod Blind
+pub mod Listening

@@ -22,7 +22,7 @@ use Rattle.server_laws.proofs.Obeyed.{obeyed}
 
 -- ---- no job is dropped
 
-awaited-kept : (a b c : Bool) → implies a (b || not c) ≡ true → a && (not b && c) ≡ false
+pub awaited-kept : (a b c : Bool) → implies a (b || not c) ≡ true → a && (not b && c) ≡ false
 awaited-kept true true c e = refl
 awaited-kept true false true e = clash refl (sym e)
 awaited-kept true false false e = refl

@@ -19,3 +19,4 @@ pub mod Kept
 pub mod AtRest
 pub mod Words
 pub mod Waking
+pub mod Fates

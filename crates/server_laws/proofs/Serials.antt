@@ -111,7 +111,7 @@ worked-follows throws n d j = ended refl
 
 -- ---- a new job
 
-free-place : (t : Table) (p : ℕ) → freePlace t ≡ some p → (jobAt t p .row .serial ≡ 0) × (p < length (t .jobs))
+pub free-place : (t : Table) (p : ℕ) → freePlace t ≡ some p → (jobAt t p .row .serial ≡ 0) × (p < length (t .jobs))
 unfolding freeRow
 free-place t p e =
     let h = found (λ r. not (live r)) noRow (rowsOf t) (some p) e in
@@ -124,7 +124,7 @@ unfolding insert has
 insert-some c e = let q : cond (eqb (0 / 2 ^ c % 2) 1) 0 (0 + 2 ^ c) ≡ 0 = e in let r : 0 + 2 ^ c ≡ 0 = rw (zero-div (2 ^ c)) at q in omega (arith, one-le-pow c 2 (omega arith))
 
 -- a new job is background or has a listener, so it is not dropped
-new-stays : (c priority : ℕ) (b : Bool) (q : ℕ) (u : Bytes) (size n : ℕ) → unlessLost (newJob c priority b q u size (suc n)) .row .serial ≡ suc n
+pub new-stays : (c priority : ℕ) (b : Bool) (q : ℕ) (u : Bytes) (size n : ℕ) → unlessLost (newJob c priority b q u size (suc n)) .row .serial ≡ suc n
 new-stays c priority true q u size n = rw and-false
 new-stays c priority false q u size n = rw (ne-eqb (insert 0 c) 0 (insert-some c), and-false)
 

@@ -1,0 +1,57 @@
+-- Who has been told a job's handle since it opened its connection, from a history's events and answers alone; and whose name stands in the
+-- table as a listener. Assumes nothing.
+use Prim.Native.Nat.{ℕ}
+use mathlib.Core.Bool.{Bool, true, false, cond, _||_, _&&_}
+use mathlib.Core.List.{List, [], _∷_}
+use lib.Dec.{eqb}
+use Rattle.octets.specs.Bytes.{Bytes}
+use Rattle.sets.specs.Sets.{has}
+use Rattle.packet.specs.Layout.{oneOf}
+use Rattle.packet.specs.Packet.{Reading, refused, got}
+use Rattle.lists.specs.Lists.{any}
+use Rattle.server.specs.Table.{Table, hasHandle}
+use Rattle.server.specs.Requests.{Event, opens, closes, sends}
+use Rattle.server.specs.Call.{Result}
+use Rattle.server_calls.specs.History.{Call}
+use Rattle.demands.specs.Messages.{Message, told}
+use Rattle.demands.specs.Handles.{firstIs}
+use Rattle.demands.specs.Conditions.{typeOf}
+
+-- the event opens or closes connection c
+abbrev pub turns : ℕ → Event → Bool
+turns c (opens d) = eqb d c
+turns c (closes d) = eqb d c
+turns c (sends d b) = false
+
+-- the submissions in the foreground: 7 SUBMIT_JOB, 21 SUBMIT_JOB_HIGH, 33 SUBMIT_JOB_LOW
+abbrev pub isForeground : ℕ → Bool
+isForeground kind = oneOf (7 ∷ 21 ∷ 33 ∷ []) kind
+
+-- the event is one of them, from connection c
+abbrev pub submits : ℕ → Event → Bool
+submits c (opens d) = false
+submits c (closes d) = false
+submits c (sends d b) = eqb d c && isForeground (typeOf b)
+
+-- one of these packets is JOB_CREATED with this handle, to connection c
+abbrev pub createdIs : Bytes → Reading → Bool
+createdIs h (refused n) = false
+createdIs h (got kind as′) = eqb kind 8 && firstIs h as′
+
+unfoldable pub tellsCreated : ℕ → Bytes → List Message → Bool
+tellsCreated c h ms = any (λ m. eqb (m .to) c && createdIs h (m .says)) ms
+
+-- whether connection c has been told handle h since its open, after one more event with this number and these packets: an open or a close
+-- that is done begins anew; JOB_CREATED in answer to its own foreground submission tells it
+abbrev pub heardAfter : ℕ → Bytes → Bool → Event → ℕ → List Message → Bool
+heardAfter c h before e number ms = cond (eqb number 0 && turns c e) false (before || (submits c e && tellsCreated c h ms))
+
+-- so over a history
+unfoldable pub heard : ℕ → Bytes → Bool → List Call → List Result → Bool
+heard c h before [] rs = before
+heard c h before (x ∷ xs) [] = before
+heard c h before (x ∷ xs) (r ∷ rs) = heard c h (heardAfter c h before (x .event) (r .number) (told r)) xs rs
+
+-- connection c is a listener of the job with this handle
+unfoldable pub listens : ℕ → Bytes → Table → Bool
+listens c h t = any (λ j. hasHandle h (j .row) && has (j .row .listeners) c) (t .jobs)
