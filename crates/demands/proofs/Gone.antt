@@ -46,16 +46,15 @@ pub last-fits : (n : ℕ) (s : Server) → Running n s → s .table .last < 2 ^ 
 last-fits n s h = ltb-true (s .table .last) 4294967296 (obeyed (s .table) (h .rules) .sound .small)
 
 -- the serial of an unfinished job lies from 1 to the last
+pub serial-past : (n : ℕ) (s : Server) → Running n s → (p : ℕ) → p < length (s .table .jobs) → jobAt (s .table) p .row .serial ≤ s .table .last
+serial-past n s r p i =
+    let t = s .table in
+    leb-true _ (t .last) (all-at (λ j. leb (j .row .serial) (t .last)) (t .jobs) p noJob (obeyed t (r .rules) .sound .below) i)
+
 at-used : (n : ℕ) (s : Server) → Running n s → (h : Bytes) → At h (s .table) → Used h (s .table)
 at-used n s r h a =
-    let t = s .table in
-    let z : jobAt t (a .place) .row .serial ≡ 0 → ⊥ = eqb-false (jobAt t (a .place) .row .serial) 0 (not-true _ (a .live′)) in
-    record {
-      serial = jobAt t (a .place) .row .serial;
-      is = a .is;
-      some = omega arith;
-      past = leb-true _ (t .last) (all-at (λ j. leb (j .row .serial) (t .last)) (t .jobs) (a .place) noJob (obeyed t (r .rules) .sound .below) (a .inside));
-    }
+    let z : jobAt (s .table) (a .place) .row .serial ≡ 0 → ⊥ = eqb-false (jobAt (s .table) (a .place) .row .serial) 0 (not-true _ (a .live′)) in
+    record { serial = jobAt (s .table) (a .place) .row .serial; is = a .is; some = omega arith; past = serial-past n s r (a .place) (a .inside) }
 
 pub stands-used : (n : ℕ) (s : Server) → Running n s → (h : Bytes) → stands h (s .table) ≡ true → Used h (s .table)
 stands-used n s r h e = at-used n s r h (stands-at h (s .table) e)
@@ -76,7 +75,7 @@ given-used n e s r h g = by (given-known e s h g)
 
 -- ---- a job that is made
 
-inside-live : (t : Table) (p : ℕ) → live (jobAt t p .row) ≡ true → p < length (t .jobs)
+pub inside-live : (t : Table) (p : ℕ) → live (jobAt t p .row) ≡ true → p < length (t .jobs)
 inside-live t p l = by (ltb p (length (t .jobs))) refl
   where
     by : (b : Bool) → ltb p (length (t .jobs)) ≡ b → p < length (t .jobs)

@@ -13,4 +13,5 @@ pub mod Restart
 pub mod Agreeing
 pub mod OneChanged
 pub mod Submissions
+pub mod Listeners
 pub mod Demands

@@ -40,7 +40,7 @@ pub record Tests (kind : ℕ) (able new work′ option′ : Bool) : Type 0 where
   pub isOption : eqb kind 26 ≡ option′
 
 module _ (a b : Bytes) where
-  abbrev Asks : ℕ → Shape → Request → Type 0
+  abbrev pub Asks : ℕ → Shape → Request → Type 0
   Asks k s (R.bad n) = isOwn s ≡ false
   Asks k s (canDo f) = Tests k true false false false × (f ≡ a)
   Asks k s (submit priority background f u size) = Tests k false true false false × (f ≡ a) × (u ≡ b)
@@ -68,7 +68,7 @@ module _ (a b : Bytes) where
 tests : (k : ℕ) → Tests k (eqb k 1) (isSubmission k) (isWork k) (eqb k 26)
 tests k = record { isAble = refl; isNew = refl; isWork′ = refl; isOption = refl }
 
-asks-at : (kind : ℕ) (a b c : Bytes) → Asks a b kind (requestShape kind) (requested kind a b c)
+pub asks-at : (kind : ℕ) (a b c : Bytes) → Asks a b kind (requestShape kind) (requested kind a b c)
 unfolding requested requestShape
 asks-at kind a b c =
     subst (λ (m : ℕ). Asks a b m (requestShape kind) (requested kind a b c)) (zero-add kind)
