@@ -2,13 +2,14 @@
 -- (`Hub`): a fresh table is one, and whatever calls leave is one. Assumes nothing.
 use Prim.Native.Nat.{ℕ, _≤_}
 use mathlib.Core.Path.{_≡_}
-use mathlib.Core.Bool.{true, false, _||_}
+use mathlib.Core.Bool.{true, false, _||_, _&&_}
 use mathlib.Core.List.{List}
 use lib.ListN.{length}
 use Rattle.octets.specs.Bytes.{Bytes}
 use Rattle.server.specs.Sizes.{workloadsSize}
 use Rattle.server.specs.Layout.{tableSize}
-use Rattle.server.specs.Requests.{Event}
+use Rattle.packet.specs.Packet.{read, requests}
+use Rattle.server.specs.Requests.{Event, sends, fromReading, requestIn}
 use Rattle.server.specs.Server.{Server}
 use Rattle.server.specs.Call.{call}
 use Rattle.server_calls.specs.History.{Call, Memory}
@@ -18,12 +19,13 @@ use Rattle.server_blind.proofs.Alike.{Alike}
 use Rattle.server_blind.proofs.Outputs.{Both}
 use Rattle.server_blind.proofs.Calls.{AlikeEvents}
 use Rattle.server_blind.proofs.LoneCalls.{SameEvents}
-use Rattle.demands.specs.Messages.{told}
+use Rattle.demands.specs.Messages.{told, argumentsOf}
 use Rattle.demands.specs.Answered.{Answered}
-use Rattle.demands.specs.Conditions.{first, conditions}
+use Rattle.demands.specs.Conditions.{first, conditions, typeOf}
+use Rattle.demands.specs.Listening.{heard, listens, wants, EachOnce}
 use Rattle.demands.specs.Exact.{Walk}
 use Rattle.demands.specs.Blind.{Agree, One}
-use Rattle.demands.specs.Handles.{given, stands, isMade, NoMore}
+use Rattle.demands.specs.Handles.{given, stands, isMade, readingTells, NoMore}
 use Rattle.demands.specs.Hub.{Hub, Long, callOn, kept, afterCalls, resultsOf, tableIn, serverOf, freshMemory, restarted}
 use Rattle.demands.proofs.Hubs.{hub-with, hub-fresh, calls-hub}
 use Rattle.demands.proofs.Answering.{call-answered}
@@ -31,6 +33,8 @@ use Rattle.demands.proofs.Numbers.{number-first}
 use Rattle.demands.proofs.Walking.{walk-hub}
 use Rattle.demands.proofs.Handles.{call-stands, call-unheard, calls-gone}
 use Rattle.demands.proofs.Restart.{restart-hub, told-restart}
+use Rattle.demands.proofs.Results.{calls-heard, call-tells-each, fresh-results}
+use Rattle.demands.proofs.Unmasked.{request-read}
 use Rattle.demands.proofs.Agreeing.{histories-agree}
 use Rattle.demands.proofs.OneChanged.{one-changed}
 
@@ -88,6 +92,20 @@ module _ (n : ℕ) (m : Memory) (hub : Hub n m) where
       → (later : List Call) → LongOutputs n later → NoMore n h (afterCalls n later (afterCalls n between m))
   handle-gone = calls-gone n m hub
 
+  -- ---- results
+
+  -- who listens to a job is exactly who was told its handle by JOB_CREATED, in answer to a foreground submission of its own, since it opened
+  -- its connection, by the events and the packets of the history alone (`heard`); who listened when it began counts as told
+  pub listeners-told : (c : ℕ) (h : Bytes) (xs : List Call) → LongOutputs n xs → stands h (tableIn n (afterCalls n xs m)) ≡ true
+      → listens c h (tableIn n (afterCalls n xs m)) ≡ heard c h (listens c h (tableIn n m)) xs (resultsOf n xs m)
+  listeners-told c h xs = calls-heard n c h xs m hub
+
+  -- a worker packet that is done: one copy, with its data as it came, to each listener of the very job that it names, in rising order, of
+  -- type 25 to those alone that set the option; and no other packet at all
+  pub results-go : (x : Call) → Long n x → (d : ℕ) (b h : Bytes) → x .event ≡ sends d b → readingTells h (read requests b) ≡ true → callOn n m x .number ≡ 0
+      → EachOnce (λ l. listens l h (tableIn n m) && wants (tableIn n m) (typeOf b) l) (typeOf b) (argumentsOf (sends d b)) (told (callOn n m x))
+  results-go = call-tells-each n m hub
+
   -- ---- restart
 
   -- what is said above holds from one fresh table on: a second one gives the same handles again. But a fresh table, made of any long enough
@@ -101,7 +119,18 @@ module _ (n : ℕ) (m : Memory) (hub : Hub n m) where
       → NoMore n h (afterCalls n later (restarted n (afterCalls n between (kept (callOn n m x))) t w))
   restart-unheard = told-restart n m hub
 
+-- both together, from a fresh table on: a result goes exactly to those who were told this very handle since their open
+pub results-told : (n : ℕ) → n ≤ 256 → (t w : Bytes) → tableSize n ≤ length t → workloadsSize ≤ length w → (xs : List Call) → LongOutputs n xs
+    → let m = freshMemory n t w in let u = afterCalls n xs m in
+    (x : Call) → Long n x → (d : ℕ) (b h : Bytes) → x .event ≡ sends d b → readingTells h (read requests b) ≡ true → callOn n u x .number ≡ 0
+    → EachOnce (λ l. heard l h false xs (resultsOf n xs m) && wants (tableIn n u) (typeOf b) l) (typeOf b) (argumentsOf (sends d b)) (told (callOn n u x))
+results-told = fresh-results
+
 -- ---- demand 3
+
+-- the server reads a packet with its opaque bytes set to zero. That changes nothing that is asked: it is what the packet layer reads
+pub asked-as-read : (b : Bytes) → requestIn b ≡ fromReading (read requests b)
+asked-as-read = request-read
 
 -- two histories whose events differ in opaque bytes alone, on two hosts' memories whose tables are equal, whatever else differs in them (the
 -- workloads, the bytes beyond the layout, the lengths) and whatever outputs are lent: every two calls agree in everything but opaque bytes

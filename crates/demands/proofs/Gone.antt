@@ -10,11 +10,12 @@ use native.Mathlib.Omega.{arith}
 use borrow.Author.Tests.{eq-eqb, ne-eqb, eqb-true, eqb-false, leb-true, ltb-true, ltb-false, lt-ltb, not-true, not-false}
 use lib.ListN.{length, getD, List·getD-eq-default}
 use lib.Dec.{eqb, leb, ltb}
-use Rattle.octets.specs.Bytes.{Bytes, same}
+use Rattle.octets.specs.Bytes.{Bytes, same, numberAt}
 use Rattle.octets.proofs.Strings.{and-left, and-right, and-both, same-is}
 use Rattle.handle.specs.Handle.{handle, lap}
 use Rattle.handle.proofs.Handles.{handle-one-to-one}
 use Rattle.packet.specs.Packet.{Reading, refused, got, read, requests}
+use Rattle.packet_laws.proofs.Packets.{read-got}
 use Rattle.lists.specs.Lists.{find}
 use Rattle.lists.proofs.Searches.{found}
 use Rattle.lists.proofs.Rows.{clash, never, or-left, or-right, all-at}
@@ -62,7 +63,7 @@ stands-used n s r h e = at-used n s r h (stands-at h (s .table) e)
 pub used-after : (es : List Event) (s : Server) (h : Bytes) → Used h (s .table) → Used h (after s es .table)
 used-after es s h u = record { serial = u .serial; is = u .is; some = u .some; past = le-trans (u .past) (last-rises es s) }
 
-used-next : (e : Event) (s : Server) (h : Bytes) → Used h (s .table) → Used h (next e s .table)
+pub used-next : (e : Event) (s : Server) (h : Bytes) → Used h (s .table) → Used h (next e s .table)
 used-next e s h u = record { serial = u .serial; is = u .is; some = u .some; past = le-trans (u .past) (last-kept s e) }
 
 -- what was given is used up
@@ -171,42 +172,59 @@ nobody-holds c h t g = go (find (λ j. holdsHandle c h (j .row)) (t .jobs)) refl
         let a : hasHandle h r ≡ true = and-right (heldBy c r) _ (f .passes) in
         clash (at-stands h t (record { place = p; inside = f .inside; live′ = and-left (live r) _ a; is = sym (same-is _ _ (and-right (live r) _ a)) })) g
 
--- a worker packet that names h asks for work on it
-record AsksWork (b h : Bytes) : Type 0 where
-  how : Work
-  kind : ℕ
-  n : Bytes
-  d : Bytes
-  is : requestIn b ≡ work how kind h n d
+-- an exception is thrown
+abbrev pub throwing : Work → Bool
+throwing tells = false
+throwing reports = false
+throwing ends = false
+throwing throws = true
 
-work-requested : (kind : ℕ) (a b c : Bytes) → isWork kind ≡ true → (how : Work) × (n : Bytes) × (d : Bytes) × (requested kind a b c ≡ work how kind a n d)
+-- a worker packet that names h asks for work on it; an exception is type 25
+pub record AsksWork (b h : Bytes) : Type 0 where
+  pub how : Work
+  pub kind : ℕ
+  pub n : Bytes
+  pub d : Bytes
+  pub is : requestIn b ≡ work how kind h n d
+  pub typed : kind ≡ numberAt b 4
+  pub thrown : throwing how ≡ eqb kind 25
+
+work-requested : (kind : ℕ) (a b c : Bytes) → isWork kind ≡ true → (how : Work) × (n : Bytes) × (d : Bytes) × (requested kind a b c ≡ work how kind a n d) × (throwing how ≡ eqb kind 25)
 unfolding requested
 work-requested kind a b c = go (eqb 12 kind) refl (eqb 13 kind) refl (eqb 14 kind) refl (eqb 25 kind) refl (eqb 28 kind) refl (eqb 29 kind) refl
   where
     go : (x : Bool) → eqb 12 kind ≡ x → (y : Bool) → eqb 13 kind ≡ y → (z : Bool) → eqb 14 kind ≡ z → (u : Bool) → eqb 25 kind ≡ u → (v : Bool) → eqb 28 kind ≡ v → (w : Bool) → eqb 29 kind ≡ w
-        → x || (y || (z || (u || (v || (w || false))))) ≡ true → (how : Work) × (n : Bytes) × (d : Bytes) × (requested kind a b c ≡ work how kind a n d)
-    go true e y e₁ z e₂ u e₃ v e₄ w e₅ q = (reports, b, c, rw (← (eqb-true 12 kind e)))
-    go false e true e₁ z e₂ u e₃ v e₄ w e₅ q = (ends, [], [], rw (← (eqb-true 13 kind e₁)))
-    go false e false e₁ true e₂ u e₃ v e₄ w e₅ q = (ends, [], [], rw (← (eqb-true 14 kind e₂)))
-    go false e false e₁ false e₂ true e₃ v e₄ w e₅ q = (throws, [], [], rw (← (eqb-true 25 kind e₃)))
-    go false e false e₁ false e₂ false e₃ true e₄ w e₅ q = (tells, [], [], rw (← (eqb-true 28 kind e₄)))
-    go false e false e₁ false e₂ false e₃ false e₄ true e₅ q = (tells, [], [], rw (← (eqb-true 29 kind e₅)))
+        → x || (y || (z || (u || (v || (w || false))))) ≡ true → (how : Work) × (n : Bytes) × (d : Bytes) × (requested kind a b c ≡ work how kind a n d) × (throwing how ≡ eqb kind 25)
+    go true e y e₁ z e₂ u e₃ v e₄ w e₅ q = let k = eqb-true 12 kind e in (reports, b, c, rw (← k), rw (← k))
+    go false e true e₁ z e₂ u e₃ v e₄ w e₅ q = let k = eqb-true 13 kind e₁ in (ends, [], [], rw (← k), rw (← k))
+    go false e false e₁ true e₂ u e₃ v e₄ w e₅ q = let k = eqb-true 14 kind e₂ in (ends, [], [], rw (← k), rw (← k))
+    go false e false e₁ false e₂ true e₃ v e₄ w e₅ q = let k = eqb-true 25 kind e₃ in (throws, [], [], rw (← k), rw (← k))
+    go false e false e₁ false e₂ false e₃ true e₄ w e₅ q = let k = eqb-true 28 kind e₄ in (tells, [], [], rw (← k), rw (← k))
+    go false e false e₁ false e₂ false e₃ false e₄ true e₅ q = let k = eqb-true 29 kind e₅ in (tells, [], [], rw (← k), rw (← k))
     go false e false e₁ false e₂ false e₃ false e₄ false e₅ q = clash q refl
 
 first-is : (h : Bytes) (args : List Bytes) → firstIs h args ≡ true → getD args 0 [] ≡ h
 first-is h [] e = clash e refl
 first-is h (a ∷ as′) e = same-is a h e
 
-asks-work : (b h : Bytes) → readingTells h (read requests b) ≡ true → AsksWork b h
+pub asks-work : (b h : Bytes) → readingTells h (read requests b) ≡ true → AsksWork b h
 asks-work b h e = by (read requests b) refl e
   where
     by : (r : Reading) → read requests b ≡ r → readingTells h r ≡ true → AsksWork b h
     by (refused m) q z = clash z refl
     by (got kind args) q z =
-        let (how, n, d, w) = work-requested kind (getD args 0 []) (getD args 1 []) (getD args 2 []) (and-left (isWork kind) _ z) in
-        record { how = how; kind = kind; n = n; d = d; is = request-read b ∙ ap fromReading q ∙ w ∙ ap (λ (a : Bytes). work how kind a n d) (first-is h args (and-right (isWork kind) _ z)) }
+        let (how, n, d, w, t) = work-requested kind (getD args 0 []) (getD args 1 []) (getD args 2 []) (and-left (isWork kind) _ z) in
+        record {
+          how = how;
+          kind = kind;
+          n = n;
+          d = d;
+          is = request-read b ∙ ap fromReading q ∙ w ∙ ap (λ (a : Bytes). work how kind a n d) (first-is h args (and-right (isWork kind) _ z));
+          typed = sym (read-got requests b kind args q .typed);
+          thrown = t;
+        }
 
-open-inside : (t : Table) (c : ℕ) → isOpen t c ≡ true → isConnection t c ≡ true
+pub open-inside : (t : Table) (c : ℕ) → isOpen t c ≡ true → isConnection t c ≡ true
 open-inside t c o = by (ltb c (length (t .connections))) refl
   where
     by : (b : Bool) → ltb c (length (t .connections)) ≡ b → b ≡ true

@@ -14,4 +14,5 @@ pub mod Agreeing
 pub mod OneChanged
 pub mod Submissions
 pub mod Listeners
+pub mod Results
 pub mod Demands

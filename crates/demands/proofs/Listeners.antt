@@ -68,7 +68,7 @@ module _ (n : ℕ) (s : Server) (r : Running n s) where
       same-place q (a .place) i (a .inside) l (a .live′) (handle-one-to-one lap _ _ (omega arith) (omega arith) (sym e ∙ a .is))
 
   -- its listeners
-  listens-at : (c : ℕ) (h : Bytes) (a : At h t) → listens c h t ≡ has (jobAt t (a .place) .row .listeners) c
+  pub listens-at : (c : ℕ) (h : Bytes) (a : At h t) → listens c h t ≡ has (jobAt t (a .place) .row .listeners) c
   unfolding listens hasHandle
   listens-at c h a = iff _ _ forth back
     where
@@ -87,25 +87,31 @@ module _ (n : ℕ) (s : Server) (r : Running n s) where
           (and-both (hasHandle h row) _ (and-both (live row) _ (a .live′) (rw (a .is) (same-refl _))) e)
 
   -- nobody listens to a job that does not stand
-  nobody-listens : (c : ℕ) (h : Bytes) → (stands h t ≡ true → ⊥) → listens c h t ≡ false
+  pub nobody-listens : (c : ℕ) (h : Bytes) → (stands h t ≡ true → ⊥) → listens c h t ≡ false
   unfolding listens stands
   nobody-listens c h z = never _ (λ e.
       let (p, i, q) = any-where (λ j. hasHandle h (j .row) && has (j .row .listeners) c) (t .jobs) noJob e in
       z (any-at (λ j. hasHandle h (j .row)) (t .jobs) p noJob i (and-left (hasHandle h (jobAt t p .row)) _ q)))
 
-  -- a listener is open
-  listener-open : (c p : ℕ) → has (jobAt t p .row .listeners) c ≡ true → isOpen t c ≡ true
-  listener-open c p e =
-      let s = jobAt t p .row .listeners in
-      let o : onlyOpen t s ≡ true = all-row (λ j. onlyOpen t (j .row .listeners)) (t .jobs) p noJob (obeyed t (r .rules) .sound .listeners) (none-open t) in
-      let b : s < 2 ^ length (t .connections) = ltb-true s _ (and-left (ltb s (2 ^ length (t .connections))) _ o) in
-      by (ltb c (length (t .connections))) refl o b
-    where
-      by : (x : Bool) → ltb c (length (t .connections)) ≡ x → onlyOpen t (jobAt t p .row .listeners) ≡ true → jobAt t p .row .listeners < 2 ^ length (t .connections) → isOpen t c ≡ true
-      by true f o b =
-          implies-use (has (jobAt t p .row .listeners) c) _
-          (below-at (λ k. implies (has (jobAt t p .row .listeners) k) (isOpen t k)) (length (t .connections)) c (and-right (ltb (jobAt t p .row .listeners) (2 ^ length (t .connections))) _ o) (ltb-true c _ f)) e
-      by false f o b = clash e (has-above (jobAt t p .row .listeners) (length (t .connections)) c b (ltb-false c _ f))
+  -- a listener is a connection, and it is open
+  module _ (c p : ℕ) (e : has (jobAt t p .row .listeners) c ≡ true) where
+    only-open : onlyOpen t (jobAt t p .row .listeners) ≡ true
+    only-open = all-row (λ j. onlyOpen t (j .row .listeners)) (t .jobs) p noJob (obeyed t (r .rules) .sound .listeners) (none-open t)
+
+    pub listener-inside : ltb c (length (t .connections)) ≡ true
+    listener-inside = by (ltb c (length (t .connections))) refl
+      where
+        by : (x : Bool) → ltb c (length (t .connections)) ≡ x → x ≡ true
+        by true f = refl
+        by false f =
+            let s = jobAt t p .row .listeners in
+            clash e (has-above s (length (t .connections)) c (ltb-true s _ (and-left (ltb s (2 ^ length (t .connections))) _ only-open)) (ltb-false c _ f))
+
+    listener-open : isOpen t c ≡ true
+    listener-open =
+        let s = jobAt t p .row .listeners in
+        implies-use (has s c) _
+        (below-at (λ k. implies (has s k) (isOpen t k)) (length (t .connections)) c (and-right (ltb s (2 ^ length (t .connections))) _ only-open) (ltb-true c _ listener-inside)) e
 
 -- ---- numbers of opens and closes
 

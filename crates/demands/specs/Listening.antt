@@ -2,14 +2,15 @@
 -- table as a listener. Assumes nothing.
 use Prim.Native.Nat.{ℕ}
 use mathlib.Core.Bool.{Bool, true, false, cond, _||_, _&&_}
-use mathlib.Core.List.{List, [], _∷_}
-use lib.Dec.{eqb}
+use mathlib.Core.Path.{_≡_}
+use mathlib.Core.List.{List, [], _∷_, map}
+use lib.Dec.{eqb, ltb}
 use Rattle.octets.specs.Bytes.{Bytes}
 use Rattle.sets.specs.Sets.{has}
 use Rattle.packet.specs.Layout.{oneOf}
 use Rattle.packet.specs.Packet.{Reading, refused, got}
-use Rattle.lists.specs.Lists.{any}
-use Rattle.server.specs.Table.{Table, hasHandle}
+use Rattle.lists.specs.Lists.{any, implies, pairwise}
+use Rattle.server.specs.Table.{Table, connectionAt, hasHandle}
 use Rattle.server.specs.Requests.{Event, opens, closes, sends}
 use Rattle.server.specs.Call.{Result}
 use Rattle.server_calls.specs.History.{Call}
@@ -55,3 +56,21 @@ heard c h before (x ∷ xs) (r ∷ rs) = heard c h (heardAfter c h before (x .ev
 -- connection c is a listener of the job with this handle
 unfoldable pub listens : ℕ → Bytes → Table → Bool
 listens c h t = any (λ j. hasHandle h (j .row) && has (j .row .listeners) c) (t .jobs)
+
+-- ---- results
+
+-- 01: "25 ends the job and goes only to listeners that set `exceptions`"
+abbrev pub wants : Table → ℕ → ℕ → Bool
+wants t kind l = implies (eqb kind 25) (connectionAt t l .exceptions)
+
+-- the number stands in the list
+abbrev pub isIn : ℕ → List ℕ → Bool
+isIn l ls = any (λ k. eqb k l) ls
+
+-- these packets are one packet each to some connections, in rising order, none twice: exactly to those of the set, by this type and with
+-- these arguments
+pub record EachOnce (set : ℕ → Bool) (kind : ℕ) (args : List Bytes) (ms : List Message) : Type 0 where
+  pub to : List ℕ
+  pub packets : ms ≡ map (λ l. record { to = l; says = got kind args }) to
+  pub rising : pairwise ltb to ≡ true
+  pub exactly : (l : ℕ) → isIn l to ≡ set l
