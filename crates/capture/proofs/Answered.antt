@@ -9,7 +9,7 @@ use Rattle.server.specs.Requests.{Event, opens, closes, sends}
 use Rattle.server.specs.Call.{Result, refusedBy, call, left}
 use Rattle.capture.specs.declared.Frame as F
 use Rattle.capture.specs.declared.Frame.the-variants as FV
-use Rattle.capture.specs.Frames.{Bounded, eventOf}
+use Rattle.capture.specs.Frames.{Bounded, eventOf, frameSize}
 use Rattle.capture.specs.Spoken.{answeredTo}
 
 -- the event of each kind of frame, from its connection k as a wider number
@@ -23,7 +23,7 @@ module _ (f : F.Frame) (b : Bytes) (c k : ℕ) (w : k ≡ c) where
   pub packet-event : (end : ℕ) → f ≡ FV.Packet c end → eventOf f b ≡ some (sends k (take (end - 2) (drop 2 b)))
   packet-event end e = ap (λ (g : F.Frame). eventOf g b) e ∙ ap (λ (n : ℕ). some (sends n (take (end - 2) (drop 2 b)))) (sym w)
 
-pub packet-bounded : (f : F.Frame) (c end : ℕ) → f ≡ FV.Packet c end → Bounded f → (2 ≤ end) × (end ≤ 1040)
+pub packet-bounded : (f : F.Frame) (c end : ℕ) → f ≡ FV.Packet c end → Bounded f → (2 ≤ end) × (end ≤ frameSize)
 packet-bounded f c end e h = rw e at h
 
 module _ (t w o : Bytes) where

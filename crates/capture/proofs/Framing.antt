@@ -19,7 +19,8 @@ use Rattle.hex.proofs.Writing.{hex-length}
 use Rattle.hex.proofs.RoundTrip.{hex-unhex}
 use Rattle.hex.proofs.Answers.{spelled-bytes, spelled-fits}
 use Rattle.server.specs.Requests.{opens, closes, sends}
-use Rattle.server.specs.Replay.{framed, frame}
+use Rattle.server.specs.Replay.{framed, frame, longestLine}
+use Rattle.capture.specs.Frames.{frameSize}
 
 -- ---- the bytes of a frame
 
@@ -77,22 +78,22 @@ module _ (b : Bytes) (n : ℕ) (h : 2 ≤ n) (l : n ≤ length b) where
 -- ---- the digits of a line
 
 -- "At most 2,080 digits"
-pub long-line : (line : Bytes) → 2080 < length line → none ≡ frame line
+pub long-line : (line : Bytes) → longestLine < length line → none ≡ frame line
 unfolding frame
-long-line line h = sym (rw (lt-leb (length line) 2080 h))
+long-line line h = sym (rw (lt-leb (length line) longestLine h))
 
 -- of a longer line one digit more than a frame has is enough to tell
-pub cut-line : (line : Bytes) → frame (take 2081 line) ≡ frame line
-cut-line line = go (leb (length line) 2081) refl
+pub cut-line : (n : ℕ) → longestLine < n → (line : Bytes) → frame (take n line) ≡ frame line
+cut-line n h line = go (leb (length line) n) refl
   where
-    go : (b : Bool) → leb (length line) 2081 ≡ b → frame (take 2081 line) ≡ frame line
-    go true e = ap frame (take-all 2081 line (leb-true (length line) 2081 e))
+    go : (b : Bool) → leb (length line) n ≡ b → frame (take n line) ≡ frame line
+    go true e = ap frame (take-all n line (leb-true (length line) n e))
     go false e =
-        let l : 2081 < length line = leb-false (length line) 2081 e in
-        sym (long-line (take 2081 line) (omega (arith, length-take-le 2081 line (omega arith)))) ∙ long-line line (omega arith)
+        let l : n < length line = leb-false (length line) n e in
+        sym (long-line (take n line) (omega (arith, length-take-le n line (omega arith)))) ∙ long-line line (omega arith)
 
-module _ (line out o : Bytes) (r : S.Spelled) (e : record { answer = r; output = o } ≡ spelling line out) (h : length line ≤ 2080) where
-  module _ (q : r ≡ SV.Bad) (room : length out ≡ 1040) where
+module _ (line out o : Bytes) (r : S.Spelled) (e : record { answer = r; output = o } ≡ spelling line out) (h : length line ≤ longestLine) where
+  module _ (q : r ≡ SV.Bad) (room : length out ≡ frameSize) where
     -- so few digits have room: reading them is bad only where they spell no bytes
     unspelled-line : (u : Option Bytes) → unhex line ≡ u → unhex line ≡ none
     unfolding spelling
@@ -105,7 +106,7 @@ module _ (line out o : Bytes) (r : S.Spelled) (e : record { answer = r; output =
 
     pub bad-line : none ≡ frame line
     unfolding frame
-    bad-line = sym (rw (le-leb (length line) 2080 h, unspelled-line (unhex line) refl))
+    bad-line = sym (rw (le-leb (length line) longestLine h, unspelled-line (unhex line) refl))
 
   module _ (n : ℕ) (q : r ≡ SV.Bytes n) where
     known : record { answer = SV.Bytes n; output = o } ≡ spelling line out
@@ -115,11 +116,11 @@ module _ (line out o : Bytes) (r : S.Spelled) (e : record { answer = r; output =
     line-fits = spelled-fits line out o n known
 
     -- two digits a byte
-    pub line-short : n ≤ 1040
+    pub line-short : n ≤ frameSize
     line-short =
         let l : length (take n o) ≡ n = length-take-le n o line-fits in
         omega (arith, ap length (hex-unhex line (take n o) (spelled-bytes line out o n known)), hex-length (take n o))
 
     pub line-frame : framed (some (take n o)) ≡ frame line
     unfolding frame
-    line-frame = sym (rw (le-leb (length line) 2080 h, spelled-bytes line out o n known))
+    line-frame = sym (rw (le-leb (length line) longestLine h, spelled-bytes line out o n known))

@@ -5,3 +5,4 @@ pub mod Sent
 pub mod Answered
 pub mod Telling
 pub mod Texts
+pub mod Whole

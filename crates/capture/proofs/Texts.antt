@@ -18,13 +18,13 @@ use Rattle.server.specs.Requests.{Event}
 use Rattle.server.specs.Server.{Server, addressed, next, answer, start}
 use Rattle.server.specs.Layout.{little, tableSize, rowBytes, bytesOf, tableOf}
 use Rattle.server.specs.Call.{Result, refusedBy, sentBytes, performed, Made, make}
-use Rattle.server.specs.Replay.{frame}
+use Rattle.server.specs.Replay.{frame, serverAfter}
 use Rattle.table_laws.proofs.Round.{table-put}
 use Rattle.server_calls.proofs.Output.{output-fits}
 use Rattle.server_calls.proofs.Follows.{Running, tableWith, workloadsWith, running-next, fitting, call-follows}
 use Rattle.server_calls.proofs.Histories.{running-start, make-start}
 use Rattle.capture.specs.Packets.{Addressed}
-use Rattle.capture.specs.Spoken.{Speech, Told, answeredTo, packetsTo, saying, toldOf, told, said, spokenTo, serverAfter, spoken}
+use Rattle.capture.specs.Spoken.{Speech, Told, answeredTo, packetsTo, saying, toldOf, told, said, spokenTo, spoken}
 use Rattle.capture.proofs.Cutting.{packets-in}
 use Rattle.capture.proofs.Sent.{all-formed, output-packets}
 

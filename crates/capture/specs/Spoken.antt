@@ -11,10 +11,11 @@ use Rattle.octets.specs.Put.{put}
 use Rattle.server.specs.Sizes.{connectionCount}
 use Rattle.server.specs.Table.{Table}
 use Rattle.server.specs.Requests.{Event}
-use Rattle.server.specs.Server.{Server, addressed, next, answer}
+use Rattle.server.specs.Server.{Server, addressed, next, answer, start}
 use Rattle.server.specs.Layout.{tableOf}
 use Rattle.server.specs.Call.{Result, serverIn, tooShort, isSound, refusedBy, call}
-use Rattle.server.specs.Replay.{frame}
+use Rattle.server.specs.Replay.{frame, serverAfter}
+use Rattle.lines.specs.Text.{Seen, linesOf}
 
 -- ---- one frame on the lent bytes
 
@@ -72,10 +73,14 @@ abbrev pub spokenTo : Speech → Option Event → Server → Bytes
 spokenTo say none s = say none [] 16 (s .table) (s .table)
 spokenTo say (some e) s = say (some e) (map addressed (answer e s .sent)) (answer e s .number) (s .table) (next e s .table)
 
-abbrev pub serverAfter : Option Event → Server → Server
-serverAfter none s = s
-serverAfter (some e) s = next e s
-
 unfoldable pub spoken : (ℕ → Speech) → ℕ → List Bytes → Server → Bytes
 spoken says k [] s = []
 spoken says k (line ∷ lines) s = spokenTo (says k) (frame line) s ++ spoken says (suc k) lines (serverAfter (frame line) s)
+
+-- a text from its first byte to its last, by a fresh server
+abbrev pub spokenText : (ℕ → Speech) → Bytes → Bytes
+spokenText says text = spoken says 1 (linesOf text) (start connectionCount)
+
+-- as much of each line as a buffer held
+abbrev pub textsSeen : List Seen → List Bytes
+textsSeen ls = map (λ (l : Seen). l .text) ls

@@ -8,9 +8,17 @@ ghost use Prim.Native.Nat.{_≤_};
 ghost use lib.ListN.{length, take};
 ghost use Rattle.server.specs.Replay.{frame, framed};
 ghost use Rattle.server.specs.Call.{left};
-ghost use Rattle.capture.specs.Frames.{Bounded, eventOf};
+ghost use Rattle.capture.specs.Frames.{Bounded, eventOf, frameSize};
 ghost use Rattle.capture.specs.Packets.{packetLength};
 ghost use Rattle.capture.specs.Spoken.{answeredTo};
+
+// The most bytes of a frame, and its digits: "At most 2,080 digits."
+pub const FRAME_SIZE: usize = 1040;
+
+pub const LONGEST_LINE: usize = 2 * FRAME_SIZE;
+
+// Room for one digit more than a frame has, which is enough to tell that a line is none.
+pub const LINE_ROOM: usize = LONGEST_LINE + 1;
 
 // What a line is: a frame of one of three kinds, or nothing of the sort. A packet's bytes stand in the lent bytes from 2 to its end.
 pub enum Frame {
@@ -22,7 +30,7 @@ pub enum Frame {
 
 // The frame that the first `count` of the bytes make.
 fn framed(bytes: &[u8], count: usize) -> Frame
-    requires { ⌜ (count ≤ length (now bytes)) × (count ≤ 1040) ⌝ }
+    requires { ⌜ (count ≤ length (now bytes)) × (count ≤ frameSize) ⌝ }
     ensures { λ r. ⌜ (eventOf r (now (bytes .entry)) ≡ framed (some (take count (now (bytes .entry))))) × Bounded r ⌝ }
 {
     if count < 2 {
@@ -49,10 +57,10 @@ fn framed(bytes: &[u8], count: usize) -> Frame
 }
 
 // Reads a line, without its line end, and leaves the frame's bytes in `bytes`.
-pub fn read_frame(line: &[u8], bytes: &mut [u8; 1040]) -> Frame
+pub fn read_frame(line: &[u8], bytes: &mut [u8; FRAME_SIZE]) -> Frame
     ensures { λ r. ⌜ (eventOf r (now (bytes .exit)) ≡ frame (now (line .entry))) × Bounded r ⌝ }
 {
-    if 2080 < line.len() {
+    if LONGEST_LINE < line.len() {
         return Frame::Nothing;
     }
     let spelled = hex::read_hex(line, bytes);
@@ -68,7 +76,7 @@ pub fn answer_frame(
     workloads: &mut [u8],
     output: &mut [u8],
     frame: Frame,
-    bytes: &[u8; 1040],
+    bytes: &[u8; FRAME_SIZE],
 ) -> Answer
     requires { ⌜ Bounded frame ⌝ }
     ensures { λ r. ⌜ left (r .number) (r .length) (now (output .exit)) (now (table .exit)) (now (workloads .exit))

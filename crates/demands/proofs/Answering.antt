@@ -32,9 +32,10 @@ use Rattle.demands.proofs.Told.{messages-read}
 told-nine : (k : ℕ) → k ≤ 15 → (isTold k ≡ true → 9 ≤ k) × (isTold k ≡ false → k ≤ 8)
 unfolding isTold same
 told-nine k h =
-    let z : implies (isTold k) (ltb 8 k) && implies (not (isTold k)) (ltb k 9) ≡ true = below-at (λ i. implies (isTold i) (ltb 8 i) && implies (not (isTold i)) (ltb i 9)) 16 k refl (omega arith) in
-    ((λ e. let l = ltb-true 8 k (implies-use (isTold k) _ (and-left (implies (isTold k) (ltb 8 k)) _ z) e) in omega arith),
-    (λ e. let l = ltb-true k 9 (implies-use (not (isTold k)) _ (and-right (implies (isTold k) (ltb 8 k)) _ z) (rw e)) in omega arith))
+    let z : implies (isTold k) (ltb 8 k) && implies (not (isTold k)) (ltb k 9) ≡ true = below-at (λ i. implies (isTold i) (ltb 8 i) && implies (not (isTold i)) (ltb i 9)) 16 k refl (omega arith) in (
+      (λ e. let l = ltb-true 8 k (implies-use (isTold k) _ (and-left (implies (isTold k) (ltb 8 k)) _ z) e) in omega arith),
+      (λ e. let l = ltb-true k 9 (implies-use (not (isTold k)) _ (and-right (implies (isTold k) (ltb 8 k)) _ z) (rw e)) in omega arith),
+    )
 
 -- the ERROR packet, as it is sent and as it is read
 error-bytes : (c n : ℕ) → addressed (errorPacket c n) ≡ errorBytes c n

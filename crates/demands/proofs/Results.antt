@@ -96,7 +96,7 @@ module _ (n : ℕ) (c : ℕ) (h : Bytes) where
       let same : heardAfter c h x e (callOn n m z .number) (told (callOn n m z)) ≡ heardAfter c h x e (answer e s .number) (messagesOf e s) = ap₂ (heardAfter c h x e) (call-number n m hub z l) (call-tells n m hub z l) in
       history-heard xs k (call-hub n m hub z l) ls (heardAfter c h x e (callOn n m z .number) (told (callOn n m z)))
       (λ w. let v : stands h (next e s .table) ≡ true = subst (λ (o : Server). stands h (o .table) ≡ true) q w in
-          ap (λ (o : Server). listens c h (o .table)) q ∙ step-heard n s r c h e v ∙ ap (λ (b : Bool). heardAfter c h b e (answer e s .number) (messagesOf e s)) (heard-before e s r x a u v) ∙ sym same)
+      ap (λ (o : Server). listens c h (o .table)) q ∙ step-heard n s r c h e v ∙ ap (λ (b : Bool). heardAfter c h b e (answer e s .number) (messagesOf e s)) (heard-before e s r x a u v) ∙ sym same)
       (λ w. subst (λ (o : Server). Used h (o .table)) (sym q) (heard-used n e s r c h x u (sym same ∙ w)))
       y
 

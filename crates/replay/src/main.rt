@@ -2,6 +2,7 @@
 // addressed packets of each answer one a line and then its number. What a line says is made by the crate `replay_line`, and written before
 // the next line is read. Where reading or writing fails the program says so on standard error and ends. Started with an argument it says
 // how it is used, and reads nothing.
+use capture::LINE_ROOM;
 use input::Input;
 use replay_line::TEXT_SIZE;
 use server::OUTPUT_SIZE;
@@ -63,7 +64,7 @@ fn run() {
     let mut output = [0u8; OUTPUT_SIZE];
     let mut text = [0u8; TEXT_SIZE];
     let mut chunk = io::buffer();
-    let mut buffer = [0u8; 2081];
+    let mut buffer = [0u8; LINE_ROOM];
     replay_all(
         &mut table,
         &mut workloads,

@@ -1,29 +1,51 @@
--- A whole text replayed, from a fresh table: what is said is the server's answers in digits. Assumes nothing.
-use Prim.Native.Nat.{_≤_}
-use mathlib.Core.Path.{_≡_, ap}
-use mathlib.Core.List.{List, [], _∷_}
+-- A whole text replayed, from a fresh table, is the replay of document 01 (`server/Replay: replayOf`). Assumes nothing.
+use Prim.Native.Nat.{ℕ, suc, _<_, _≤_}
+use mathlib.Core.Path.{_≡_, refl, ap, ap₂, _∙_}
+use mathlib.Core.Option.{Option, none, some}
+use mathlib.Core.List.{List, [], _∷_, _++_}
 use native.Mathlib.Omega.{arith}
 use lib.ListN.{length, replicate, length-append}
 use Rattle.octets.specs.Bytes.{Bytes}
+use Rattle.lines.specs.Text.{linesOf, runOf}
 use Rattle.server.specs.Sizes.{connectionCount, workloadsSize, outputSize}
-use Rattle.server.specs.Server.{start}
+use Rattle.server.specs.Requests.{Event}
+use Rattle.server.specs.Server.{Server, start}
 use Rattle.server.specs.Layout.{tableSize}
 use Rattle.server.specs.Call.{make}
+use Rattle.server.specs.Replay.{frame, longestLine, answerLines, lineWrites, serverAfter, replayFrom, replayOf}
 use Rattle.capture.specs.Packets.{packetLines}
+use Rattle.capture.specs.Spoken.{spokenTo, spoken, textsSeen}
 use Rattle.capture.proofs.Lines.{lines-short}
-use Rattle.capture.proofs.Texts.{Fits, text-said, zeros-said}
-use Rattle.replay_line.specs.Replayed.{lineOf, inDigits, textSize, replayedText, answeredText}
+use Rattle.capture.proofs.Texts.{Fits, text-said}
+use Rattle.capture.proofs.Whole.{whole-said}
+use Rattle.replay_line.specs.Replayed.{lineOf, inDigits, textSize, replayedText}
 use Rattle.replay_line.proofs.Digits.{line-length, line-short, lines-answer}
 
 digits-fit : Fits textSize inDigits
 digits-fit f ps n u t a h =
     omega (arith, ap length (lines-answer ps n), length-append (packetLines lineOf ps) (lineOf (n ∷ [])), lines-short lineOf 3 line-short ps a, line-length (n ∷ []))
 
-pub replay-text : (t w : Bytes) → tableSize connectionCount ≤ length t → workloadsSize ≤ length w → (lines : List Bytes) (o x : Bytes) → outputSize connectionCount ≤ length o → textSize ≤ length x
-    → replayedText lines (make connectionCount t w .table) (make connectionCount t w .workloads) o x ≡ answeredText lines (start connectionCount)
-replay-text t w lt lw lines o x lo lx = text-said textSize (λ k. inDigits) (λ k. digits-fit) t w lt lw 1 lines o x lo lx
+-- ---- what is said in digits is the replay of document 01
 
--- from zeros, as the program lends them
-pub replay-zeros : (t w : Bytes) → t ≡ replicate (tableSize connectionCount) 0 → w ≡ replicate workloadsSize 0 → (lines : List Bytes) (o x : Bytes) → outputSize connectionCount ≤ length o → textSize ≤ length x
-    → replayedText lines t w o x ≡ answeredText lines (start connectionCount)
-replay-zeros t w et ew lines o x lo lx = zeros-said t w et ew textSize (λ k. inDigits) (λ k. digits-fit) 1 lines o x lo lx
+line-written : (f : Option Event) (s : Server) → spokenTo inDigits f s ≡ lineWrites f s
+unfolding answerLines
+line-written none s = refl
+line-written (some e) s = refl
+
+spoken-written : (k : ℕ) (lines : List Bytes) (s : Server) → spoken (λ m. inDigits) k lines s ≡ replayFrom s lines
+unfolding spoken replayFrom
+spoken-written k [] s = refl
+spoken-written k (line ∷ lines) s =
+    ap₂ {C = Bytes} (λ (a b : Bytes). a ++ b) (line-written (frame line) s) (spoken-written (suc k) lines (serverAfter (frame line) s))
+
+pub replay-lines : (t w : Bytes) → tableSize connectionCount ≤ length t → workloadsSize ≤ length w → (lines : List Bytes) (o x : Bytes) → outputSize connectionCount ≤ length o → textSize ≤ length x
+    → replayedText lines (make connectionCount t w .table) (make connectionCount t w .workloads) o x ≡ replayFrom (start connectionCount) lines
+replay-lines t w lt lw lines o x lo lx = text-said textSize (λ k. inDigits) (λ k. digits-fit) t w lt lw 1 lines o x lo lx ∙ spoken-written 1 lines (start connectionCount)
+
+-- from text to text, on zeros, as the program lends them, with a buffer for a line that holds one digit more than a frame has
+pub replay-text : (t w : Bytes) → t ≡ replicate (tableSize connectionCount) 0 → w ≡ replicate workloadsSize 0
+    → (buffer text o x : Bytes) → longestLine < length buffer → outputSize connectionCount ≤ length o → textSize ≤ length x
+    → replayedText (textsSeen (runOf buffer text)) t w o x ≡ replayOf text
+unfolding replayOf
+replay-text t w et ew buffer text o x lb lo lx =
+    whole-said t w et ew textSize (λ k. inDigits) (λ k. digits-fit) buffer text o x lb lo lx ∙ spoken-written 1 (linesOf text) (start connectionCount)

@@ -4,9 +4,8 @@ use mathlib.Core.List.{List, [], _∷_, _++_}
 use Rattle.octets.specs.Bytes.{Bytes}
 use Rattle.hex.specs.Hex.{hex}
 use Rattle.server.specs.Sizes.{connectionCount, outputSize}
-use Rattle.server.specs.Server.{Server}
 use Rattle.server.specs.Replay.{answerLines}
-use Rattle.capture.specs.Spoken.{Speech, Told, told, said, spoken}
+use Rattle.capture.specs.Spoken.{Speech, Told, told, said}
 
 -- one addressed packet, or the number, in digits
 abbrev pub lineOf : Bytes → Bytes
@@ -25,9 +24,6 @@ textSize = 3 * outputSize connectionCount + 3
 unfoldable pub replayed : Bytes → Bytes → Bytes → Bytes → Bytes → Told
 replayed line t w o x = told textSize inDigits line t w o x
 
--- a whole text, on the lent bytes and by the server
+-- one line after the other on the lent bytes; `server/Replay: replayOf` is what a whole text must come to
 abbrev pub replayedText : List Bytes → Bytes → Bytes → Bytes → Bytes → Bytes
 replayedText lines t w o x = said textSize (λ k. inDigits) 1 lines t w o x
-
-abbrev pub answeredText : List Bytes → Server → Bytes
-answeredText lines s = spoken (λ k. inDigits) 1 lines s

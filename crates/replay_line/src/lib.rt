@@ -1,6 +1,7 @@
 // One line of the replay: the line read as a frame, the frame's event called on the lent table and workloads, and the answer laid as
 // lines of lowercase hexadecimal over a lent text. Format: document 01, "Replay program". A line that is no frame is answered by 16,
 // and a text with too little room by nothing at all. No caller has to check anything first.
+use capture::FRAME_SIZE;
 use carry_event::Answer;
 use server::OUTPUT_SIZE;
 ghost use mathlib.Core.Path.{_≡_};
@@ -68,7 +69,7 @@ pub fn step(
     if text.len() < TEXT_SIZE {
         return 0;
     }
-    let mut bytes = [0u8; 1040];
+    let mut bytes = [0u8; FRAME_SIZE];
     let frame = capture::read_frame(line, &mut bytes);
     let answer = capture::answer_frame(table, workloads, output, frame, &bytes);
     put_answer(text, output, answer)

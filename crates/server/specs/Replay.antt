@@ -7,8 +7,11 @@ use lib.ListN.{length}
 use lib.Dec.{leb, eqb}
 use Rattle.octets.specs.Bytes.{Bytes}
 use Rattle.hex.specs.Hex.{unhex, hexByte, hex}
+use Rattle.lines.specs.Text.{linesOf}
 use Rattle.lists.specs.Lists.{concat}
+use Rattle.server.specs.Sizes.{connectionCount}
 use Rattle.server.specs.Requests.{Event, opens, closes, sends}
+use Rattle.server.specs.Server.{Server, addressed, answer, next, start}
 
 -- ---- a line to a frame
 
@@ -20,9 +23,13 @@ framed (some (k ∷ [])) = none
 framed (some (k ∷ (c ∷ []))) = cond (eqb k 1) (some (opens c)) (cond (eqb k 2) (some (closes c)) (cond (eqb k 3) (some (sends c [])) none))
 framed (some (k ∷ (c ∷ (x ∷ b)))) = cond (eqb k 3) (some (sends c (x ∷ b))) none
 
--- "At most 2,080 digits." None: the line isn't a frame, 16
+-- "At most 2,080 digits."
+abbrev pub longestLine : ℕ
+longestLine = 2080
+
+-- none: the line isn't a frame, 16
 unfoldable pub frame : Bytes → Option Event
-frame line = cond (leb (length line) 2080) (framed (unhex line)) none
+frame line = cond (leb (length line) longestLine) (framed (unhex line)) none
 
 -- ---- an answer to its lines
 
@@ -33,3 +40,23 @@ answerLines ps number = concat (map (λ p. hex p ++ (10 ∷ [])) ps) ++ (hexByte
 -- "line isn't a frame"
 abbrev pub noFrame : Bytes
 noFrame = 49 ∷ 48 ∷ 10 ∷ []
+
+-- ---- the whole replay, from text to text
+
+-- what a line writes: its event's answer; 16 alone, where it isn't a frame
+abbrev pub lineWrites : Option Event → Server → Bytes
+lineWrites none s = noFrame
+lineWrites (some e) s = answerLines (map addressed (answer e s .sent)) (answer e s .number)
+
+-- what isn't a frame the server does not see
+abbrev pub serverAfter : Option Event → Server → Server
+serverAfter none s = s
+serverAfter (some e) s = next e s
+
+unfoldable pub replayFrom : Server → List Bytes → Bytes
+replayFrom s [] = []
+replayFrom s (line ∷ lines) = lineWrites (frame line) s ++ replayFrom (serverAfter (frame line) s) lines
+
+-- "It reads lines .. A last line without a line end counts; .. empty input writes nothing." From a fresh table
+unfoldable pub replayOf : Bytes → Bytes
+replayOf text = replayFrom (start connectionCount) (linesOf text)

@@ -2,6 +2,7 @@
 // writes under the number of each line what it says, what the server answered, and how the table stands. docs/SHOW.md has the layout.
 // What is shown of a line is made by the crate `show_line`, and written before the next line is read. Where reading or writing fails the
 // program says so on standard error and ends. Started with an argument it says how it is used, and reads nothing.
+use capture::LINE_ROOM;
 use input::Input;
 use server::OUTPUT_SIZE;
 use server::TABLE_SIZE;
@@ -81,7 +82,7 @@ fn run() {
     let mut output = [0u8; OUTPUT_SIZE];
     let mut text = [0u8; TEXT_SIZE];
     let mut chunk = io::buffer();
-    let mut buffer = [0u8; 2081];
+    let mut buffer = [0u8; LINE_ROOM];
     show_all(
         &mut table,
         &mut workloads,

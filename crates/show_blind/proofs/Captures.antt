@@ -12,13 +12,13 @@ use Rattle.server.specs.Table.{Table}
 use Rattle.server.specs.Server.{Server, start}
 use Rattle.server.specs.Layout.{tableSize}
 use Rattle.server.specs.Call.{make}
-use Rattle.server.specs.Replay.{frame}
+use Rattle.server.specs.Replay.{frame, serverAfter}
 use Rattle.lists.proofs.Cases.{All2}
 use Rattle.server_calls.proofs.Follows.{Running, running-next}
 use Rattle.server_calls.proofs.Histories.{running-start}
 use Rattle.server_blind.proofs.Alike.{Alike}
 use Rattle.server_blind.proofs.Blind.{table-alike}
-use Rattle.capture.specs.Spoken.{spokenTo, serverAfter, spoken}
+use Rattle.capture.specs.Spoken.{spokenTo, spoken}
 use Rattle.show_line.specs.Shown.{answeredText, lineText, shownText, textSize}
 use Rattle.show_line.proofs.Texts.{show-text}
 use Rattle.show_blind.proofs.Words.{words-alike}

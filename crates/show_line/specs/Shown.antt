@@ -9,7 +9,7 @@ use Rattle.server.specs.Table.{Table}
 use Rattle.server.specs.Requests.{Event}
 use Rattle.server.specs.Server.{Server}
 use Rattle.plan.specs.Values.{rowsOf}
-use Rattle.capture.specs.Spoken.{Speech, Told, told, said, spoken}
+use Rattle.capture.specs.Spoken.{Speech, Told, told, said, spoken, spokenText}
 use Rattle.show_table.specs.Standing.{sleepersRoom, jobsRoom, goneRoom}
 use Rattle.show_parts.specs.Parts.{answerText, headingText, tableText}
 
@@ -38,3 +38,7 @@ shownText lines t w o x = said textSize lineText 1 lines t w o x
 
 abbrev pub answeredText : List Bytes → Server → Bytes
 answeredText lines s = spoken lineText 1 lines s
+
+-- a capture from its first byte to its last, shown
+abbrev pub showOf : Bytes → Bytes
+showOf text = spokenText lineText text

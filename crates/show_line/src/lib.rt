@@ -1,6 +1,7 @@
 // One line of a capture in words, laid over a lent text: its number, what it says, what the server answered, and how the table stands
 // after it. docs/SHOW.md has the layout. A line that is no frame is answered by 16, and a text with too little room by nothing at all.
 // No caller has to check anything first.
+use capture::FRAME_SIZE;
 use capture::Frame;
 use carry_event::Answer;
 use server::JOBS;
@@ -44,7 +45,7 @@ fn put_line(
     text: &mut [u8],
     number: u32,
     frame: Frame,
-    bytes: &[u8; 1040],
+    bytes: &[u8; FRAME_SIZE],
     before: [JobRow; JOBS],
     table: &[u8],
     sent: &[u8],
@@ -77,7 +78,7 @@ pub fn step(
     if text.len() < TEXT_SIZE {
         return 0;
     }
-    let mut bytes = [0u8; 1040];
+    let mut bytes = [0u8; FRAME_SIZE];
     let frame = capture::read_frame(line, &mut bytes);
     let before = rows_in(table);
     let answer: Answer = capture::answer_frame(table, workloads, output, frame, &bytes);

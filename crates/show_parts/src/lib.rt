@@ -1,6 +1,7 @@
 // The parts of what `show` prints for a line of a capture, laid over a lent text: the line's number, digits and words, what the server
 // answered, and how the table stands. docs/SHOW.md has the layout. Each function returns the place after what it laid. An inner crate:
 // its callers see to the room.
+use capture::FRAME_SIZE;
 use capture::Frame;
 use handle::Serial;
 use packet::Read;
@@ -47,7 +48,7 @@ fn put_digits(text: &mut [u8], at: usize, kind: u8, connection: u8, header: &[u8
 }
 
 // Lays the digits of a frame, as far as they may be seen.
-fn put_seen(text: &mut [u8], at: usize, frame: Frame, bytes: &[u8; 1040]) -> usize
+fn put_seen(text: &mut [u8], at: usize, frame: Frame, bytes: &[u8; FRAME_SIZE]) -> usize
     requires { ⌜ Bounded frame × (at + length (digitsText (eventOf frame (now bytes))) ≤ length (now text)) ⌝ }
     ensures { λ r. ⌜ (r ≡ at + length (digitsText (eventOf frame (now (bytes .entry))))) × (now (text .exit) ≡ put at (digitsText (eventOf frame (now (bytes .entry)))) (now (text .entry))) ⌝ }
 {
@@ -82,7 +83,7 @@ fn put_request(text: &mut [u8], at: usize, connection: u8, packet: &[u8]) -> usi
 }
 
 // Lays what a frame says.
-fn put_event(text: &mut [u8], at: usize, frame: Frame, bytes: &[u8; 1040]) -> usize
+fn put_event(text: &mut [u8], at: usize, frame: Frame, bytes: &[u8; FRAME_SIZE]) -> usize
     requires { ⌜ Bounded frame × (at + length (eventText (eventOf frame (now bytes))) ≤ length (now text)) ⌝ }
     ensures { λ r. ⌜ (r ≡ at + length (eventText (eventOf frame (now (bytes .entry))))) × (now (text .exit) ≡ put at (eventText (eventOf frame (now (bytes .entry)))) (now (text .entry))) ⌝ }
 {
@@ -98,7 +99,7 @@ fn put_event(text: &mut [u8], at: usize, frame: Frame, bytes: &[u8; 1040]) -> us
 }
 
 // Lays the number of a line, its digits, and what its frame says.
-pub fn put_heading(text: &mut [u8], number: u32, frame: Frame, bytes: &[u8; 1040]) -> usize
+pub fn put_heading(text: &mut [u8], number: u32, frame: Frame, bytes: &[u8; FRAME_SIZE]) -> usize
     requires { ⌜ Bounded frame × (0 + length (headingText number (eventOf frame (now bytes))) ≤ length (now text)) ⌝ }
     ensures { λ r. ⌜ (r ≡ 0 + length (headingText number (eventOf frame (now (bytes .entry))))) × (now (text .exit) ≡ put 0 (headingText number (eventOf frame (now (bytes .entry)))) (now (text .entry))) ⌝ }
 {
@@ -209,7 +210,7 @@ fn put_jobs(
     text: &mut [u8],
     at: usize,
     frame: Frame,
-    bytes: &[u8; 1040],
+    bytes: &[u8; FRAME_SIZE],
     sent: &[u8],
     number: u8,
     before: [JobRow; JOBS],
@@ -239,7 +240,7 @@ pub fn put_table(
     before: [JobRow; JOBS],
     table: &[u8],
     frame: Frame,
-    bytes: &[u8; 1040],
+    bytes: &[u8; FRAME_SIZE],
     sent: &[u8],
     number: u8,
 ) -> usize
