@@ -1,5 +1,5 @@
--- Document 01, "Errors that look reasonable": for each a history in which it would show, with the right answer, and one theorem that the
--- definitions give these answers. The edits in must-fail/ make the errors in the definitions. Assumes nothing.
+-- Document 01, "Errors that look reasonable", and three more: for each a history in which it would show, with the right answer, and one
+-- theorem that the definitions give these answers. The edits in must-fail/ make the errors in the definitions. Assumes nothing.
 use Prim.Native.Nat.{ℕ}
 use Prim.Native.String.{String}
 use mathlib.Core.List.{List, [], _∷_, _++_}
@@ -59,6 +59,36 @@ tenantStays =
     (replicate 9 0 ++ (14 ∷ 0 ∷ []))
     (response 2 20 (text "H:lap:2" ∷ text "1" ∷ text "1" ∷ text "0" ∷ text "0" ∷ []) ∷ [])
 
+-- ---- naming a job by its place
+
+-- the second tenant of a place is assigned by its own handle: its serial is 2, and its place the first
+pub tenantNamed : Edge
+unfolding request response
+tenantNamed =
+    edge (opens 0 ∷ opens 1 ∷ canDo 1 "f" ∷ submits 0 "f" "" (text "first") ∷ grabs 1 ∷ completes 1 "H:lap:1" "done" ∷ submits 0 "f" "" (text "second") ∷ grabs 1 ∷ [])
+    (replicate 8 0)
+    (response 1 11 (text "H:lap:2" ∷ text "f" ∷ text "second" ∷ []) ∷ [])
+
+-- ---- a result for another job's listener
+
+-- worker 1 holds job 1 of client 0 and job 2 of client 2: what it says of job 2 goes to client 2 alone
+pub ownListener : Edge
+unfolding request response
+ownListener =
+    edge (opens 0 ∷ opens 1 ∷ opens 2 ∷ canDo 1 "f" ∷ submits 0 "f" "" [] ∷ submits 2 "f" "" [] ∷ grabs 1 ∷ grabs 1 ∷ completes 1 "H:lap:2" "done" ∷ [])
+    (replicate 9 0)
+    (response 2 13 (text "H:lap:2" ∷ text "done" ∷ []) ∷ [])
+
+-- ---- the status of a job that is not there
+
+-- "otherwise 0, 0, 0, 0 with the handle as asked"
+pub unknownStatus : Edge
+unfolding request response
+unknownStatus =
+    edge (opens 0 ∷ request 0 15 (text "H:lap:7" ∷ []) ∷ [])
+    (replicate 2 0)
+    (response 0 20 (text "H:lap:7" ∷ text "0" ∷ text "0" ∷ text "0" ∷ text "0" ∷ []) ∷ [])
+
 -- ---- "joining on the unique alone"
 
 -- the same unique under another function makes a second job
@@ -95,6 +125,7 @@ oneCopyEach =
 
 -- ---- none of them is made
 
-pub no-mistake : T (holds lateRefused) × T (holds tenantStays) × T (holds jobOfItsOwn) × T (holds wholeWorkload) × T (holds oneCopyEach)
-unfolding holds lateRefused tenantStays jobOfItsOwn wholeWorkload oneCopyEach
-no-mistake = (tt, tt, tt, tt, tt)
+pub no-mistake :
+    T (holds lateRefused) × T (holds tenantStays) × T (holds tenantNamed) × T (holds ownListener) × T (holds unknownStatus) × T (holds jobOfItsOwn) × T (holds wholeWorkload) × T (holds oneCopyEach)
+unfolding holds lateRefused tenantStays tenantNamed ownListener unknownStatus jobOfItsOwn wholeWorkload oneCopyEach
+no-mistake = (tt, tt, tt, tt, tt, tt, tt, tt)

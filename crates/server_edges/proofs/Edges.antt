@@ -99,6 +99,23 @@ edges =
     (response 0 8 (handleOf 49 ∷ []) ∷ [])
     ∷ []
 
+-- not marked (P). In each edge above a job's serial is its place plus one where it is assigned; here the first place is taken a second
+-- time, by the job with serial 2, and given by JOB_ASSIGN and by JOB_ASSIGN_UNIQ
+pub secondTenants : List Edge
+unfolding request response
+secondTenants =
+    edge (opens 0 ∷ request 0 1 (f ∷ []) ∷ request 0 7 (f ∷ u ∷ w ∷ []) ∷ request 0 9 [] ∷ request 0 14 (handleOf 49 ∷ []) ∷ request 0 7 (f ∷ u ∷ v ∷ []) ∷ request 0 9 [] ∷ [])
+    (replicate 7 0)
+    (response 0 11 (handleOf 50 ∷ f ∷ v ∷ []) ∷ [])
+    ∷ edge (opens 0 ∷ request 0 1 (f ∷ []) ∷ request 0 7 (f ∷ u ∷ w ∷ []) ∷ request 0 9 [] ∷ request 0 14 (handleOf 49 ∷ []) ∷ request 0 7 (f ∷ u ∷ v ∷ []) ∷ request 0 30 [] ∷ [])
+    (replicate 7 0)
+    (response 0 31 (handleOf 50 ∷ f ∷ u ∷ v ∷ []) ∷ [])
+    ∷ []
+
+pub second-tenants-hold : T (allHold secondTenants)
+unfolding allHold secondTenants
+second-tenants-hold = tt
+
 pub edges-hold : T (allHold edges)
 unfolding allHold edges
 edges-hold = tt
