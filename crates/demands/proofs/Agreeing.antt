@@ -1,33 +1,30 @@
 -- Two histories that differ in opaque bytes alone agree in everything but opaque bytes, whatever lies beyond the layout in the lent bytes.
 -- Assumes nothing.
-use Prim.Native.Nat.{ℕ, _≤_}
-use mathlib.Core.Path.{_≡_, refl, ap, ap₂, sym, _∙_, subst}
-use mathlib.Core.Bool.{Bool, true, false}
+use Prim.Native.Nat.{ℕ}
+use mathlib.Core.Path.{_≡_, refl, ap, ap₂, sym, _∙_}
+use mathlib.Core.Bool.{Bool, true}
 use mathlib.Core.List.{List, [], _∷_, _++_, map}
 use native.Mathlib.Omega.{arith}
-use lib.ListN.{length, getD, take, drop, length-append}
+use lib.ListN.{length, getD, take, drop}
 use lib.Seq.{take-append-seam, take-at, drop-at}
 use Rattle.octets.specs.Bytes.{Bytes}
-use Rattle.octets.specs.Put.{put}
 use Rattle.octets.proofs.Laying.{put-start}
 use Rattle.lists.proofs.Cases.{All, All2}
-use Rattle.server.specs.Table.{Table}
 use Rattle.server.specs.Requests.{Event}
 use Rattle.server.specs.Events.{Send}
-use Rattle.server.specs.Server.{Server, Sent, render, answer, decided, next}
+use Rattle.server.specs.Server.{Server, render, answer, decided, next}
 use Rattle.server.specs.Layout.{tableSize, bytesOf}
 use Rattle.server.specs.Call.{Result, sentBytes, serverIn, performed}
 use Rattle.server_calls.specs.History.{Call, Memory, calls}
-use Rattle.server_calls.proofs.Follows.{Running, running-next, length-table}
+use Rattle.server_calls.proofs.Follows.{running-next, length-table}
 use Rattle.server_calls.proofs.Output.{output-fits}
 use Rattle.server_calls.proofs.Histories.{LongOutputs}
-use Rattle.server_blind.proofs.Alike as A
 use Rattle.server_blind.proofs.Alike.{Alike}
 use Rattle.server_blind.proofs.Blind.{answer-alike, table-alike}
 use Rattle.server_blind.proofs.OpaqueParts.{sent-apt}
 use Rattle.server_blind.proofs.Outputs.{AlikeSent, all-alike, covered, covered-same, length-covered, bytes-same, Both}
 use Rattle.server_blind.proofs.Calls.{AlikeEvents}
-use Rattle.demands.specs.Messages.{Addressed, packetsIn, hiddenIn, written}
+use Rattle.demands.specs.Messages.{packetsIn, hiddenIn, written}
 use Rattle.demands.specs.Hub.{Hub, Long, callOn, kept, resultsOf, tableIn, serverOf}
 use Rattle.demands.specs.Blind.{Agree}
 use Rattle.demands.proofs.ReadsBack.{all-read}

@@ -1,11 +1,11 @@
 -- Every call answers: it is done, or it refuses and changes nothing but for one ERROR packet. Assumes nothing.
-use Prim.Native.Nat.{ℕ, zero, suc, _+_, _≤_}
-use mathlib.Core.Path.{_≡_, refl, ap, ap₂, sym, _∙_, subst}
-use mathlib.Core.Bool.{Bool, true, false, not, _&&_, _||_}
-use mathlib.Core.List.{List, [], _∷_, _++_, map, append-nil}
+use Prim.Native.Nat.{ℕ, _≤_}
+use mathlib.Core.Path.{_≡_, refl, ap, ap₂, sym, _∙_}
+use mathlib.Core.Bool.{Bool, true, false, not, _&&_}
+use mathlib.Core.List.{[], _∷_, _++_, map, append-nil}
 use native.Mathlib.Decide.{ℕ-discrete}
 use native.Mathlib.Omega.{arith}
-use borrow.Author.Tests.{ltb-true, lt-ltb}
+use borrow.Author.Tests.{ltb-true}
 use lib.ListN.{length, take, drop}
 use lib.Seq.{take-append-seam}
 use lib.Dec.{ltb}
@@ -15,15 +15,15 @@ use Rattle.packet.specs.Arguments.{join}
 use Rattle.packet.specs.Packet.{packet, got, responses}
 use Rattle.lists.specs.Lists.{implies}
 use Rattle.lists.proofs.Cases.{All}
-use Rattle.lists.proofs.Rows.{clash, implies-use, below-at}
-use Rattle.server.specs.Refusals.{isTold, errorText}
+use Rattle.lists.proofs.Rows.{implies-use, below-at}
+use Rattle.server.specs.Refusals.{isTold}
 use Rattle.server.specs.Requests.{Event, sends}
 use Rattle.server.specs.Events.{error}
-use Rattle.server.specs.Server.{Server, Sent, addressed, render, start}
-use Rattle.server.specs.Call.{Result, left, sentBytes, call}
+use Rattle.server.specs.Server.{addressed, render, start}
+use Rattle.server.specs.Call.{Result, sentBytes, call}
 use Rattle.server_laws.proofs.Refusals.{errorPacket}
-use Rattle.server_calls.proofs.Refusals.{Refused, ToldOf, call-refused}
-use Rattle.demands.specs.Messages.{Message, messageIn, packetsIn, told, messageOf}
+use Rattle.server_calls.proofs.Refusals.{Refused, call-refused}
+use Rattle.demands.specs.Messages.{messageIn, packetsIn, told, messageOf}
 use Rattle.demands.specs.Answered.{errorArguments, errorBytes, Answered, done, silent, tells}
 use Rattle.demands.proofs.ReadsBack.{reads-error}
 use Rattle.demands.proofs.Told.{messages-read}

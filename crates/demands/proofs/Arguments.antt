@@ -2,16 +2,15 @@
 -- the handle is the first argument. Assumes nothing.
 use Prim.Native.Nat.{ℕ, zero, suc}
 use mathlib.Core.Path.{_≡_, refl, ap, sym, _∙_, subst}
-use mathlib.Core.Bool.{true}
 use mathlib.Core.List.{List, [], _∷_}
 use native.Mathlib.Omega.{arith}
-use lib.ListN.{length, getD, drop}
+use lib.ListN.{getD}
 use Rattle.octets.specs.Bytes.{Bytes}
 use Rattle.packet.specs.declared.Shape.{Shape}
 use Rattle.packet.specs.declared.Shape.the-variants.{Foreign, Handle, Echo}
 use Rattle.packet.specs.Layout.{requestShape, responseShape}
 use Rattle.packet.specs.Packet.{Reading, refused, got, read, requests}
-use Rattle.server.specs.Requests.{Event, sends, Work, Request, reset, preSleep, echo, bad, canDo, cantDo, grab, submit, work, getStatus, option, requested, fromReading, requestIn}
+use Rattle.server.specs.Requests.{Work, Request, reset, preSleep, echo, bad, canDo, cantDo, grab, submit, work, getStatus, option, requested, fromReading, requestIn}
 use Rattle.demands.proofs.Unmasked.{request-read}
 
 -- the tables of shapes of requests and of responses beside the table of what is asked

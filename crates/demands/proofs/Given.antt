@@ -1,23 +1,22 @@
 -- Every handle that a packet gives is that of an unfinished job, or of the job that the event makes. Assumes nothing.
-use Prim.Native.Nat.{ℕ, zero, suc, _≤_, _<_, _^_}
-use mathlib.Core.Path.{_≡_, refl, ap, sym, _∙_, subst}
-use mathlib.Core.Bool.{Bool, true, false, not, _&&_, _||_}
+use Prim.Native.Nat.{ℕ, suc, _<_}
+use mathlib.Core.Path.{_≡_, refl, sym}
+use mathlib.Core.Bool.{Bool, true, false, _||_}
 use mathlib.Core.Option.{some}
 use mathlib.Core.List.{List, [], _∷_, map}
-use native.Mathlib.Omega.{arith}
-use borrow.Author.Tests.{eqb-true, eqb-false, leb-true, ltb-true, not-true}
-use lib.ListN.{length, getD}
-use lib.Dec.{eqb, leb}
-use Rattle.octets.specs.Bytes.{Bytes, same}
+use borrow.Author.Tests.{eqb-true}
+use lib.ListN.{length}
+use lib.Dec.{eqb}
+use Rattle.octets.specs.Bytes.{Bytes}
 use Rattle.octets.proofs.Strings.{and-left, and-right, and-both, same-is, same-refl}
 use Rattle.handle.specs.Handle.{handle, lap}
 use Rattle.packet.specs.Layout.{isOwn, requestShape}
-use Rattle.packet.specs.Packet.{Reading, got, read, requests}
+use Rattle.packet.specs.Packet.{requests}
 use Rattle.packet_laws.proofs.Packets.{read-got}
 use Rattle.lists.specs.Lists.{any, filter}
 use Rattle.lists.proofs.Cases.{All, cond-both, all-append, all-map, all-any}
 use Rattle.lists.proofs.Searches.{found}
-use Rattle.lists.proofs.Rows.{clash, never, all-at, any-at, any-where}
+use Rattle.lists.proofs.Rows.{clash, never, any-at, any-where}
 use Rattle.server.specs.Table.{Table, noJob, jobAt, live, hasHandle, joins, joined}
 use Rattle.server.specs.Requests.{Event, sends, Work, Request, requestIn, work}
 use Rattle.server.specs.Refusals.{isTold}
@@ -25,10 +24,8 @@ use Rattle.server.specs.Events.{Send, plain, copy, assign, Decision, silence, r
 use Rattle.server.specs.Server.{Server, decided, next}
 use Rattle.server_laws.proofs.Outcome.{Change, Served, Outcome, outcome}
 use Rattle.server_laws.proofs.Going.{best-found, grabbed-live, joined-found}
-use Rattle.server_laws.proofs.Obeyed.{obeyed}
-use Rattle.server_calls.proofs.Follows.{Running}
-use Rattle.demands.specs.Messages.{Message, messageOf, messagesOf}
-use Rattle.demands.specs.Handles.{givesHandle, firstIs, readingGives, given, stands}
+use Rattle.demands.specs.Messages.{messageOf, messagesOf}
+use Rattle.demands.specs.Handles.{givesHandle, readingGives, given, stands}
 use Rattle.demands.proofs.Arguments.{work-read}
 
 -- ---- jobs by their handle

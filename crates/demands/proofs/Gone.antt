@@ -1,16 +1,16 @@
 -- A handle whose job is gone is nobody's for ever: no place has it, no packet gives it, and a worker packet that names it is refused
 -- by 14. And a new job's handle was given by no packet before. From any running server. Assumes nothing.
-use Prim.Native.Nat.{ℕ, zero, suc, _≤_, _<_, _^_}
+use Prim.Native.Nat.{ℕ, suc, _≤_, _<_, _^_}
 use mathlib.Core.Path.{_≡_, refl, ap, sym, _∙_, subst}
-use mathlib.Core.Bool.{Bool, true, false, not, _&&_, _||_}
+use mathlib.Core.Bool.{Bool, true, false, not, _||_}
 use mathlib.Core.Option.{Option, none, some}
 use mathlib.Core.List.{List, [], _∷_}
 use native.Mathlib.Nat.{le-trans}
 use native.Mathlib.Omega.{arith}
-use borrow.Author.Tests.{eq-eqb, ne-eqb, eqb-true, eqb-false, leb-true, ltb-true, ltb-false, lt-ltb, not-true, not-false}
+use borrow.Author.Tests.{ne-eqb, eqb-true, eqb-false, leb-true, ltb-true, ltb-false, not-true}
 use lib.ListN.{length, getD, List·getD-eq-default}
 use lib.Dec.{eqb, leb, ltb}
-use Rattle.octets.specs.Bytes.{Bytes, same, numberAt}
+use Rattle.octets.specs.Bytes.{Bytes, numberAt}
 use Rattle.octets.proofs.Strings.{and-left, and-right, and-both, same-is}
 use Rattle.handle.specs.Handle.{handle, lap}
 use Rattle.handle.proofs.Handles.{handle-one-to-one}
@@ -21,8 +21,8 @@ use Rattle.lists.proofs.Searches.{found}
 use Rattle.lists.proofs.Rows.{clash, never, or-left, or-right, all-at}
 use Rattle.server.specs.declared.Connection.{Connection}
 use Rattle.server.specs.Table.{Table, closed, noJob, connectionAt, jobAt, live, heldBy, hasHandle}
-use Rattle.server.specs.Requests.{Event, sends, Work, tells, reports, ends, throws, Request, work, requested, fromReading, requestIn}
-use Rattle.server.specs.Events.{Decision, refuse, holdsHandle, workAt, served, isConnection, onlyIfOpen}
+use Rattle.server.specs.Requests.{Event, sends, Work, tells, reports, ends, throws, work, requested, fromReading, requestIn}
+use Rattle.server.specs.Events.{refuse, holdsHandle, workAt, served, isConnection, onlyIfOpen}
 use Rattle.server.specs.Rules.{isOpen}
 use Rattle.server.specs.Server.{Server, decided, answer, next, after}
 use Rattle.server_laws.proofs.Serials.{Creates, Numbered, numbered, grown-creates, last-kept, last-rises}

@@ -1,20 +1,18 @@
 -- Handles, over calls on a host's memory. Assumes nothing.
 use Prim.Native.Nat.{ℕ}
-use mathlib.Core.Path.{_≡_, refl, ap, sym, _∙_, subst}
-use mathlib.Core.Bool.{Bool, true, false, _||_}
-use mathlib.Core.List.{List, []}
+use mathlib.Core.Path.{_≡_, ap, sym, _∙_, subst}
+use mathlib.Core.Bool.{true, false, _||_}
+use mathlib.Core.List.{List}
 use Rattle.octets.specs.Bytes.{Bytes}
-use Rattle.packet.specs.Packet.{read, requests}
 use Rattle.server.specs.Table.{Table}
-use Rattle.server.specs.Rules.{isOpen}
-use Rattle.server.specs.Requests.{Event, sends}
+use Rattle.server.specs.Requests.{Event}
 use Rattle.server.specs.Server.{Server, answer, next, after}
 use Rattle.server.specs.Call.{serverIn}
 use Rattle.server_calls.specs.History.{Call, Memory, events}
-use Rattle.server_calls.proofs.Follows.{Running, running-next}
+use Rattle.server_calls.proofs.Follows.{Running}
 use Rattle.server_calls.proofs.Histories.{LongOutputs}
-use Rattle.demands.specs.Messages.{Message, told, messagesOf}
-use Rattle.demands.specs.Handles.{given, stands, isMade, readingTells, NoMore}
+use Rattle.demands.specs.Messages.{told}
+use Rattle.demands.specs.Handles.{given, stands, isMade, NoMore}
 use Rattle.demands.specs.Hub.{Hub, Long, callOn, kept, afterCalls, tableIn, serverOf}
 use Rattle.demands.proofs.Hubs.{hub-runs, call-number, call-tells, call-hub, call-next, table-in, calls-hub, calls-after}
 use Rattle.demands.proofs.Gone.{Used, stands-used, used-after, given-stands, new-unheard, gone-after, gone-ungiven, late-number}

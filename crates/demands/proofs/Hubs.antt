@@ -1,23 +1,18 @@
 -- A host's memory holds a running server; a call on it does what that server does, and leaves memory that holds the next one. So do any
 -- calls, one after the other. Assumes nothing.
 use Prim.Native.Nat.{ℕ, _≤_}
-use mathlib.Core.Path.{_≡_, refl, ap, ap₂, sym, _∙_, subst}
-use mathlib.Core.Bool.{true, false, not, _||_}
+use mathlib.Core.Path.{_≡_, refl, ap, sym, _∙_, subst}
 use mathlib.Core.List.{List, [], _∷_}
 use native.Mathlib.Omega.{arith}
 use borrow.Author.Tests.{le-ltb}
 use lib.ListN.{length, replicate, length-replicate}
 use Rattle.octets.specs.Bytes.{Bytes}
-use Rattle.octets.specs.Put.{put}
 use Rattle.octets.proofs.Strings.{and-left, and-right}
 use Rattle.octets.proofs.Laying.{length-put}
 use Rattle.lists.proofs.Cases.{All}
 use Rattle.server.specs.Sizes.{workloadsSize, outputSize}
-use Rattle.server.specs.Table.{Table}
-use Rattle.server.specs.Rules.{obeys}
-use Rattle.server.specs.Requests.{Event}
 use Rattle.server.specs.Server.{Server, answer, next, start, after}
-use Rattle.server.specs.Layout.{tableSize, tableOf, isImage}
+use Rattle.server.specs.Layout.{tableSize, isImage}
 use Rattle.server.specs.Call.{Result, Made, serverIn, tooShort, isSound, performed, call, make}
 use Rattle.server_calls.specs.History.{Call, Memory, events, leaves}
 use Rattle.server_calls.proofs.Refusals.{Taken}

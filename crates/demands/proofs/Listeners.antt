@@ -1,42 +1,40 @@
 -- The listeners of a job, before an event and after it: who was told its handle, in answer to a foreground submission, since it opened its
 -- connection. Assumes nothing.
-use Prim.Native.Nat.{ℕ, zero, suc, _≤_, _<_, _^_}
-use mathlib.Core.Path.{_≡_, refl, ap, ap₂, sym, _∙_, subst}
+use Prim.Native.Nat.{ℕ, suc, _<_, _^_}
+use mathlib.Core.Path.{_≡_, refl, ap, sym, _∙_, subst}
 use mathlib.Core.Bool.{Bool, true, false, not, cond, _||_, _&&_}
 use mathlib.Core.Option.{some}
-use mathlib.Core.List.{List, [], _∷_}
 use native.Mathlib.Decide.{ℕ-discrete}
 use native.Mathlib.Omega.{arith}
-use borrow.Author.Tests.{eq-eqb, ne-eqb, eqb-true, eqb-false, ltb-true, ltb-false, lt-ltb, not-true}
-use lib.ListN.{length, getD}
+use borrow.Author.Tests.{eq-eqb, ne-eqb, eqb-true, ltb-true, ltb-false, lt-ltb}
+use lib.ListN.{length}
 use lib.Dec.{eqb, ltb}
-use Rattle.octets.specs.Bytes.{Bytes, same}
+use Rattle.octets.specs.Bytes.{Bytes}
 use Rattle.octets.proofs.Strings.{and-false, and-left, and-right, and-both, same-refl, same-is}
 use Rattle.handle.specs.Handle.{handle, lap}
 use Rattle.handle.proofs.Handles.{handle-one-to-one}
 use Rattle.sets.specs.Sets.{has, insert, remove}
-use Rattle.sets.proofs.Laws.{zero-has, has-only, has-insert-same, has-insert-other, has-remove-same, has-remove-other, has-above}
-use Rattle.lists.specs.Lists.{any, all, implies, numbers}
+use Rattle.sets.proofs.Laws.{zero-has, has-insert-same, has-insert-other, has-remove-same, has-remove-other, has-above}
+use Rattle.lists.specs.Lists.{any, implies}
 use Rattle.lists.proofs.Cases.{cond-both}
-use Rattle.lists.proofs.Rows.{clash, iff, never, implies-use, or-false, all-row, all-at, any-at, any-where, pairwise-at, below-at}
-use Rattle.server.specs.declared.Connection.{Connection}
+use Rattle.lists.proofs.Rows.{clash, iff, never, implies-use, all-row, any-at, any-where, pairwise-at, below-at}
 use Rattle.server.specs.declared.JobRow.{JobRow}
-use Rattle.server.specs.Table.{Job, Table, noJob, jobAt, connectionAt, live, heldBy, hasHandle, freshRow}
-use Rattle.server.specs.Requests.{Event, opens, closes, sends, Work, tells, reports, ends, throws, submit, grab, work, requestIn}
+use Rattle.server.specs.Table.{Job, Table, noJob, jobAt, live, heldBy, hasHandle, freshRow}
+use Rattle.server.specs.Requests.{Event, opens, closes, sends, tells, reports, ends, throws}
 use Rattle.server.specs.Events.{Decision, leftBy, submittedBy, silence, settle, onlyIfOpen}
-use Rattle.server.specs.Rules.{serialsApart, onlyOpen, isOpen, obeys}
+use Rattle.server.specs.Rules.{serialsApart, onlyOpen, isOpen}
 use Rattle.server.specs.Server.{Server, answer, decided, next}
 use Rattle.server_laws.proofs.Outcome.{Stands, Silences, Outcome, outcome}
 use Rattle.server_laws.proofs.Openness.{none-open}
 use Rattle.server_laws.proofs.Obeyed.{obeyed}
-use Rattle.server_laws.proofs.Fates.{placeOf, Untouched, Fate, stays, begins, joins, taken, told, left, drops, fates}
+use Rattle.server_laws.proofs.Fates.{Untouched, Fate, stays, begins, joins, taken, told, left, drops, fates}
 use Rattle.server_calls.proofs.Follows.{Running, running-next}
-use Rattle.demands.specs.Messages.{Message, messagesOf}
+use Rattle.demands.specs.Messages.{messagesOf}
 use Rattle.demands.specs.Handles.{stands}
 use Rattle.demands.specs.Conditions.{typeOf}
-use Rattle.demands.specs.Listening.{turns, isForeground, submits, tellsCreated, heardAfter, listens}
-use Rattle.demands.proofs.Given.{At, stands-at, at-stands}
-use Rattle.demands.proofs.Gone.{Used, last-fits, serial-past, stands-used, inside-live}
+use Rattle.demands.specs.Listening.{isForeground, tellsCreated, heardAfter, listens}
+use Rattle.demands.proofs.Given.{At, stands-at}
+use Rattle.demands.proofs.Gone.{last-fits, serial-past, inside-live}
 use Rattle.demands.proofs.Submissions.{foreground-asks, other-foreground, tells-created, join-packets, make-packets, Created, by-joining, by-making, created-known}
 
 -- ---- one place for each serial

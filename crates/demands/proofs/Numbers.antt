@@ -1,6 +1,6 @@
 -- A call's number is that of the first row of document 01's table whose condition holds. Assumes nothing.
 use Prim.Native.Nat.{ℕ, zero, suc, _+_}
-use mathlib.Core.Path.{_≡_, refl, ap, sym, _∙_, subst}
+use mathlib.Core.Path.{_≡_, refl, ap, _∙_, subst}
 use mathlib.Core.Bool.{Bool, true, false, not, cond, _&&_, _||_}
 use mathlib.Core.Option.{Option, none, some}
 use mathlib.Core.List.{List, [], _∷_, map}
@@ -8,12 +8,12 @@ use native.Mathlib.Nat.{zero-add}
 use native.Mathlib.Omega.{arith}
 use lib.ListN.{length, getD, drop}
 use lib.Dec.{ltb, eqb}
-use Rattle.octets.specs.Bytes.{Bytes, same, startsWith, numberAt}
+use Rattle.octets.specs.Bytes.{Bytes, same, numberAt}
 use Rattle.packet.specs.declared.Shape.{Shape}
 use Rattle.packet.specs.declared.Shape.the-variants.{Foreign}
-use Rattle.packet.specs.Layout.{isOwn, requestShape, rulesOf, oneOf, served}
-use Rattle.packet.specs.Arguments.{Parts, bad, parts, split}
-use Rattle.packet.specs.Packet.{Reading, refused, got, header, argued, body, afterHeader, read, requests}
+use Rattle.packet.specs.Layout.{isOwn, requestShape, served}
+use Rattle.packet.specs.Arguments.{Parts, bad, parts}
+use Rattle.packet.specs.Packet.{Reading, refused, header, argued, body, afterHeader, read}
 use Rattle.lists.specs.Lists.{any, all, find, up}
 use Rattle.lists.proofs.Rows.{clash}
 use Rattle.server.specs.Table.{Function, Job, Table, live, joins, joined, known, roomFor, orElse, freeFunction, freePlace, freeRow, rowsOf}
@@ -22,12 +22,12 @@ use Rattle.server.specs.Requests as R
 use Rattle.server.specs.Events as E
 use Rattle.server.specs.Events.{Decision, silence, refuse, settle, canDoAt, cantDoAt, grabAt, submitNew, submitTo, workAt, statusAt, optionIf, holdsHandle, exceptionsName, onlyIfOpen, onlyIfClosed}
 use Rattle.server.specs.Rules.{isKnown, isOpen}
-use Rattle.server.specs.Server.{Server, answer, decided}
+use Rattle.server.specs.Server.{answer, decided}
 use Rattle.server.specs.Layout.{tableOf}
-use Rattle.server.specs.Call.{Result, serverIn, refusedBy, performed, call}
+use Rattle.server.specs.Call.{serverIn, refusedBy, performed, call}
 use Rattle.table_laws.proofs.Columns.{length-places}
 use Rattle.demands.specs.Handles.{isWork}
-use Rattle.demands.specs.Conditions.{Row, first, isSubmission, newJob, functionsFull, jobsFull, serialsUsedUp, notHeld, otherOption, askedRows, badMemory, underTwelve, otherMagic, sizeAbove, otherLength, notServed, badArguments, splits, unsplit, argumentIn, argument, typeOf, packetRows, conditions}
+use Rattle.demands.specs.Conditions.{first, isSubmission, askedRows, badMemory, underTwelve, otherMagic, sizeAbove, splits, unsplit, argumentIn, typeOf, packetRows, conditions}
 use Rattle.demands.proofs.Unmasked.{request-read}
 
 -- ---- what each type asks, by the tests of its number

@@ -1,31 +1,26 @@
 -- One packet of a history has other opaque bytes: the copies of that packet differ, later the assignments of the job that it made, and
 -- nothing else. Assumes nothing.
-use Prim.Native.Nat.{ℕ, zero, suc, _<_}
+use Prim.Native.Nat.{ℕ, suc}
 use mathlib.Core.Path.{_≡_, refl, ap, ap₂, sym, _∙_, subst}
-use mathlib.Core.Bool.{Bool, true, false, cond, not}
-use mathlib.Core.Option.{some}
-use mathlib.Core.List.{List, [], _∷_, _++_, map}
+use mathlib.Core.Bool.{Bool, true, false}
+use mathlib.Core.List.{List, [], _∷_, map}
 use native.Mathlib.Decide.{ℕ-discrete}
-use native.Mathlib.Omega.{arith}
 use lib.ListN.{length, getD}
 use Rattle.octets.specs.Bytes.{Bytes}
-use Rattle.octets.proofs.Strings.{and-left, and-right}
 use Rattle.handle.specs.Handle.{handle, lap}
-use Rattle.sets.specs.Sets.{has}
-use Rattle.lists.specs.Lists.{fit, filter}
+use Rattle.lists.specs.Lists.{fit}
 use Rattle.lists.proofs.Lists.{length-fit}
 use Rattle.lists.proofs.Cases.{All, All2, cond-both, all-append, all-map, all-any}
 use Rattle.lists.proofs.Rows.{never}
 use Rattle.server.specs.Table.{Table, jobAt, functionAt}
 use Rattle.server.specs.Requests.{Event, sends, Request, requestIn}
 use Rattle.server.specs.Refusals.{isTold}
-use Rattle.server.specs.Events.{Send, plain, copy, assign, Decision, silence, refuse, settle, noop, dropped, toWake, hears, listenersOf}
-use Rattle.server.specs.Server.{Server, decided, next, after}
+use Rattle.server.specs.Events.{Send, plain, copy, assign, Decision, silence, refuse, settle, noop, dropped, toWake, hears}
+use Rattle.server.specs.Server.{Server, decided, next}
 use Rattle.server.specs.Call.{serverIn}
 use Rattle.server_laws.proofs.Outcome.{Change, Served, Outcome, outcome}
-use Rattle.server_laws.proofs.Serials.{Creates, Creation, nothing, one, creation, numbered, creates-grown}
-use Rattle.server_calls.specs.History.{Call, Memory, events, calls, leaves}
-use Rattle.server_calls.proofs.Follows.{Running}
+use Rattle.server_laws.proofs.Serials.{Creation, nothing, one, creation, creates-grown}
+use Rattle.server_calls.specs.History.{Call, Memory, calls, leaves}
 use Rattle.server_calls.proofs.Histories.{LongOutputs}
 use Rattle.server_blind.proofs.Alike.{Alike, alike-same, decided-alike}
 use Rattle.server_blind.proofs.Workloads.{Apart, near-at, next-apart}
@@ -34,12 +29,12 @@ use Rattle.server_blind.proofs.Lone.{lone-none}
 use Rattle.server_blind.proofs.Stored.{created-apart}
 use Rattle.server_blind.proofs.Outputs.{Both}
 use Rattle.server_blind.proofs.LoneCalls.{SameEvents, same-alike}
-use Rattle.demands.specs.Messages.{Message, told, messageOf, messagesOf}
+use Rattle.demands.specs.Messages.{told, messageOf, messagesOf}
 use Rattle.demands.specs.Handles.{isMade}
 use Rattle.demands.specs.Hub.{Hub, Long, callOn, kept, afterCalls, resultsOf, tableIn, serverOf}
-use Rattle.demands.specs.Blind.{Agree, Copied, echoed, forwarded, ButCopies, copies, ButAssigned, assigned, Packets, Later, made-none, made-one, One}
+use Rattle.demands.specs.Blind.{Copied, echoed, forwarded, ButCopies, copies, ButAssigned, assigned, Packets, Later, made-none, made-one, One}
 use Rattle.demands.specs.Blind as B
-use Rattle.demands.proofs.Hubs.{hub-runs, call-tells, call-hub, call-next, calls-hub, calls-after}
+use Rattle.demands.proofs.Hubs.{hub-runs, call-tells, call-hub, call-next}
 use Rattle.demands.proofs.Gone.{made-creates, newest-made}
 use Rattle.demands.proofs.Agreeing.{calls-agree, histories-agree, tables-next}
 

@@ -1,11 +1,11 @@
 -- Each packet that a running server sends reads back, by the packet layer, to its type and its arguments. Assumes nothing.
 use Prim.Native.Nat.{ℕ, _+_, _/_, _%_, _<_, _≤_}
-use mathlib.Core.Path.{_≡_, refl, ap, sym, _∙_, subst}
+use mathlib.Core.Path.{_≡_, refl, ap, sym, _∙_}
 use mathlib.Core.Bool.{Bool, true, false, not, cond, _&&_}
 use mathlib.Core.Option.{Option, none, some}
-use mathlib.Core.List.{List, [], _∷_, _++_, map, append-nil, append-assoc}
+use mathlib.Core.List.{List, [], _∷_, _++_, append-nil, append-assoc}
 use native.Mathlib.Omega.{arith}
-use borrow.Author.Tests.{le-leb, leb-true, eqb-true, ltb-true, ltb-false}
+use borrow.Author.Tests.{le-leb, leb-true, ltb-true, ltb-false}
 use lib.ListN.{length, getD, drop, length-append, length-drop, length-take, List·getD-eq-default}
 use lib.Seq.{drop-append-le}
 use lib.Dec.{leb, ltb, eqb}
@@ -15,10 +15,9 @@ use Rattle.handle.specs.Handle.{handle, lap}
 use Rattle.handle.proofs.Handles.{handle-least, handle-most, lap-zero-free}
 use Rattle.packet.specs.Layout.{rulesOf, requestShape, responseShape, separatorsOf, isOwn}
 use Rattle.packet.specs.Layout as L
-use Rattle.packet.specs.declared.Shape.the-variants.{Echo, Handle}
 use Rattle.packet.specs.declared.Rule.the-variants.{Text, Flag, Opaque}
-use Rattle.packet.specs.Arguments.{fits, fitAll, join, digits}
-use Rattle.packet.specs.Packet.{Reading, got, read, requests, responses}
+use Rattle.packet.specs.Arguments.{fits, fitAll, join}
+use Rattle.packet.specs.Packet.{got, read, requests, responses}
 use Rattle.packet.specs.Opaque.{hides, past, seen, visible, opaque}
 use Rattle.packet_laws.proofs.Packets.{responses-well, Headed, header-good, Got, read-got}
 use Rattle.packet_laws.proofs.Splitting.{split-join}
@@ -28,14 +27,14 @@ use Rattle.lists.specs.Lists.{fit, find, filter}
 use Rattle.lists.proofs.Lists.{length-fit}
 use Rattle.lists.proofs.Searches.{found}
 use Rattle.lists.proofs.Rows.{clash, implies-use, all-at, all-row}
-use Rattle.lists.proofs.Cases.{All, cond-both, cond-cases, all-append, all-map, all-any}
+use Rattle.lists.proofs.Cases.{All, cond-cases, all-append, all-map, all-any}
 use Rattle.server.specs.Sizes.{nameSize, uniqueSize}
 use Rattle.server.specs.Table.{Table, noFunction, noJob, functionAt, jobAt, live, queued, best, hasHandle}
-use Rattle.server.specs.Rules.{textWithin, storedNumber, together, isKnown}
+use Rattle.server.specs.Rules.{textWithin, storedNumber, together}
 use Rattle.server.specs.Requests.{Event, sends, Work, Request, requestIn, getStatus, echo, work}
 use Rattle.server.specs.Refusals.{isTold, errorText, refusalTexts}
 use Rattle.server.specs.Events.{Send, plain, copy, assign, Decision, silence, refuse, settle, error, noop, created, dropped, toWake, hears, listenersOf, flag, statusOf, exceptionsName}
-use Rattle.server.specs.Server.{Server, Sent, render, shownBy, opaqueOf, assignment, answer, decided}
+use Rattle.server.specs.Server.{Server, Sent, render, shownBy, opaqueOf, decided}
 use Rattle.server_laws.proofs.Outcome.{Change, Served, Outcome, outcome}
 use Rattle.server_laws.proofs.Going.{best-found}
 use Rattle.server_laws.proofs.Obeyed.{obeyed}
@@ -43,8 +42,8 @@ use Rattle.server_laws.proofs.Sound.{jobNamed}
 use Rattle.server_calls.proofs.Follows.{Running}
 use Rattle.server_calls.proofs.Refusals.{short-at}
 use Rattle.server_blind.proofs.OpaqueParts.{packetOf}
-use Rattle.demands.specs.Messages.{Message, argumentsIn, argumentsOf, messageOf}
-use Rattle.demands.proofs.Arguments.{WorkRead, work-read, EchoRead, echo-read, StatusRead, status-read}
+use Rattle.demands.specs.Messages.{argumentsIn, argumentsOf, messageOf}
+use Rattle.demands.proofs.Arguments.{work-read, echo-read, status-read}
 
 -- arguments that may be sent by this type
 record Sendable (kind : ℕ) (args : List Bytes) : Type 0 where

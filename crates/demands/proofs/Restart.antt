@@ -1,19 +1,18 @@
 -- A fresh table into which the host writes the last serial of an old one: it runs, and no handle of the old one is given again.
 -- Assumes nothing.
-use Prim.Native.Nat.{ℕ, zero, suc, _+_, _≤_, _<_, _^_}
+use Prim.Native.Nat.{ℕ, zero, suc, _≤_, _<_, _^_}
 use mathlib.Core.Path.{_≡_, refl, ap, ap₂, sym, _∙_, subst}
-use mathlib.Core.Bool.{Bool, true, false, not}
-use mathlib.Core.List.{List, [], _∷_, _++_}
+use mathlib.Core.Bool.{true, false}
+use mathlib.Core.List.{List, _++_}
 use native.Mathlib.Omega.{arith}
 use borrow.Author.Tests.{lt-ltb, le-leb, ltb-true}
-use lib.ListN.{length, take, drop, replicate, length-replicate}
+use lib.ListN.{length, take, replicate}
 use lib.Seq.{take-take}
-use lib.Dec.{ltb, leb}
+use lib.Dec.{leb}
 use Rattle.octets.specs.Bytes.{Bytes, same, firstZero}
 use Rattle.octets.specs.Put.{put}
 use Rattle.octets.proofs.Strings.{and-left}
-use Rattle.octets.proofs.Laying.{put-upon, length-put}
-use Rattle.lists.proofs.Cases.{All}
+use Rattle.octets.proofs.Laying.{put-upon}
 use Rattle.lists.proofs.Rows.{all-replicate}
 use Rattle.server.specs.Sizes.{workloadsSize}
 use Rattle.server.specs.Table.{Table, closed, noFunction, noJob, fresh, withLastSerial, hasHandle}
@@ -24,7 +23,6 @@ use Rattle.server.specs.Call.{Made, serverIn, isSound, make}
 use Rattle.table_laws.proofs.Image.{image-is}
 use Rattle.server_laws.proofs.Obeyed.{obeyed, obeys-by}
 use Rattle.server_laws.proofs.Openness.{none-open}
-use Rattle.server_laws.proofs.Lengths.{Shaped}
 use Rattle.server_calls.specs.History.{Call, Memory, events}
 use Rattle.server_calls.proofs.Follows.{tableWith, workloadsWith, Running, server-back}
 use Rattle.server_calls.proofs.Histories.{LongOutputs, running-start, make-start}

@@ -1,27 +1,26 @@
 -- Over a history, the listeners of a job are those who were told its handle since they opened; and a worker packet goes to each of them
 -- once. Assumes nothing.
-use Prim.Native.Nat.{ℕ, suc, _≤_, _<_, _^_}
+use Prim.Native.Nat.{ℕ, suc, _≤_}
 use mathlib.Core.Path.{_≡_, refl, ap, ap₂, sym, _∙_, subst}
-use mathlib.Core.Bool.{Bool, true, false, not, cond, _||_, _&&_}
+use mathlib.Core.Bool.{Bool, true, false, cond, _||_, _&&_}
 use mathlib.Core.Option.{Option, none, some}
 use mathlib.Core.List.{List, [], _∷_, map}
 use native.Mathlib.Omega.{arith}
-use borrow.Author.Tests.{eqb-true, lt-ltb, ltb-true}
-use lib.ListN.{length, getD}
+use lib.ListN.{length}
 use lib.Dec.{eqb, ltb}
 use Rattle.octets.specs.Bytes.{Bytes}
 use Rattle.octets.proofs.Strings.{and-false, and-left, and-right, and-both, same-is}
-use Rattle.handle.specs.Handle.{handle, lap}
+use Rattle.handle.specs.Handle.{lap}
 use Rattle.handle.proofs.Handles.{handle-one-to-one}
 use Rattle.sets.specs.Sets.{has}
 use Rattle.packet.specs.Packet.{Reading, refused, got, read, requests}
-use Rattle.lists.specs.Lists.{any, find, implies}
+use Rattle.lists.specs.Lists.{find}
 use Rattle.lists.proofs.Cases.{All}
-use Rattle.lists.proofs.Rows.{clash, never, iff, or-left, any-imp, any-at, any-where}
+use Rattle.lists.proofs.Rows.{clash, never, or-left, any-imp}
 use Rattle.lists.proofs.Searches.{found}
 use Rattle.server.specs.Table.{Table, noJob, jobAt, live, heldBy, hasHandle, fresh}
 use Rattle.server.specs.Requests.{Event, sends, Work, tells, reports, ends, throws, Request, work, requestIn}
-use Rattle.server.specs.Events.{Send, copy, Decision, refuse, silence, holdsHandle, hears, served, workAt, onlyIfOpen}
+use Rattle.server.specs.Events.{copy, Decision, refuse, silence, holdsHandle, hears, served, workAt, onlyIfOpen}
 use Rattle.server.specs.Rules.{isOpen}
 use Rattle.server.specs.Sizes.{workloadsSize}
 use Rattle.server.specs.Layout.{tableSize}
@@ -32,14 +31,13 @@ use Rattle.server_calls.specs.History.{Call, Memory, calls, leaves}
 use Rattle.server_calls.proofs.Follows.{Running}
 use Rattle.server_calls.proofs.Histories.{LongOutputs}
 use Rattle.demands.specs.Messages.{Message, told, argumentsOf, messageOf, messagesOf}
-use Rattle.demands.specs.Handles.{givesHandle, firstIs, readingGives, readingTells, given, stands}
+use Rattle.demands.specs.Handles.{givesHandle, readingGives, readingTells, given, stands}
 use Rattle.demands.specs.Hub.{Hub, Long, callOn, kept, afterCalls, resultsOf, tableIn, serverOf, freshMemory}
 use Rattle.demands.specs.Conditions.{typeOf}
-use Rattle.demands.specs.Listening.{createdIs, tellsCreated, submits, turns, heardAfter, heard, listens, wants, isIn, EachOnce}
-use Rattle.demands.proofs.Given.{At, stands-at, at-stands}
+use Rattle.demands.specs.Listening.{createdIs, tellsCreated, submits, turns, heardAfter, heard, listens, wants, EachOnce}
+use Rattle.demands.proofs.Given.{At, at-stands}
 use Rattle.demands.proofs.Gone.{Used, given-used, stands-used, used-next, made-newest, throwing, AsksWork, asks-work}
 use Rattle.demands.proofs.Hubs.{hub-fresh, fresh-server, hub-runs, call-number, call-tells, call-hub, call-next, calls-hub}
-use Rattle.demands.proofs.Handles.{table-next}
 use Rattle.demands.proofs.Listeners.{listens-at, nobody-listens, listener-inside, step-heard}
 
 -- ---- who was told has heard of a used handle

@@ -1,24 +1,24 @@
 -- What a packet of a foreground type asks, and to whom JOB_CREATED goes. Assumes nothing.
 use Prim.Native.Nat.{ℕ, zero, suc, _<_}
-use mathlib.Core.Path.{_≡_, refl, ap, sym, _∙_, subst}
+use mathlib.Core.Path.{_≡_, refl, ap, sym, _∙_}
 use mathlib.Core.Bool.{Bool, true, false, not, cond, _||_, _&&_}
 use mathlib.Core.Option.{none, some}
-use mathlib.Core.List.{List, [], _∷_, _++_, map}
+use mathlib.Core.List.{List, [], _∷_, map}
 use native.Mathlib.Omega.{arith}
 use borrow.Author.Tests.{eqb-true, lt-ltb}
 use lib.ListN.{length, getD, replicate, List·getD-map}
-use lib.Dec.{eqb, ltb}
-use Rattle.octets.specs.Bytes.{Bytes, same, numberAt}
+use lib.Dec.{eqb}
+use Rattle.octets.specs.Bytes.{Bytes, same}
 use Rattle.octets.proofs.Strings.{and-false, and-left, and-right, same-is}
 use Rattle.handle.specs.Handle.{handle, lap}
-use Rattle.packet.specs.Layout.{oneOf, isOwn, requestShape, backgroundOf}
+use Rattle.packet.specs.Layout.{isOwn, requestShape, backgroundOf}
 use Rattle.packet.specs.Packet.{Reading, refused, got, read, requests}
 use Rattle.packet_laws.proofs.Packets.{read-got}
 use Rattle.lists.specs.Lists.{any}
 use Rattle.lists.proofs.Rows.{clash}
 use Rattle.lists.proofs.Searches.{found}
 use Rattle.server.specs.Table.{Table, noJob, jobAt, setJob, withRow, live, roomFor, freePlace, joins, joined}
-use Rattle.server.specs.Requests.{Event, sends, Work, Request, reset, preSleep, echo, canDo, cantDo, grab, submit, work, getStatus, option, requested, fromReading, requestIn}
+use Rattle.server.specs.Requests.{Event, sends, Request, reset, preSleep, echo, canDo, cantDo, grab, submit, work, getStatus, option, requested, fromReading, requestIn}
 use Rattle.server.specs.Requests as R
 use Rattle.server.specs.Refusals.{isTold}
 use Rattle.server.specs.Events.{Send, Decision, silence, refuse, settle, error, noop, created, submittedBy, newJob, accepted, served, submitNew, submitTo, onlyIfOpen, toWake, dropped}
@@ -27,11 +27,11 @@ use Rattle.server_laws.proofs.Outcome.{Stands, Change, Served, Outcome, outcome
 use Rattle.server_laws.proofs.Going.{joined-found}
 use Rattle.server_laws.proofs.Fates.{placeOf}
 use Rattle.server_calls.proofs.Packets.{isBad}
-use Rattle.demands.specs.Messages.{Message, messageOf, messagesOf}
+use Rattle.demands.specs.Messages.{messageOf, messagesOf}
 use Rattle.demands.specs.Conditions.{typeOf, isSubmission}
 use Rattle.demands.specs.Listening.{isForeground, createdIs, tellsCreated}
 use Rattle.demands.proofs.Unmasked.{request-read}
-use Rattle.demands.proofs.Numbers.{Tests, Asks, asks-at}
+use Rattle.demands.proofs.Numbers.{Asks, asks-at}
 
 -- ---- types
 

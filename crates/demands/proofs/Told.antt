@@ -16,11 +16,11 @@ use Rattle.server.specs.Sizes.{outputSize}
 use Rattle.server.specs.Requests.{Event}
 use Rattle.server.specs.Events.{Send, plain, copy, assign}
 use Rattle.server.specs.Server.{Server, render, answer, decided}
-use Rattle.server.specs.Call.{Result, sentBytes, performed}
+use Rattle.server.specs.Call.{sentBytes, performed}
 use Rattle.server_calls.proofs.Follows.{Running}
 use Rattle.server_calls.proofs.Output.{output-fits}
 use Rattle.server_blind.proofs.OpaqueParts.{packetOf}
-use Rattle.demands.specs.Messages.{Addressed, cut, packetsIn, Message, messageIn, told, messageOf, messagesOf}
+use Rattle.demands.specs.Messages.{Addressed, cut, packetsIn, messageIn, told, messageOf, messagesOf}
 use Rattle.demands.proofs.ReadsBack.{Reads, all-read}
 
 -- a packet that is read, and what follows it: its size leads to its end

@@ -10,7 +10,6 @@ use Rattle.octets.specs.Bytes.{Bytes}
 use Rattle.packet.specs.declared.Shape.{Shape}
 use Rattle.packet.specs.declared.Shape.the-variants.{Foreign, Submission, WorkData}
 use Rattle.packet.specs.Layout.{rulesOf, requestShape, separatorsOf, priorityOf, backgroundOf}
-use Rattle.packet.specs.Arguments.{fitAll}
 use Rattle.packet.specs.Packet.{Reading, refused, got, read, requests}
 use Rattle.packet.specs.Opaque.{endsOpaque, opaque, masked, withLast, withOpaque}
 use Rattle.packet_laws.proofs.Splitting.{split-join, fit-length}

@@ -1,18 +1,16 @@
 -- Each call of a history answers and leaves what the server of the definitions does. Assumes nothing.
 use Prim.Native.Nat.{ℕ, _≤_}
-use mathlib.Core.Path.{_≡_, refl, ap, ap₂, sym, _∙_, subst₂}
+use mathlib.Core.Path.{_≡_, refl, subst₂}
 use mathlib.Core.List.{List, [], _∷_}
 use native.Mathlib.Omega.{arith}
 use lib.ListN.{length}
 use Rattle.octets.specs.Bytes.{Bytes}
-use Rattle.octets.specs.Put.{put}
 use Rattle.octets.proofs.Strings.{and-left}
 use Rattle.octets.proofs.Laying.{put-start}
-use Rattle.lists.specs.Lists.{concat}
 use Rattle.lists.proofs.Cases.{All}
 use Rattle.server.specs.Sizes.{workloadsSize}
 use Rattle.server.specs.Server.{Server, answer, next}
-use Rattle.server.specs.Layout.{tableSize, bytesOf, isImage}
+use Rattle.server.specs.Layout.{tableSize, isImage}
 use Rattle.server.specs.Call.{sentBytes, serverIn, isSound, performed}
 use Rattle.table_laws.proofs.Image.{image-back}
 use Rattle.server_calls.specs.History.{Call, Memory, calls}

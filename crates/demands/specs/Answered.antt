@@ -9,7 +9,7 @@ use Rattle.packet.specs.Packet.{got, packet, responses}
 use Rattle.server.specs.Refusals.{errorText}
 use Rattle.server.specs.Requests.{Event, sends}
 use Rattle.server.specs.Call.{Result, left}
-use Rattle.demands.specs.Messages.{Message, told}
+use Rattle.demands.specs.Messages.{told}
 
 -- 01: "the number as two decimal digits, a zero byte, the text"
 abbrev pub errorArguments : ℕ → List Bytes

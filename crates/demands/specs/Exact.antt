@@ -1,5 +1,4 @@
 -- What each call of a history answers and leaves, to the byte. Demand 2. Assumes nothing.
-use Prim.Native.Nat.{ℕ}
 use mathlib.Core.Path.{_≡_}
 use mathlib.Core.List.{List, [], _∷_, _++_}
 use lib.ListN.{length, drop}

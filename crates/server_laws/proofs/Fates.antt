@@ -2,32 +2,31 @@
 -- its job as it is. For a table that obeys the rules. Assumes nothing.
 use Prim.Native.Nat.{ℕ, suc, _<_}
 use mathlib.Core.Path.{_≡_, refl, ap, sym, _∙_, subst}
-use mathlib.Core.Bool.{Bool, true, false, not, cond, _&&_, _||_, and-false}
+use mathlib.Core.Bool.{Bool, true, false, not, cond, _||_, and-false}
 use mathlib.Core.Option.{Option, none, some}
-use mathlib.Core.List.{List, [], _∷_, map}
+use mathlib.Core.List.{List, [], map}
 use native.Mathlib.Decide.{ℕ-discrete}
 use native.Mathlib.Omega.{arith}
-use borrow.Author.Tests.{lt-ltb, ltb-true, ne-eqb}
+use borrow.Author.Tests.{lt-ltb, ne-eqb}
 use lib.ListN.{length, getD, set, List·getD-map}
 use lib.Seq.{getD-set-same, getD-set-other}
 use lib.Dec.{ltb}
 use Rattle.octets.specs.Bytes.{Bytes}
-use Rattle.octets.proofs.Strings.{and-left}
-use Rattle.sets.specs.Sets.{isEmpty, insert, has}
+use Rattle.sets.specs.Sets.{isEmpty, insert}
 use Rattle.sets.proofs.Laws.{nonempty, has-insert-same, zero-remove}
 use Rattle.lists.specs.Lists.{find, implies}
 use Rattle.lists.proofs.Cases.{cond-cases}
 use Rattle.lists.proofs.Rows.{clash, all-row}
 use Rattle.lists.proofs.Searches.{found}
 use Rattle.server.specs.declared.JobRow.{JobRow}
-use Rattle.server.specs.Table.{Job, Table, noJob, noRow, jobAt, freshRow, withRow, withHolder, queued, live, roomFor, best, freePlace, joined}
+use Rattle.server.specs.Table.{Job, Table, noJob, jobAt, freshRow, withRow, withHolder, queued, roomFor, best, freePlace, joined}
 use Rattle.server.specs.Table as T
 use Rattle.server.specs.Requests.{Event, opens, closes, sends, Work, tells, reports, ends, throws, Request, reset, preSleep, echo, canDo, cantDo, grab, submit, work, getStatus, option, requestIn}
 use Rattle.server.specs.Requests as R
-use Rattle.server.specs.Events.{Send, Decision, silence, refuse, settle, dropped, forgot, lost, unlessLost, opening, closing, leftBy, unableToAll, sleeping, submittedBy, newJob, accepted, holdsHandle, worked}
-use Rattle.server.specs.Rules.{obeys, queuedAwaited}
+use Rattle.server.specs.Events.{Send, Decision, silence, refuse, settle, dropped, forgot, lost, unlessLost, opening, closing, leftBy, unableToAll, sleeping, submittedBy, newJob, holdsHandle, worked}
+use Rattle.server.specs.Rules.{obeys}
 use Rattle.server.specs.Server.{Server, decided}
-use Rattle.server_laws.proofs.Outcome.{Change, Refuses, Served, Stands, From, by-open, by-close, by-packet, Silences, noConnection, closesNone, sendsClosed, opensTwice, Outcome, outcome}
+use Rattle.server_laws.proofs.Outcome.{Change, Refuses, Served, Stands, by-open, by-close, by-packet, Silences, noConnection, closesNone, sendsClosed, opensTwice, Outcome, outcome}
 use Rattle.server_laws.proofs.Obeyed.{obeyed}
 use Rattle.server_laws.proofs.AtRest.{awaited-kept}
 use Rattle.server_laws.proofs.Going.{best-found}
