@@ -1,16 +1,13 @@
 -- The three demands, of the bytes that a host sees. A host's memory is any that is long enough and whose table breaks no rule
 -- (`Hub`): a fresh table is one, and whatever calls leave is one. Assumes nothing.
-use Prim.Native.Nat.{ℕ, _≤_}
+use Prim.Native.Nat.{ℕ}
 use mathlib.Core.Path.{_≡_}
 use mathlib.Core.Bool.{true, false, _||_, _&&_}
 use mathlib.Core.List.{List}
-use lib.ListN.{length}
 use Rattle.octets.specs.Bytes.{Bytes}
-use Rattle.server.specs.Sizes.{workloadsSize}
-use Rattle.server.specs.Layout.{tableSize}
 use Rattle.packet.specs.Packet.{read, requests}
 use Rattle.server.specs.Requests.{Event, sends, fromReading, requestIn}
-use Rattle.server.specs.Server.{Server}
+use Rattle.server.specs.Server.{Server, start}
 use Rattle.server.specs.Call.{call}
 use Rattle.server_calls.specs.History.{Call, Memory}
 use Rattle.server_calls.proofs.Follows.{Running, tableWith, workloadsWith}
@@ -26,8 +23,8 @@ use Rattle.demands.specs.Listening.{heard, listens, wants, EachOnce}
 use Rattle.demands.specs.Exact.{Walk}
 use Rattle.demands.specs.Blind.{Agree, One}
 use Rattle.demands.specs.Handles.{given, stands, isMade, readingTells, NoMore}
-use Rattle.demands.specs.Hub.{Hub, Long, callOn, kept, afterCalls, resultsOf, tableIn, serverOf, freshMemory, restarted}
-use Rattle.demands.proofs.Hubs.{hub-with, hub-fresh, calls-hub}
+use Rattle.demands.specs.Hub.{Hub, Room, Long, callOn, kept, afterCalls, resultsOf, tableIn, serverOf, freshMemory, restarted}
+use Rattle.demands.proofs.Hubs.{hub-with, hub-fresh, fresh-server, calls-hub}
 use Rattle.demands.proofs.Answering.{call-answered}
 use Rattle.demands.proofs.Numbers.{number-first}
 use Rattle.demands.proofs.Walking.{walk-hub}
@@ -41,18 +38,20 @@ use Rattle.demands.proofs.OneChanged.{one-changed}
 -- ---- the memory
 
 -- making a fresh table leaves such memory
-pub fresh-hub : (n : ℕ) → n ≤ 256 → (t w : Bytes) → tableSize n ≤ length t → workloadsSize ≤ length w
-    → Hub n (freshMemory n t w)
-fresh-hub = hub-fresh
+pub fresh-hub : (n : ℕ) (t w : Bytes) → Room n t w → Hub n (freshMemory n t w)
+fresh-hub n t w r = hub-fresh n (r .few) t w (r .longTable) (r .longWorkloads)
 
--- so do any calls on such memory
+-- it holds the fresh server of the definitions
+pub fresh-holds : (n : ℕ) (t w : Bytes) → Room n t w → serverOf n (freshMemory n t w) ≡ start n
+fresh-holds n t w r = fresh-server n (r .few) t w (r .longTable) (r .longWorkloads)
+
+-- so does whatever a server that runs is laid into
+pub running-hub : (n : ℕ) (t w : Bytes) → Room n t w → (s : Server) → Running n s → Hub n (record { table = tableWith s t; workloads = workloadsWith s w })
+running-hub n t w r s h = hub-with n (r .few) s h t w (r .longTable) (r .longWorkloads)
+
+-- and any calls on such memory leave such memory
 pub later-hub : (n : ℕ) (xs : List Call) (m : Memory) → Hub n m → LongOutputs n xs → Hub n (afterCalls n xs m)
 later-hub = calls-hub
-
--- and so is whatever holds a server that runs
-pub running-hub : (n : ℕ) → n ≤ 256 → (s : Server) → Running n s → (t w : Bytes) → tableSize n ≤ length t → workloadsSize ≤ length w
-    → Hub n (record { table = tableWith s t; workloads = workloadsWith s w })
-running-hub = hub-with
 
 -- ---- demand 1
 
@@ -65,14 +64,18 @@ demand-1 = call-answered
 pub demand-1-number : (n : ℕ) (t w o : Bytes) (e : Event) → call n e t w o .number ≡ first (conditions n e t w o)
 demand-1-number = number-first
 
+-- ---- demand 2
+
+-- number, length, output, table and workloads of each call of a history are those of the server of the definitions, and each packet reads
+-- back, by the packet layer, to its type and arguments
+pub demand-2 : (n : ℕ) (m : Memory) → Hub n m → (xs : List Call) → LongOutputs n xs → Walk (m .table) (m .workloads) (serverOf n m) xs (resultsOf n xs m)
+demand-2 = walk-hub
+
+-- the server reads a packet with its opaque bytes set to zero. That changes nothing that is asked: it is what the packet layer reads
+pub asked-as-read : (b : Bytes) → requestIn b ≡ fromReading (read requests b)
+asked-as-read = request-read
+
 module _ (n : ℕ) (m : Memory) (hub : Hub n m) where
-  -- ---- demand 2
-
-  -- number, length, output, table and workloads of each call of a history are those of the server of the definitions, and each packet
-  -- reads back to its type and arguments
-  pub demand-2 : (xs : List Call) → LongOutputs n xs → Walk (m .table) (m .workloads) (serverOf n m) xs (resultsOf n xs m)
-  demand-2 = walk-hub n m hub
-
   -- ---- handles
 
   -- whatever handle a packet of types 8, 11 or 31 gives, a job that stands in the table before the call has it, or the job that the call
@@ -106,31 +109,13 @@ module _ (n : ℕ) (m : Memory) (hub : Hub n m) where
       → EachOnce (λ l. listens l h (tableIn n m) && wants (tableIn n m) (typeOf b) l) (typeOf b) (argumentsOf (sends d b)) (told (callOn n m x))
   results-go = call-tells-each n m hub
 
-  -- ---- restart
-
-  -- what is said above holds from one fresh table on: a second one gives the same handles again. But a fresh table, made of any long enough
-  -- buffers, into which the host writes bytes 0 to 3 of the old one, is such memory
-  pub restart-runs : (t w : Bytes) → tableSize n ≤ length t → workloadsSize ≤ length w → Hub n (restarted n m t w)
-  restart-runs = restart-hub n m hub
-
-  -- and no handle that a call x gave before the restart is given after it, nor is a late result for it taken
-  pub restart-unheard : (h : Bytes) (x : Call) → Long n x → given h (told (callOn n m x)) ≡ true → (between : List Call) → LongOutputs n between
-      → (t w : Bytes) → tableSize n ≤ length t → workloadsSize ≤ length w → (later : List Call) → LongOutputs n later
-      → NoMore n h (afterCalls n later (restarted n (afterCalls n between (kept (callOn n m x))) t w))
-  restart-unheard = told-restart n m hub
-
 -- both together, from a fresh table on: a result goes exactly to those who were told this very handle since their open
-pub results-told : (n : ℕ) → n ≤ 256 → (t w : Bytes) → tableSize n ≤ length t → workloadsSize ≤ length w → (xs : List Call) → LongOutputs n xs
-    → let m = freshMemory n t w in let u = afterCalls n xs m in
+pub results-told : (n : ℕ) (t w : Bytes) → Room n t w → (xs : List Call) → LongOutputs n xs → let m = freshMemory n t w in let u = afterCalls n xs m in
     (x : Call) → Long n x → (d : ℕ) (b h : Bytes) → x .event ≡ sends d b → readingTells h (read requests b) ≡ true → callOn n u x .number ≡ 0
     → EachOnce (λ l. heard l h false xs (resultsOf n xs m) && wants (tableIn n u) (typeOf b) l) (typeOf b) (argumentsOf (sends d b)) (told (callOn n u x))
-results-told = fresh-results
+results-told n t w r = fresh-results n (r .few) t w (r .longTable) (r .longWorkloads)
 
 -- ---- demand 3
-
--- the server reads a packet with its opaque bytes set to zero. That changes nothing that is asked: it is what the packet layer reads
-pub asked-as-read : (b : Bytes) → requestIn b ≡ fromReading (read requests b)
-asked-as-read = request-read
 
 -- two histories whose events differ in opaque bytes alone, on two hosts' memories whose tables are equal, whatever else differs in them (the
 -- workloads, the bytes beyond the layout, the lengths) and whatever outputs are lent: every two calls agree in everything but opaque bytes
@@ -143,3 +128,15 @@ demand-3 = histories-agree
 pub demand-3-one : (n : ℕ) (m w : Memory) → Hub n m → Hub n w → serverOf n m ≡ serverOf n w → (x y : Call) → Long n x → Long n y → Alike (x .event) (y .event)
     → {xs ys : List Call} → SameEvents xs ys → LongOutputs n xs → LongOutputs n ys → One n m w x y xs ys
 demand-3-one = one-changed
+
+-- ---- restart
+
+-- what is said of handles holds from one fresh table on: a second one begins with serial 1 again. But a fresh table, made of any long enough
+-- buffers, into which the host writes bytes 0 to 3 of the old one, its last serial, is a host's memory
+pub restart-runs : (n : ℕ) (old : Memory) → Hub n old → (t w : Bytes) → Room n t w → Hub n (restarted n old t w)
+restart-runs n old hub t w r = restart-hub n old hub t w (r .longTable) (r .longWorkloads)
+
+-- and no handle that a call x gave before the restart is given after it, nor is a late result for it taken
+pub restart-unheard : (n : ℕ) (m : Memory) → Hub n m → (h : Bytes) (x : Call) → Long n x → given h (told (callOn n m x)) ≡ true → (between : List Call) → LongOutputs n between
+    → (t w : Bytes) → Room n t w → (later : List Call) → LongOutputs n later → NoMore n h (afterCalls n later (restarted n (afterCalls n between (kept (callOn n m x))) t w))
+restart-unheard n m hub h x lx g between lb t w r = told-restart n m hub h x lx g between lb t w (r .longTable) (r .longWorkloads)

@@ -21,6 +21,12 @@ pub record Hub (n : ℕ) (m : Memory) : Type 0 where
   pub longWorkloads : workloadsSize ≤ length (m .workloads)
   pub sound : isSound n (m .table) ≡ true
 
+-- buffers t and w that a table for n connections can be made of
+pub record Room (n : ℕ) (t w : Bytes) : Type 0 where
+  pub few : n ≤ 256
+  pub longTable : tableSize n ≤ length t
+  pub longWorkloads : workloadsSize ≤ length w
+
 -- the output lent is long enough
 abbrev pub Long : ℕ → Call → Type 0
 Long n x = outputSize n ≤ length (x .output)
