@@ -2,7 +2,6 @@
 use Prim.Native.Nat.{ℕ, suc, _<_}
 use mathlib.Core.Path.{_≡_, refl, sym}
 use mathlib.Core.Bool.{Bool, true, false, _||_}
-use mathlib.Core.Option.{some}
 use mathlib.Core.List.{List, [], _∷_, map}
 use borrow.Author.Tests.{eqb-true}
 use lib.ListN.{length}
@@ -15,15 +14,14 @@ use Rattle.packet.specs.Packet.{requests}
 use Rattle.packet_laws.proofs.Packets.{read-got}
 use Rattle.lists.specs.Lists.{any, filter}
 use Rattle.lists.proofs.Cases.{All, cond-both, all-append, all-map, all-any}
-use Rattle.lists.proofs.Searches.{found}
 use Rattle.lists.proofs.Rows.{clash, never, any-at, any-where}
-use Rattle.server.specs.Table.{Table, noJob, jobAt, live, hasHandle, joins, joined}
+use Rattle.server.specs.Table.{Table, noJob, jobAt, live, hasHandle, joins}
 use Rattle.server.specs.Requests.{Event, sends, Work, Request, requestIn, work}
 use Rattle.server.specs.Refusals.{isTold}
 use Rattle.server.specs.Events.{Send, plain, copy, assign, Decision, silence, refuse, settle, dropped, forgot, toWake, noop, created, unableToAll, sleeping, hears, listenersOf}
 use Rattle.server.specs.Server.{Server, decided, next}
 use Rattle.server_laws.proofs.Outcome.{Change, Served, Outcome, outcome}
-use Rattle.server_laws.proofs.Going.{best-found, grabbed-live, joined-found}
+use Rattle.server_laws.proofs.Going.{best-found, grabbed-live, joined-found, joined-inside}
 use Rattle.demands.specs.Messages.{messageOf, messagesOf}
 use Rattle.demands.specs.Handles.{givesHandle, readingGives, given, stands}
 use Rattle.demands.proofs.Arguments.{work-read}
@@ -106,10 +104,6 @@ module _ (e : Event) (s : Server) where
   gives-refused : (m c n : ℕ) (t : Table) → All (Gives m) (refuse c n t .packets)
   unfolding refuse
   gives-refused m c n t = cond-both (All (Gives m)) (isTold n) (All.more (gives-plain m c 19 _ refl) All.none) All.none
-
-joined-inside : (t : Table) (f u : Bytes) (p : ℕ) → joined t f u ≡ some p → p < length (t .jobs)
-unfolding joined
-joined-inside t f u p r = found (joins (t .functions) f u) noJob (t .jobs) (some p) r .inside
 
 module _ (c : ℕ) (b : Bytes) (s : Server) where
   abbrev e : Event

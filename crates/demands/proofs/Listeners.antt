@@ -27,7 +27,7 @@ use Rattle.server.specs.Server.{Server, answer, decided, next}
 use Rattle.server_laws.proofs.Outcome.{Stands, Silences, Outcome, outcome}
 use Rattle.server_laws.proofs.Openness.{none-open}
 use Rattle.server_laws.proofs.Obeyed.{obeyed}
-use Rattle.server_laws.proofs.Fates.{Untouched, Fate, stays, begins, joins, taken, told, left, drops, fates}
+use Rattle.server_laws.proofs.Fates.{Untouched, Becomes, stays, begins, joins, taken, told, left, drops, fates}
 use Rattle.server_calls.proofs.Follows.{Running, running-next}
 use Rattle.demands.specs.Messages.{messagesOf}
 use Rattle.demands.specs.Handles.{stands}
@@ -35,7 +35,7 @@ use Rattle.demands.specs.Conditions.{typeOf}
 use Rattle.demands.specs.Listening.{isForeground, tellsCreated, heardAfter, listens}
 use Rattle.demands.proofs.Given.{At, stands-at}
 use Rattle.demands.proofs.Gone.{last-fits, serial-past, inside-live}
-use Rattle.demands.proofs.Submissions.{foreground-asks, other-foreground, tells-created, join-packets, make-packets, Created, by-joining, by-making, created-known}
+use Rattle.demands.proofs.Submissions.{or-off, foreground-asks, other-foreground, tells-created, join-packets, make-packets, Created, by-joining, by-making, created-known}
 
 -- ---- one place for each serial
 
@@ -141,10 +141,6 @@ closes-number c s o = rw (lt-ltb c (length (s .table .connections)) (o .inside),
 
 -- ---- tests
 
-or-off : (b : Bool) → b || false ≡ b
-or-off true = refl
-or-off false = refl
-
 or-on : (b : Bool) → b || true ≡ true
 or-on true = refl
 or-on false = refl
@@ -238,7 +234,7 @@ module _ (n : ℕ) (s : Server) (r : Running n s) (c : ℕ) (h : Bytes) where
 
   -- ---- each fate
 
-  heard-by : (p : ℕ) {e : Event} {k : Job} → Fate u p (jobAt u p) e k → live (k .row) ≡ true → h ≡ handle lap (k .row .serial) → Heard e (has (k .row .listeners) c)
+  heard-by : (p : ℕ) {e : Event} {k : Job} → Becomes u p (jobAt u p) e k → live (k .row) ≡ true → h ≡ handle lap (k .row .serial) → Heard e (has (k .row .listeners) c)
   heard-by p (stays e z) l q = sym (was p l q) ∙ stays-heard e p z l q
   heard-by p (begins d b priority background f v size i o a z r₁ r₂ r₃ m) l q =
       let (ls, g) = make-packets s d b o priority background f v size a i p r₁ r₂ r₃ m in

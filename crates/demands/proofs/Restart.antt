@@ -1,28 +1,25 @@
 -- A fresh table into which the host writes the last serial of an old one: it runs, and no handle of the old one is given again.
 -- Assumes nothing.
-use Prim.Native.Nat.{ℕ, zero, suc, _≤_, _<_, _^_}
+use Prim.Native.Nat.{ℕ, _≤_, _<_, _^_}
 use mathlib.Core.Path.{_≡_, refl, ap, ap₂, sym, _∙_, subst}
 use mathlib.Core.Bool.{true, false}
 use mathlib.Core.List.{List, _++_}
 use native.Mathlib.Omega.{arith}
-use borrow.Author.Tests.{lt-ltb, le-leb, ltb-true}
-use lib.ListN.{length, take, replicate}
+use borrow.Author.Tests.{ltb-true}
+use lib.ListN.{length, take}
 use lib.Seq.{take-take}
-use lib.Dec.{leb}
-use Rattle.octets.specs.Bytes.{Bytes, same, firstZero}
+use Rattle.octets.specs.Bytes.{Bytes}
 use Rattle.octets.specs.Put.{put}
 use Rattle.octets.proofs.Strings.{and-left}
 use Rattle.octets.proofs.Laying.{put-upon}
-use Rattle.lists.proofs.Rows.{all-replicate}
 use Rattle.server.specs.Sizes.{workloadsSize}
-use Rattle.server.specs.Table.{Table, closed, noFunction, noJob, fresh, withLastSerial, hasHandle}
-use Rattle.server.specs.Rules.{onlyOpen, sleepersIdleFrom, obeys}
+use Rattle.server.specs.Table.{Table, fresh, withLastSerial, hasHandle}
 use Rattle.server.specs.Server.{Server, next, start, after}
 use Rattle.server.specs.Layout.{little, tableSize, tableOf, bytesOf, isImage}
 use Rattle.server.specs.Call.{Made, serverIn, isSound, make}
 use Rattle.table_laws.proofs.Image.{image-is}
-use Rattle.server_laws.proofs.Obeyed.{obeyed, obeys-by}
-use Rattle.server_laws.proofs.Openness.{none-open}
+use Rattle.server_laws.proofs.Obeyed.{obeyed}
+use Rattle.server_laws.proofs.Kept.{obeys-from}
 use Rattle.server_calls.specs.History.{Call, Memory, events}
 use Rattle.server_calls.proofs.Follows.{tableWith, workloadsWith, Running, server-back}
 use Rattle.server_calls.proofs.Histories.{LongOutputs, running-start, make-start}
@@ -38,39 +35,6 @@ use Rattle.demands.proofs.Handles.{no-more}
 -- a fresh server whose last serial is k
 unfoldable startFrom : ℕ → ℕ → Server
 startFrom n k = record { table = withLastSerial k (start n .table); workloads = start n .workloads }
-
-fresh-idle : (t : Table) (i n : ℕ) → sleepersIdleFrom t i (replicate n closed) ≡ true
-fresh-idle t i zero = refl
-fresh-idle t i (suc n) = fresh-idle t (suc i) n
-
-obeys-from : (n k : ℕ) → k < 2 ^ 32 → obeys (withLastSerial k (fresh n)) ≡ true
-unfolding fresh same firstZero
-obeys-from n k small =
-    let t = withLastSerial k (fresh n) in
-    obeys-by t
-    (record {
-      sound =
-          record {
-            small = lt-ltb k 4294967296 small;
-            below = all-replicate (λ j. leb (j .row .serial) k) 32 noJob (le-leb 0 k (omega arith));
-            serials = refl;
-            names = refl;
-            texts = refl;
-            sizes = refl;
-            rows = refl;
-            functions = refl;
-            abilities = all-replicate (λ x. onlyOpen t (x .able)) 16 noFunction (none-open t);
-            listeners = all-replicate (λ j. onlyOpen t (j .row .listeners)) 32 noJob (none-open t);
-            holders = refl;
-            clear = all-replicate _ n closed refl;
-            uniques = refl;
-            jobsKnown = refl;
-            ablesKnown = refl;
-          };
-      defined = refl;
-      awaited = refl;
-      idle = fresh-idle t 0 n;
-    })
 
 running-from : (n k : ℕ) → k < 2 ^ 32 → Running n (startFrom n k)
 unfolding startFrom start

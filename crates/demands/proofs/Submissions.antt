@@ -16,15 +16,14 @@ use Rattle.packet.specs.Packet.{Reading, refused, got, read, requests}
 use Rattle.packet_laws.proofs.Packets.{read-got}
 use Rattle.lists.specs.Lists.{any}
 use Rattle.lists.proofs.Rows.{clash}
-use Rattle.lists.proofs.Searches.{found}
-use Rattle.server.specs.Table.{Table, noJob, jobAt, setJob, withRow, live, roomFor, freePlace, joins, joined}
+use Rattle.server.specs.Table.{Table, jobAt, setJob, withRow, live, roomFor, freePlace, joins, joined}
 use Rattle.server.specs.Requests.{Event, sends, Request, reset, preSleep, echo, canDo, cantDo, grab, submit, work, getStatus, option, requested, fromReading, requestIn}
 use Rattle.server.specs.Requests as R
 use Rattle.server.specs.Refusals.{isTold}
 use Rattle.server.specs.Events.{Send, Decision, silence, refuse, settle, error, noop, created, submittedBy, newJob, accepted, served, submitNew, submitTo, onlyIfOpen, toWake, dropped}
 use Rattle.server.specs.Server.{Server, decided}
 use Rattle.server_laws.proofs.Outcome.{Stands, Change, Served, Outcome, outcome}
-use Rattle.server_laws.proofs.Going.{joined-found}
+use Rattle.server_laws.proofs.Going.{joined-found, joined-inside}
 use Rattle.server_laws.proofs.Fates.{placeOf}
 use Rattle.server_calls.proofs.Packets.{isBad}
 use Rattle.demands.specs.Messages.{messageOf, messagesOf}
@@ -159,7 +158,7 @@ unfolding messageOf
 any-noops c h e s [] = refl
 any-noops c h e s (l ∷ ls) = rw (and-false (eqb l c), any-noops c h e s ls)
 
-or-off : (b : Bool) → b || false ≡ b
+pub or-off : (b : Bool) → b || false ≡ b
 or-off true = refl
 or-off false = refl
 
@@ -201,10 +200,6 @@ refused-tells c h e s d n = go (isTold n)
     go true = rw (and-false (eqb d c))
     go false = refl
 
-joined-at : (t : Table) (f u : Bytes) (p : ℕ) → joined t f u ≡ some p → p < length (t .jobs)
-unfolding joined
-joined-at t f u p r = found (joins (t .functions) f u) noJob (t .jobs) (some p) r .inside
-
 -- ---- which job a foreground submission's JOB_CREATED names
 
 pub data Created (d : ℕ) (b : Bytes) (t : Table) (h : Bytes) : Type 0 where
@@ -238,7 +233,7 @@ module _ (c d : ℕ) (b h : Bytes) (s : Server) where
   says-change q o (Change.noJobFor uniq r) = quiet _ q refl refl
   says-change q o (Change.grabbed uniq p r) = quiet _ q refl refl
   says-change q o (Change.joins priority background f u size p r) = λ g.
-      by-joining o p (ap (placeOf d (s .table)) q ∙ rw r) (joined-at (s .table) f u p r) (joined-found (s .table) f u p r) (first-told _ _ g)
+      by-joining o p (ap (placeOf d (s .table)) q ∙ rw r) (joined-inside (s .table) f u p r) (joined-found (s .table) f u p r) (first-told _ _ g)
   says-change q o (Change.accepts priority background f u size k p r₁ r₂ r₃ l) = λ g. by-making l (first-told _ _ g)
   says-change q o (Change.worker how kind j x y p r) = quiet _ q refl refl
   says-change q o (Change.status j i r) = quiet _ q refl refl

@@ -20,7 +20,6 @@ use Rattle.lists.proofs.Rows.{clash, all-row}
 use Rattle.lists.proofs.Searches.{found}
 use Rattle.server.specs.declared.JobRow.{JobRow}
 use Rattle.server.specs.Table.{Job, Table, noJob, jobAt, freshRow, withRow, withHolder, queued, roomFor, best, freePlace, joined}
-use Rattle.server.specs.Table as T
 use Rattle.server.specs.Requests.{Event, opens, closes, sends, Work, tells, reports, ends, throws, Request, reset, preSleep, echo, canDo, cantDo, grab, submit, work, getStatus, option, requestIn}
 use Rattle.server.specs.Requests as R
 use Rattle.server.specs.Events.{Send, Decision, silence, refuse, settle, dropped, forgot, lost, unlessLost, opening, closing, leftBy, unableToAll, sleeping, submittedBy, newJob, holdsHandle, worked}
@@ -29,7 +28,7 @@ use Rattle.server.specs.Server.{Server, decided}
 use Rattle.server_laws.proofs.Outcome.{Change, Refuses, Served, Stands, by-open, by-close, by-packet, Silences, noConnection, closesNone, sendsClosed, opensTwice, Outcome, outcome}
 use Rattle.server_laws.proofs.Obeyed.{obeyed}
 use Rattle.server_laws.proofs.AtRest.{awaited-kept}
-use Rattle.server_laws.proofs.Going.{best-found}
+use Rattle.server_laws.proofs.Going.{best-found, joined-inside}
 use Rattle.server_laws.proofs.Serials.{free-place}
 
 -- ---- the place that a request is about
@@ -63,17 +62,17 @@ Untouched t p (closes c) = ¬ Stands t c true
 Untouched t p (sends c b) = Stands t c true → ¬ (placeOf c t (requestIn b) ≡ some p)
 
 -- what becomes of the job j at place p, and why
-pub data Fate (t : Table) (p : ℕ) (j : Job) : Event → Job → Type 0 where
-  stays : (e : Event) → Untouched t p e → Fate t p j e j
+pub data Becomes (t : Table) (p : ℕ) (j : Job) : Event → Job → Type 0 where
+  stays : (e : Event) → Untouched t p e → Becomes t p j e j
   begins : (c : ℕ) (b : Bytes) (priority : ℕ) (background : Bool) (f u : Bytes) (size q : ℕ) → Stands t c true → requestIn b ≡ submit priority background f u size → j .row .serial ≡ 0
-      → joined t f u ≡ none → roomFor (t .functions) f ≡ some q → freePlace t ≡ some p → t .last < 4294967295 → Fate t p j (sends c b) (newJob c priority background q u size (suc (t .last)))
+      → joined t f u ≡ none → roomFor (t .functions) f ≡ some q → freePlace t ≡ some p → t .last < 4294967295 → Becomes t p j (sends c b) (newJob c priority background q u size (suc (t .last)))
   joins : (c : ℕ) (b : Bytes) (priority : ℕ) (background : Bool) (f u : Bytes) (size : ℕ) → Stands t c true → requestIn b ≡ submit priority background f u size → joined t f u ≡ some p
-      → Fate t p j (sends c b) (withRow (submittedBy c background (j .row)) j)
-  taken : (c : ℕ) (b : Bytes) (uniq : Bool) → Stands t c true → requestIn b ≡ grab uniq → best t c ≡ some p → Fate t p j (sends c b) (withRow (withHolder (suc c) (j .row)) j)
+      → Becomes t p j (sends c b) (withRow (submittedBy c background (j .row)) j)
+  taken : (c : ℕ) (b : Bytes) (uniq : Bool) → Stands t c true → requestIn b ≡ grab uniq → best t c ≡ some p → Becomes t p j (sends c b) (withRow (withHolder (suc c) (j .row)) j)
   told : (c : ℕ) (b : Bytes) (how : Work) (kind : ℕ) (h n d : Bytes) → Stands t c true → requestIn b ≡ work how kind h n d → find (λ j. holdsHandle c h (j .row)) (t .jobs) ≡ some p
-      → Fate t p j (sends c b) (worked how n d j)
-  left : (c : ℕ) → Stands t c true → lost (leftBy c j .row) ≡ false → Fate t p j (closes c) (leftBy c j)
-  drops : (c : ℕ) → Stands t c true → lost (leftBy c j .row) ≡ true → Fate t p j (closes c) noJob
+      → Becomes t p j (sends c b) (worked how n d j)
+  left : (c : ℕ) → Stands t c true → lost (leftBy c j .row) ≡ false → Becomes t p j (closes c) (leftBy c j)
+  drops : (c : ℕ) → Stands t c true → lost (leftBy c j .row) ≡ true → Becomes t p j (closes c) noJob
 
 -- ---- settling drops only what is lost
 
@@ -116,7 +115,7 @@ module _ (t : Table) (h : obeys t ≡ true) (p : ℕ) where
   here = jobAt t p
 
   -- jobs as they were
-  same-jobs : (e : Event) (ss : List Send) (u : Table) → u .jobs ≡ t .jobs → Untouched t p e → Fate t p here e (jobAt (settle ss u .table) p)
+  same-jobs : (e : Event) (ss : List Send) (u : Table) → u .jobs ≡ t .jobs → Untouched t p e → Becomes t p here e (jobAt (settle ss u .table) p)
   same-jobs e ss u q n =
       let z : jobAt (settle ss u .table) p ≡ here = settled-at ss u p ∙ ap (λ (js : List Job). unlessLost (getD js p noJob)) q ∙ unlost here (awaited-at t h p) in
       rw z (stays e n)
@@ -126,28 +125,24 @@ module _ (t : Table) (h : obeys t ≡ true) (p : ℕ) where
 
   -- one job anew, at place i
   one-job : (c : ℕ) (b : Bytes) (a : Request) → requestIn b ≡ a → (i : ℕ) → placeOf c t a ≡ some i → i < length (t .jobs) → (ss : List Send) (u : Table) (k : Job) → u .jobs ≡ set (t .jobs) i k
-      → (i ≡ p → Fate t p here (sends c b) k) → lost (k .row) ≡ false → Fate t p here (sends c b) (jobAt (settle ss u .table) p)
+      → (i ≡ p → Becomes t p here (sends c b) k) → lost (k .row) ≡ false → Becomes t p here (sends c b) (jobAt (settle ss u .table) p)
   one-job c b a q i r l ss u k v f g = by (ℕ-discrete i p)
     where
       at : (x : Job) → getD (set (t .jobs) i k) p noJob ≡ x → lost (x .row) ≡ false → jobAt (settle ss u .table) p ≡ x
       at x e z = settled-at ss u p ∙ ap (λ (js : List Job). unlessLost (getD js p noJob)) v ∙ ap unlessLost e ∙ unlost x z
 
-      by : Dec (i ≡ p) → Fate t p here (sends c b) (jobAt (settle ss u .table) p)
+      by : Dec (i ≡ p) → Becomes t p here (sends c b) (jobAt (settle ss u .table) p)
       by (yes e) = rw (at k (ap (λ (m : ℕ). getD (set (t .jobs) i k) m noJob) (sym e) ∙ getD-set-same (t .jobs) i k noJob l) g) (f e)
       by (no e) =
           rw (at here (getD-set-other (t .jobs) i p k noJob (λ y. e (sym y))) (awaited-at t h p))
           (stays (sends c b) (λ o y. e (let z : some i ≡ some p = sym r ∙ ap (placeOf c t) (sym q) ∙ y in cc)))
-
-  joined-inside : (f u : Bytes) (i : ℕ) → joined t f u ≡ some i → i < length (t .jobs)
-  unfolding joined
-  joined-inside f u i r = found (T.joins (t .functions) f u) noJob (t .jobs) (some i) r .inside
 
   module _ (c : ℕ) (b : Bytes) (o : Stands t c true) where
     -- a request that changes no job
     idle : {a : Request} → requestIn b ≡ a → placeOf c t a ≡ none → Untouched t p (sends c b)
     idle q r z y = none-some p _ r (ap (placeOf c t) (sym q) ∙ y)
 
-    fate-change : {a : Request} {ss : List Send} {u : Table} → requestIn b ≡ a → Change c t a ss u → Fate t p here (sends c b) (jobAt (settle ss u .table) p)
+    fate-change : {a : Request} {ss : List Send} {u : Table} → requestIn b ≡ a → Change c t a ss u → Becomes t p here (sends c b) (jobAt (settle ss u .table) p)
     unfolding placeOf unableToAll sleeping
     fate-change q (Change.able f i r) = same-jobs (sends c b) _ _ refl (idle q refl)
     fate-change q (Change.unknown f r) = same-jobs (sends c b) _ _ refl (idle q refl)
@@ -156,11 +151,11 @@ module _ (t : Table) (h : obeys t ≡ true) (p : ℕ) where
     fate-change q Change.slept = same-jobs (sends c b) _ _ refl (idle q refl)
     fate-change q (Change.noJobFor uniq r) = same-jobs (sends c b) _ _ refl (idle q r)
     fate-change q (Change.grabbed uniq i r) =
-        one-job c b _ q i r (best-found t c i r .0) _ _ _ refl (λ e. subst (λ (m : ℕ). Fate t p here (sends c b) (withRow (withHolder (suc c) (jobAt t m .row)) (jobAt t m))) (sym e) (taken c b uniq o q (r ∙ ap some e)))
+        one-job c b _ q i r (best-found t c i r .0) _ _ _ refl (λ e. subst (λ (m : ℕ). Becomes t p here (sends c b) (withRow (withHolder (suc c) (jobAt t m .row)) (jobAt t m))) (sym e) (taken c b uniq o q (r ∙ ap some e)))
         (held-unlost c (jobAt t i .row))
     fate-change q (Change.joins priority background f u size i r) =
-        one-job c b _ q i (rw r) (joined-inside f u i r) _ _ _ refl
-        (λ e. subst (λ (m : ℕ). Fate t p here (sends c b) (withRow (submittedBy c background (jobAt t m .row)) (jobAt t m))) (sym e) (joins c b priority background f u size o q (r ∙ ap some e)))
+        one-job c b _ q i (rw r) (joined-inside t f u i r) _ _ _ refl
+        (λ e. subst (λ (m : ℕ). Becomes t p here (sends c b) (withRow (submittedBy c background (jobAt t m .row)) (jobAt t m))) (sym e) (joins c b priority background f u size o q (r ∙ ap some e)))
         (submitted-unlost c background (jobAt t i .row))
     fate-change q (Change.accepts priority background f u size k i r₁ r₂ r₃ l) =
         one-job c b _ q i (rw (r₁, r₂, r₃, lt-ltb (t .last) 4294967295 l)) (free-place t i r₃ .1) _ _ _ refl
@@ -168,7 +163,7 @@ module _ (t : Table) (h : obeys t ≡ true) (p : ℕ) where
         (submitted-unlost c background (freshRow (suc (t .last)) k priority size))
     fate-change q (Change.worker how kind x n d i r) =
         one-job c b _ q i r (found (λ j. holdsHandle c x (j .row)) noJob (t .jobs) (some i) r .inside) _ _ _ refl
-        (λ e. subst (λ (m : ℕ). Fate t p here (sends c b) (worked how n d (jobAt t m))) (sym e) (told c b how kind x n d o q (r ∙ ap some e)))
+        (λ e. subst (λ (m : ℕ). Becomes t p here (sends c b) (worked how n d (jobAt t m))) (sym e) (told c b how kind x n d o q (r ∙ ap some e)))
         (worked-unlost how n d (jobAt t i) (awaited-at t h i))
     fate-change q (Change.status x i r) = same-jobs (sends c b) _ _ refl (idle q refl)
     fate-change q (Change.optioned name r) = same-jobs (sends c b) _ _ refl (idle q refl)
@@ -184,7 +179,7 @@ module _ (t : Table) (h : obeys t ≡ true) (p : ℕ) where
     refused-none (Refuses.notHeld how kind x n d e) = e
     refused-none (Refuses.noOption name e) = refl
 
-    fate-served : {a : Request} {d : Decision} → requestIn b ≡ a → Served c t a d → Fate t p here (sends c b) (jobAt (d .table) p)
+    fate-served : {a : Request} {d : Decision} → requestIn b ≡ a → Served c t a d → Becomes t p here (sends c b) (jobAt (d .table) p)
     unfolding refuse
     fate-served q (Served.refused a n r) = stays (sends c b) (idle q (refused-none r))
     fate-served q (Served.done a ss u m) = fate-change q m
@@ -198,12 +193,12 @@ module _ (t : Table) (h : obeys t ≡ true) (p : ℕ) where
   silent-untouched (sendsClosed c b z) = λ o. clash (o .state) (z .state)
   silent-untouched (opensTwice c z) = tt
 
-  fate-outcome : {e : Event} {d : Decision} → Outcome t e d → Fate t p here e (jobAt (d .table) p)
+  fate-outcome : {e : Event} {d : Decision} → Outcome t e d → Becomes t p here e (jobAt (d .table) p)
   unfolding silence opening closing
   fate-outcome (Outcome.silenced e n r) = stays e (silent-untouched r)
   fate-outcome (Outcome.opened c o) = same-jobs (opens c) [] (opening c t) refl tt
-  fate-outcome (Outcome.closed c o) = rw (settled-at [] (closing c t) p ∙ ap unlessLost (left-at c (t .jobs) p)) (cond-cases (Fate t p here (closes c)) (lost (leftBy c here .row)) (drops c o) (left c o))
+  fate-outcome (Outcome.closed c o) = rw (settled-at [] (closing c t) p ∙ ap unlessLost (left-at c (t .jobs) p)) (cond-cases (Becomes t p here (closes c)) (lost (leftBy c here .row)) (drops c o) (left c o))
   fate-outcome (Outcome.serves c b d o r) = fate-served c b o refl r
 
-pub fates : (e : Event) (s : Server) → obeys (s .table) ≡ true → (p : ℕ) → Fate (s .table) p (jobAt (s .table) p) e (jobAt (decided e s .table) p)
+pub fates : (e : Event) (s : Server) → obeys (s .table) ≡ true → (p : ℕ) → Becomes (s .table) p (jobAt (s .table) p) e (jobAt (decided e s .table) p)
 fates e s h p = fate-outcome (s .table) h p (outcome e s)

@@ -91,6 +91,10 @@ pub joined-found : (t : Table) (f u : Bytes) (p : ℕ) → joined t f u ≡ some
 unfolding joined
 joined-found t f u p e = and-left (live (jobAt t p .row)) _ (found (joins (t .functions) f u) noJob (t .jobs) (some p) e .passes)
 
+pub joined-inside : (t : Table) (f u : Bytes) (p : ℕ) → joined t f u ≡ some p → p < length (t .jobs)
+unfolding joined
+joined-inside t f u p e = found (joins (t .functions) f u) noJob (t .jobs) (some p) e .inside
+
 pub held-found : (t : Table) (c : ℕ) (h : Bytes) (p : ℕ) → find (λ j. holdsHandle c h (j .row)) (t .jobs) ≡ some p → live (jobAt t p .row) ≡ true
 unfolding holdsHandle
 held-found t c h p e =

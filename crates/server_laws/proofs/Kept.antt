@@ -1,12 +1,15 @@
 -- Every event keeps every table rule: a table that obeys them obeys them after the event, and so does every table of every history
 -- that begins with a fresh one. Assumes nothing.
-use Prim.Native.Nat.{ℕ, zero, suc}
+use Prim.Native.Nat.{ℕ, zero, suc, _<_, _^_}
+use native.Mathlib.Omega.{arith}
 use mathlib.Core.Path.{_≡_, refl}
 use mathlib.Core.Bool.{true}
 use mathlib.Core.List.{List, [], _∷_}
+use borrow.Author.Tests.{lt-ltb, le-leb}
 use lib.ListN.{replicate, length-replicate}
+use lib.Dec.{leb}
 use Rattle.octets.specs.Bytes.{same, firstZero}
-use Rattle.server.specs.Table.{Table, closed, noFunction, noJob, fresh}
+use Rattle.server.specs.Table.{Table, closed, noFunction, noJob, fresh, withLastSerial}
 use Rattle.server.specs.Requests.{Event, Request}
 use Rattle.server.specs.Events.{Send, Decision, silence, refuse, settle, dropped, woken, forgot, opening, closing}
 use Rattle.server.specs.Rules.{onlyOpen, sleepersIdleFrom, queuedAwaited, obeys}
@@ -59,16 +62,17 @@ fresh-idle : (t : Table) (i n : ℕ) → sleepersIdleFrom t i (replicate n close
 fresh-idle t i zero = refl
 fresh-idle t i (suc n) = fresh-idle t (suc i) n
 
-pub obeys-fresh : (n : ℕ) → obeys (fresh n) ≡ true
+-- whatever its last serial, if that fits into four bytes
+pub obeys-from : (n k : ℕ) → k < 2 ^ 32 → obeys (withLastSerial k (fresh n)) ≡ true
 unfolding fresh same firstZero
-obeys-fresh n =
-    let t = fresh n in
+obeys-from n k small =
+    let t = withLastSerial k (fresh n) in
     obeys-by t
     (record {
       sound =
           record {
-            small = refl;
-            below = refl;
+            small = lt-ltb k 4294967296 small;
+            below = all-replicate (λ j. leb (j .row .serial) k) 32 noJob (le-leb 0 k (omega arith));
             serials = refl;
             names = refl;
             texts = refl;
@@ -87,6 +91,10 @@ obeys-fresh n =
       awaited = refl;
       idle = fresh-idle t 0 n;
     })
+
+pub obeys-fresh : (n : ℕ) → obeys (fresh n) ≡ true
+unfolding fresh
+obeys-fresh n = obeys-from n 0 (omega arith)
 
 -- ---- every history
 
