@@ -3,7 +3,6 @@
 use Prim.Native.Nat.{ℕ}
 use Prim.Native.String.{String}
 use mathlib.Core.Path.{_≡_, refl}
-use mathlib.Core.Bool.{false}
 use mathlib.Core.Option.{Option, none, some}
 use mathlib.Core.List.{List, [], _∷_}
 use Rattle.octets.specs.Bytes.{Bytes, same, startsWith, firstZero, every, text}
@@ -16,7 +15,7 @@ use Rattle.handle.specs.Handle.{decimal, decimalIn, handle, serialOf, value}
 use Rattle.show_names.specs.Names.{labelOf, labelsOf, nameOf, reasonOf}
 use Rattle.show_names.specs.Pieces.{pieces}
 use Rattle.server.specs.Sizes.{connectionCount}
-use Rattle.server.specs.Table.{Table, fresh, setJob}
+use Rattle.server.specs.Table.{Table, fresh, setJob, freshRow, unstarted, withHolder, withListeners}
 use Rattle.server.specs.Replay.{frame}
 use Rattle.plan.specs.Values.{serialRow}
 use Rattle.capture.specs.Packets.{packetLines}
@@ -43,13 +42,7 @@ spelled s = bytesIn (unhex (text s))
 -- one job, with this serial, this holder and these listeners
 abbrev oneJob : ℕ → ℕ → ℕ → Table
 unfolding fresh
-oneJob serial holder listeners =
-    setJob (fresh connectionCount) 0 (record {
-      row = record { serial = serial; function = 0; priority = 1; background = false; listeners = listeners; holder = holder; size = 4 };
-      unique = [];
-      numerator = 48 ∷ [];
-      denominator = 48 ∷ [];
-    })
+oneJob serial holder listeners = setJob (fresh connectionCount) 0 (unstarted (withHolder holder (withListeners listeners (freshRow serial 0 1 4))) [])
 
 submission : printed 6 (text "030000524551000000070000000d72657665727365000074657374")
     (spelled "00005245530000000800000007483a6c61703a31" ∷ spelled "01005245530000000600000000" ∷ []) 0 (fresh connectionCount) (oneJob 1 0 1)

@@ -1,7 +1,6 @@
 -- Lines computed by the definitions, one for each kind of line that docs/SHOW.md shows of the table. Assumes nothing.
 use Prim.Native.Nat.{ℕ}
 use mathlib.Core.Path.{_≡_, refl}
-use mathlib.Core.Bool.{true, false}
 use mathlib.Core.List.{List, [], _∷_}
 use lib.ListN.{replicate}
 use Rattle.octets.specs.Bytes.{Bytes, text}
@@ -9,7 +8,7 @@ use Rattle.sets.specs.Sets.{has}
 use Rattle.handle.specs.Handle.{decimal, decimalIn, handle}
 use Rattle.server.specs.declared.JobRow.{JobRow}
 use Rattle.server.specs.Sizes.{connectionCount}
-use Rattle.server.specs.Table.{closed, noRow}
+use Rattle.server.specs.Table.{closed, noRow, freshRow, inBackground, withHolder, withListeners}
 use Rattle.plan.specs.Values.{serialRow}
 use Rattle.show_names.specs.Pieces.{pieces}
 use Rattle.show_table.specs.Standing.{absentText, connectionsText, each, foundText, goneOne, goneText, handleLine, holderText, jobText, marksText, orNone, serialText, sleepersText, unfoundText}
@@ -21,11 +20,11 @@ compute serial rs = serialText connectionCount serial [] rs
 
 -- held by connection 1; 0 and 2 listen
 abbrev held : JobRow
-held = record { serial = 1; function = 0; priority = 1; background = false; listeners = 5; holder = 2; size = 4 }
+held = withHolder 2 (withListeners 5 (freshRow 1 0 1 4))
 
 -- queued in the background with the highest priority; nobody listens
 abbrev urgent : JobRow
-urgent = record { serial = 3; function = 0; priority = 2; background = true; listeners = 0; holder = 0; size = 4 }
+urgent = inBackground (freshRow 3 0 2 4)
 
 nobody-asleep : sleepersText connectionCount (replicate 16 closed) ≡ text "\n    asleep none"
 unfolding compute
