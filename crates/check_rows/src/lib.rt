@@ -68,6 +68,14 @@ const LAST_HOLDER: u16 = CONNECTIONS as u16;
 
 // ---- rows
 
+// Whether the priority of the row at place `p` is at most 2 and its function is the place of one.
+fn row_in_range(table: &[u8], p: usize) -> bool
+    requires { ⌜ (tableSize connectionCount ≤ length (now table)) × (p < jobCount) ⌝ }
+    ensures { λ r. ⌜ r ≡ bytesInRange (now (table .entry)) p ⌝ }
+{
+    (table[PRIORITIES_AT + p] <= 2) & (table[FUNCTIONS_AT + p] <= LAST_FUNCTION)
+}
+
 // Whether each priority is at most 2 and each function is the place of one.
 fn bytes_in_range(table: &[u8]) -> bool
     requires { ⌜ tableSize connectionCount ≤ length (now table) ⌝ }
@@ -76,7 +84,7 @@ fn bytes_in_range(table: &[u8]) -> bool
     let mut ok = true;
     let mut i = 0;
     while i < JOBS {
-        ok = ok & ((table[PRIORITIES_AT + i] <= 2) & (table[FUNCTIONS_AT + i] <= LAST_FUNCTION));
+        ok = ok & row_in_range(table, i);
         i += 1;
     }
     ok
@@ -96,7 +104,26 @@ fn holders_in_range(table: &[u8]) -> bool
     ok
 }
 
-// Whether each live row is held, listened to or background, and each free row is zero, by the marks of serials, listeners, holders and sizes.
+// Whether the row at place `p` is held, listened to or background if it is live, and zero if it is free, by the marks of serials, listeners,
+// holders and sizes.
+fn row_free_or_awaited(
+    live: &[u8; JOBS],
+    heard: &[u8; JOBS],
+    held: &[u8; JOBS],
+    sized: &[u8; JOBS],
+    table: &[u8],
+    p: usize,
+) -> bool
+    requires { ⌜ (tableSize connectionCount ≤ length (now table)) × (p < jobCount) ⌝ }
+    ensures { λ r. ⌜ r ≡ freeOrAwaited (now (live .entry)) (now (heard .entry)) (now (held .entry)) (now (sized .entry)) (now (table .entry)) p ⌝ }
+{
+    let alone = (held[p] == 0) & ((heard[p] == 0) & (table[BACKGROUNDS_AT + p] == 0));
+    let unused = alone
+        & ((sized[p] == 0) & ((table[PRIORITIES_AT + p] == 0) & (table[FUNCTIONS_AT + p] == 0)));
+    ((live[p] == 0) | !alone) & ((live[p] != 0) | unused)
+}
+
+// Whether each row is so.
 fn free_or_awaited(
     live: &[u8; JOBS],
     heard: &[u8; JOBS],
@@ -110,11 +137,7 @@ fn free_or_awaited(
     let mut ok = true;
     let mut i = 0;
     while i < JOBS {
-        let alone = (held[i] == 0) & ((heard[i] == 0) & (table[BACKGROUNDS_AT + i] == 0));
-        let unused = alone
-            & ((sized[i] == 0)
-                & ((table[PRIORITIES_AT + i] == 0) & (table[FUNCTIONS_AT + i] == 0)));
-        ok = ok & (((live[i] == 0) | !alone) & ((live[i] != 0) | unused));
+        ok = ok & row_free_or_awaited(live, heard, held, sized, table, i);
         i += 1;
     }
     ok

@@ -19,17 +19,8 @@ abbrev μ-loop : tie.MeasureT-loop
 loop-holds : tie.Need-loop-holds Inv-loop μ-loop
 loop-holds c = (omega arith, refl)
 
-add-ok : tie.Need-add-ok Inv-loop μ-loop
-add-ok c = search needs
-
-shared-slice-read-ok : tie.Need-shared-slice-read-ok Inv-loop μ-loop
-shared-slice-read-ok c = search needs
-
-add-ok-2 : tie.Need-add-ok-2 Inv-loop μ-loop
-add-ok-2 c = search needs
-
-shared-slice-read-ok-2 : tie.Need-shared-slice-read-ok-2 Inv-loop μ-loop
-shared-slice-read-ok-2 c = search needs
+row-in-range-requires : tie.Need-row-in-range-requires Inv-loop μ-loop
+row-in-range-requires c κs = search needs
 
 add-i : tie.Need-add-i Inv-loop μ-loop
 add-i c = search needs
@@ -46,15 +37,4 @@ returns c = search (needs, each-end)
 pub bytes-in-range-spec : {M : Type 1} → statement M
 bytes-in-range-spec =
     tie.close
-    (tie.spec
-    Inv-loop
-    μ-loop
-    loop-holds
-    add-ok
-    shared-slice-read-ok
-    add-ok-2
-    shared-slice-read-ok-2
-    add-i
-    loop-less
-    loop-again
-    returns)
+    (tie.spec Inv-loop μ-loop loop-holds row-in-range-requires add-i loop-less loop-again returns)

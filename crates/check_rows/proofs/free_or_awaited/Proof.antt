@@ -19,38 +19,8 @@ abbrev μ-loop : tie.MeasureT-loop
 loop-holds : tie.Need-loop-holds Inv-loop μ-loop
 loop-holds c = (omega arith, refl)
 
-element-copy-out-alone : tie.Need-element-copy-out-alone Inv-loop μ-loop
-element-copy-out-alone c = search needs
-
-element-copy-out-alone-2 : tie.Need-element-copy-out-alone-2 Inv-loop μ-loop
-element-copy-out-alone-2 c = search needs
-
-add-alone : tie.Need-add-alone Inv-loop μ-loop
-add-alone c = search needs
-
-shared-slice-read-alone : tie.Need-shared-slice-read-alone Inv-loop μ-loop
-shared-slice-read-alone c = search needs
-
-element-copy-out-unused : tie.Need-element-copy-out-unused Inv-loop μ-loop
-element-copy-out-unused c = search needs
-
-add-unused : tie.Need-add-unused Inv-loop μ-loop
-add-unused c = search needs
-
-shared-slice-read-unused : tie.Need-shared-slice-read-unused Inv-loop μ-loop
-shared-slice-read-unused c = search needs
-
-add-unused-2 : tie.Need-add-unused-2 Inv-loop μ-loop
-add-unused-2 c = search needs
-
-shared-slice-read-unused-2 : tie.Need-shared-slice-read-unused-2 Inv-loop μ-loop
-shared-slice-read-unused-2 c = search needs
-
-element-copy-out-ok : tie.Need-element-copy-out-ok Inv-loop μ-loop
-element-copy-out-ok c = search needs
-
-element-copy-out-ok-2 : tie.Need-element-copy-out-ok-2 Inv-loop μ-loop
-element-copy-out-ok-2 c = search needs
+row-free-or-awaited-requires : tie.Need-row-free-or-awaited-requires Inv-loop μ-loop
+row-free-or-awaited-requires c κs = search needs
 
 add-i : tie.Need-add-i Inv-loop μ-loop
 add-i c = search needs
@@ -67,22 +37,4 @@ returns c = search (needs, each-end)
 pub free-or-awaited-spec : {M : Type 1} → statement M
 free-or-awaited-spec =
     tie.close
-    (tie.spec
-    Inv-loop
-    μ-loop
-    loop-holds
-    element-copy-out-alone
-    element-copy-out-alone-2
-    add-alone
-    shared-slice-read-alone
-    element-copy-out-unused
-    add-unused
-    shared-slice-read-unused
-    add-unused-2
-    shared-slice-read-unused-2
-    element-copy-out-ok
-    element-copy-out-ok-2
-    add-i
-    loop-less
-    loop-again
-    returns)
+    (tie.spec Inv-loop μ-loop loop-holds row-free-or-awaited-requires add-i loop-less loop-again returns)
