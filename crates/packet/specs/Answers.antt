@@ -9,7 +9,8 @@ use Rattle.octets.specs.Bytes.{Bytes, numberAt}
 use Rattle.octets.specs.Put.{put}
 use Rattle.packet.specs.Arguments.{endsOf, join}
 use Rattle.packet.specs.declared.Ends.{Ends}
-use Rattle.packet.specs.Packet.{Reading, refused, got, header, packet, writeRefusal}
+use Rattle.packet.specs.Layout.{rulesOf}
+use Rattle.packet.specs.Packet.{Direction, Reading, refused, got, header, packet, writeRefusal}
 use Rattle.packet.specs.declared.Read as R
 use Rattle.packet.specs.declared.Read.the-variants as RV
 use Rattle.packet.specs.declared.Shape.{Shape}
@@ -46,6 +47,17 @@ places ends = 11 ∷ ends .first ∷ ends .second ∷ ends .third ∷ ends .four
 
 unfoldable pub argumentAt : Bytes → Ends → ℕ → Bytes
 argumentAt s ends i = between s (getD (places ends) i 0) (getD (places ends) (i + 1) 0)
+
+-- as many arguments as are asked for, from argument i on
+abbrev pub argumentsFrom : Bytes → Ends → ℕ → ℕ → List Bytes
+argumentsFrom s ends i zero = []
+argumentsFrom s ends i (suc n) = argumentAt s ends i ∷ argumentsFrom s ends (suc i) n
+
+-- document 01's number and values of an answer: the number of a refusal, or the packet's type and its arguments, as many as the
+-- type has
+unfoldable pub valuesOf : Direction → Bytes → R.Read → Reading
+valuesOf w s (RV.Refused n) = refused n
+valuesOf w s (RV.Packet kind ends) = got kind (argumentsFrom s ends 0 (length (rulesOf (w .shape kind))))
 
 -- ---- writing
 

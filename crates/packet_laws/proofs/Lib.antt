@@ -7,3 +7,4 @@ pub mod Places
 pub mod Once
 pub mod Examples
 pub mod Answers
+pub mod Values
