@@ -28,7 +28,7 @@ use Rattle.demands.proofs.Hubs.{hub-with, hub-fresh, fresh-server, call
 use Rattle.demands.proofs.Answering.{call-answered}
 use Rattle.demands.proofs.Numbers.{number-first}
 use Rattle.demands.proofs.Walking.{walk-hub}
-use Rattle.demands.proofs.Handles.{call-stands, call-unheard, calls-gone}
+use Rattle.demands.proofs.Handles.{call-stands, call-makes, call-unheard, calls-gone}
 use Rattle.demands.proofs.Restart.{restart-hub, told-restart}
 use Rattle.demands.proofs.Results.{calls-heard, call-tells-each, fresh-results}
 use Rattle.demands.proofs.Unmasked.{request-read}
@@ -83,6 +83,10 @@ module _ (n : ℕ) (m : Memory) (hub : Hub n m) where
   pub handle-stands : (h : Bytes) (x : Call) → Long n x → given h (told (callOn n m x)) ≡ true
       → stands h (tableIn n m) || isMade h (tableIn n m) (tableIn n (kept (callOn n m x))) ≡ true
   handle-stands = call-stands n m hub
+
+  -- the call that makes a job gives its handle out
+  pub handle-told : (h : Bytes) (x : Call) → Long n x → isMade h (tableIn n m) (tableIn n (kept (callOn n m x))) ≡ true → given h (told (callOn n m x)) ≡ true
+  handle-told = call-makes n m hub
 
   -- "A handle is never given to a second job": where the call y makes a job, no earlier call x gave its handle to anybody
   pub handle-new : (h : Bytes) (x : Call) → Long n x → (between : List Call) → LongOutputs n between → (y : Call) → Long n y

@@ -4,19 +4,19 @@ use Prim.Native.Nat.{ℕ, suc, _≤_, _<_, _^_}
 use mathlib.Core.Path.{_≡_, refl, ap, sym, _∙_, subst}
 use mathlib.Core.Bool.{Bool, true, false, not, _||_}
 use mathlib.Core.Option.{Option, none, some}
-use mathlib.Core.List.{List, [], _∷_}
+use mathlib.Core.List.{List, [], _∷_, map}
 use native.Mathlib.Nat.{le-trans}
 use native.Mathlib.Omega.{arith}
 use borrow.Author.Tests.{ne-eqb, eqb-true, eqb-false, leb-true, ltb-true, ltb-false, not-true}
 use lib.ListN.{length, getD, List·getD-eq-default}
 use lib.Dec.{eqb, leb, ltb}
-use Rattle.octets.specs.Bytes.{Bytes, numberAt}
-use Rattle.octets.proofs.Strings.{and-left, and-right, and-both, same-is}
+use Rattle.octets.specs.Bytes.{Bytes, same, numberAt}
+use Rattle.octets.proofs.Strings.{and-left, and-right, and-both, same-is, same-refl}
 use Rattle.handle.specs.Handle.{handle, lap}
 use Rattle.handle.proofs.Handles.{handle-one-to-one}
 use Rattle.packet.specs.Packet.{Reading, refused, got, read, requests}
 use Rattle.packet_laws.proofs.Packets.{read-got}
-use Rattle.lists.specs.Lists.{find}
+use Rattle.lists.specs.Lists.{any, find}
 use Rattle.lists.proofs.Searches.{found}
 use Rattle.lists.proofs.Rows.{clash, never, or-left, or-right, all-at}
 use Rattle.server.specs.declared.Connection.{Connection}
@@ -25,11 +25,11 @@ use Rattle.server.specs.Requests.{Event, sends, Work, tells, reports, ends, thr
 use Rattle.server.specs.Events.{refuse, holdsHandle, workAt, served, isConnection, onlyIfOpen}
 use Rattle.server.specs.Rules.{isOpen}
 use Rattle.server.specs.Server.{Server, decided, answer, next, after}
-use Rattle.server_laws.proofs.Serials.{Creates, Numbered, numbered, grown-creates, last-kept, last-rises}
+use Rattle.server_laws.proofs.Serials.{Creates, Creation, nothing, one, creation, Numbered, numbered, grown-creates, last-kept, last-rises}
 use Rattle.server_laws.proofs.Obeyed.{obeyed}
 use Rattle.server_calls.proofs.Follows.{Running, running-next}
-use Rattle.demands.specs.Messages.{messagesOf}
-use Rattle.demands.specs.Handles.{given, stands, isMade, isWork, readingTells, firstIs}
+use Rattle.demands.specs.Messages.{messageOf, messagesOf}
+use Rattle.demands.specs.Handles.{given, stands, isMade, isWork, readingTells, firstIs, readingGives}
 use Rattle.demands.proofs.Unmasked.{request-read}
 use Rattle.demands.proofs.Given.{At, stands-at, at-stands, Known, standing, newest, given-known}
 
@@ -102,6 +102,17 @@ made-newest e s h m =
     let (k, q, c) = made-creates e s h m in
     let x : Numbered s e k = numbered c in
     (q ∙ ap (handle lap) (x .is), omega (arith, x .is, x .room))
+
+-- and the event gives its handle out: JOB_CREATED is its first packet
+pub made-given : (e : Event) (s : Server) (h : Bytes) → isMade h (s .table) (next e s .table) ≡ true → given h (messagesOf e s) ≡ true
+unfolding given messagesOf messageOf
+made-given e s h m =
+    let (k, q, c) = made-creates e s h m in
+    by k q c (creation s e)
+  where
+    by : (k : ℕ) → h ≡ handle lap k → Creates s e k → Creation s e → any (λ x. readingGives h (x .says)) (map (messageOf e s) (decided e s .packets)) ≡ true
+    by k q c (nothing w z) = absurd (z k c)
+    by k q c (one d i w x f) = rw (w .packets) (or-left (same (handle lap (suc (s .table .last))) h) _ (rw (q, f k c .is) (same-refl (handle lap (suc (s .table .last))))))
 
 -- the job with the next serial is made: it stands, and stood not
 pub newest-made : (n : ℕ) (e : Event) (s : Server) → Running n s → s .table .last < 4294967295 → next e s .table .last ≡ suc (s .table .last)

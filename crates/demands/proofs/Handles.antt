@@ -15,7 +15,7 @@ use Rattle.demands.specs.Messages.{told}
 use Rattle.demands.specs.Handles.{given, stands, isMade, NoMore}
 use Rattle.demands.specs.Hub.{Hub, Long, callOn, kept, afterCalls, tableIn, serverOf}
 use Rattle.demands.proofs.Hubs.{hub-runs, call-number, call-tells, call-hub, call-next, table-in, calls-hub, calls-after}
-use Rattle.demands.proofs.Gone.{Used, stands-used, used-after, given-stands, new-unheard, gone-after, gone-ungiven, late-number}
+use Rattle.demands.proofs.Gone.{Used, stands-used, used-after, given-stands, made-given, new-unheard, gone-after, gone-ungiven, late-number}
 
 -- the table that a call leaves, and that calls leave
 module _ (n : ℕ) (m : Memory) (hub : Hub n m) where
@@ -42,6 +42,11 @@ module _ (n : ℕ) (m : Memory) (hub : Hub n m) (h : Bytes) where
   call-stands x l g =
       rw (table-next n m hub x l, table-in n m hub)
       (given-stands n (x .event) (serverOf n m) (hub-runs n m hub) h (sym (ap (given h) (call-tells n m hub x l)) ∙ g))
+
+  pub call-makes : (x : Call) → Long n x → isMade h (tableIn n m) (tableIn n (kept (callOn n m x))) ≡ true → given h (told (callOn n m x)) ≡ true
+  unfolding serverIn
+  call-makes x l made =
+      ap (given h) (call-tells n m hub x l) ∙ made-given (x .event) (serverOf n m) h (subst (λ (t : Table). isMade h (tableIn n m) t ≡ true) (table-next n m hub x l) made)
 
   pub call-unheard : (x : Call) → Long n x → (between : List Call) → LongOutputs n between → (y : Call) → Long n y
       → let u = afterCalls n between (kept (callOn n m x)) in isMade h (tableIn n u) (tableIn n (kept (callOn n u y))) ≡ true → given h (told (callOn n m x)) ≡ false
