@@ -26,7 +26,7 @@ use Rattle.server_blind.proofs.Outputs.{AlikeSent, all-alike, covered, covered-
 use Rattle.server_blind.proofs.Calls.{AlikeEvents}
 use Rattle.demands.specs.Messages.{packetsIn, hiddenIn, written}
 use Rattle.demands.specs.Hub.{Hub, Long, callOn, kept, resultsOf, tableIn, serverOf}
-use Rattle.demands.specs.Blind.{Agree}
+use Rattle.demands.specs.Blind.{AlikeResults}
 use Rattle.demands.proofs.ReadsBack.{all-read}
 use Rattle.demands.proofs.Told.{sentAs, packets-sent}
 use Rattle.demands.proofs.Hubs.{hub-runs, call-performed, call-number, call-hub}
@@ -85,7 +85,7 @@ module _ (n : ℕ) (m k : Memory) (hm : Hub n m) (hk : Hub n k) (same : tableIn 
   unfolding serverIn
   tables = same
 
-  pub calls-agree : Agree n x y (callOn n m x) (callOn n k y)
+  pub calls-agree : AlikeResults n x y (callOn n m x) (callOn n k y)
   calls-agree =
       let g = answer-alike a (serverOf n m) (serverOf n k) tables in
       let ps = answer (x .event) (serverOf n m) .sent in
@@ -108,7 +108,7 @@ module _ (n : ℕ) (m k : Memory) (hm : Hub n m) (hk : Hub n k) (same : tableIn 
 -- ---- histories
 
 pub histories-agree : (n : ℕ) {xs ys : List Call} → AlikeEvents xs ys → LongOutputs n xs → LongOutputs n ys → (m k : Memory) → Hub n m → Hub n k → tableIn n m ≡ tableIn n k
-    → Both (Agree n) xs ys (resultsOf n xs m) (resultsOf n ys k)
+    → Both (AlikeResults n) xs ys (resultsOf n xs m) (resultsOf n ys k)
 unfolding calls
 histories-agree n All2.none All.none All.none m k hm hk q = Both.none
 histories-agree n (All2.more {a = x} {b = y} e rest) (All.more lx ls) (All.more ly ms) m k hm hk q =

@@ -21,8 +21,8 @@ use Rattle.demands.specs.Answered.{Answered}
 use Rattle.demands.specs.Conditions.{first, conditions, typeOf}
 use Rattle.demands.specs.Listening.{heard, listens, wants, EachOnce}
 use Rattle.demands.specs.Exact.{Walk}
-use Rattle.demands.specs.Blind.{Agree, One}
-use Rattle.demands.specs.Handles.{given, stands, isMade, readingTells, NoMore}
+use Rattle.demands.specs.Blind.{AlikeResults, One}
+use Rattle.demands.specs.Handles.{given, stands, isMade, readingTells, Spent}
 use Rattle.demands.specs.Hub.{Hub, Room, Long, callOn, kept, afterCalls, resultsOf, tableIn, serverOf, freshMemory, restarted}
 use Rattle.demands.proofs.Hubs.{hub-with, hub-fresh, fresh-server, calls-hub}
 use Rattle.demands.proofs.Answering.{call-answered}
@@ -96,7 +96,7 @@ module _ (n : ℕ) (m : Memory) (hub : Hub n m) where
   -- a job stood, and after some calls it is gone: after any calls more, its connection closed and opened again included, no call gives
   -- its handle out, and every worker packet that names it is refused by 14
   pub handle-gone : (h : Bytes) → stands h (tableIn n m) ≡ true → (between : List Call) → LongOutputs n between → stands h (tableIn n (afterCalls n between m)) ≡ false
-      → (later : List Call) → LongOutputs n later → NoMore n h (afterCalls n later (afterCalls n between m))
+      → (later : List Call) → LongOutputs n later → Spent n h (afterCalls n later (afterCalls n between m))
   handle-gone = calls-gone n m hub
 
   -- ---- results
@@ -124,7 +124,7 @@ results-told n t w r = fresh-results n (r .few) t w (r .longTable) (r .longWorkl
 -- two histories whose events differ in opaque bytes alone, on two hosts' memories whose tables are equal, whatever else differs in them (the
 -- workloads, the bytes beyond the layout, the lengths) and whatever outputs are lent: every two calls agree in everything but opaque bytes
 pub demand-3 : (n : ℕ) {xs ys : List Call} → AlikeEvents xs ys → LongOutputs n xs → LongOutputs n ys → (m w : Memory) → Hub n m → Hub n w → tableIn n m ≡ tableIn n w
-    → Both (Agree n) xs ys (resultsOf n xs m) (resultsOf n ys w)
+    → Both (AlikeResults n) xs ys (resultsOf n xs m) (resultsOf n ys w)
 demand-3 = histories-agree
 
 -- one packet alone has other opaque bytes, of whatever type, refused or not, and all calls after it have the same events: besides, only the
@@ -142,5 +142,5 @@ restart-runs n old hub t w r = restart-hub n old hub t w (r .longTable) (r .long
 
 -- and no handle that a call x gave before the restart is given after it, nor is a late result for it taken
 pub restart-unheard : (n : ℕ) (m : Memory) → Hub n m → (h : Bytes) (x : Call) → Long n x → given h (told (callOn n m x)) ≡ true → (between : List Call) → LongOutputs n between
-    → (t w : Bytes) → Room n t w → (later : List Call) → LongOutputs n later → NoMore n h (afterCalls n later (restarted n (afterCalls n between (kept (callOn n m x))) t w))
+    → (t w : Bytes) → Room n t w → (later : List Call) → LongOutputs n later → Spent n h (afterCalls n later (restarted n (afterCalls n between (kept (callOn n m x))) t w))
 restart-unheard n m hub h x lx g between lb t w r = told-restart n m hub h x lx g between lb t w (r .longTable) (r .longWorkloads)

@@ -12,7 +12,7 @@ use Rattle.server_calls.specs.History.{Call, Memory, events}
 use Rattle.server_calls.proofs.Follows.{Running}
 use Rattle.server_calls.proofs.Histories.{LongOutputs}
 use Rattle.demands.specs.Messages.{told}
-use Rattle.demands.specs.Handles.{given, stands, isMade, NoMore}
+use Rattle.demands.specs.Handles.{given, stands, isMade, Spent}
 use Rattle.demands.specs.Hub.{Hub, Long, callOn, kept, afterCalls, tableIn, serverOf}
 use Rattle.demands.proofs.Hubs.{hub-runs, call-number, call-tells, call-hub, call-next, table-in, calls-hub, calls-after}
 use Rattle.demands.proofs.Gone.{Used, stands-used, used-after, given-stands, made-given, new-unheard, gone-after, gone-ungiven, late-number}
@@ -28,7 +28,7 @@ module _ (n : ℕ) (m : Memory) (hub : Hub n m) where
   table-after xs l = ap (λ (s : Server). s .table) (calls-after n xs m hub l)
 
 -- what a used handle without a job comes to
-pub no-more : (n : ℕ) (h : Bytes) (u : Memory) → Hub n u → Used h (serverOf n u .table) → stands h (serverOf n u .table) ≡ false → NoMore n h u
+pub no-more : (n : ℕ) (h : Bytes) (u : Memory) → Hub n u → Used h (serverOf n u .table) → stands h (serverOf n u .table) ≡ false → Spent n h u
 no-more n h u hu used g =
     record {
       nobody = rw (table-in n u hu) g;
@@ -63,7 +63,7 @@ module _ (n : ℕ) (m : Memory) (hub : Hub n m) (h : Bytes) where
 
   -- a job stood, and after some calls it does not: so it is after any calls more
   pub calls-gone : stands h (tableIn n m) ≡ true → (between : List Call) → LongOutputs n between → stands h (tableIn n (afterCalls n between m)) ≡ false
-      → (later : List Call) → LongOutputs n later → NoMore n h (afterCalls n later (afterCalls n between m))
+      → (later : List Call) → LongOutputs n later → Spent n h (afterCalls n later (afterCalls n between m))
   unfolding serverIn
   calls-gone stood between lb gone later ll =
       let u = afterCalls n between m in

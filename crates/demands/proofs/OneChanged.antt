@@ -32,7 +32,7 @@ use Rattle.server_blind.proofs.LoneCalls.{SameEvents, same-alike}
 use Rattle.demands.specs.Messages.{told, messageOf, messagesOf}
 use Rattle.demands.specs.Handles.{isMade}
 use Rattle.demands.specs.Hub.{Hub, Long, callOn, kept, afterCalls, resultsOf, tableIn, serverOf}
-use Rattle.demands.specs.Blind.{Copied, echoed, forwarded, ButCopies, copies, ButAssigned, assigned, Packets, Later, made-none, made-one, One}
+use Rattle.demands.specs.Blind.{Copied, echoed, forwarded, ButCopies, copies, ButWorkload, assigned, Packets, Later, made-none, made-one, One}
 use Rattle.demands.specs.Blind as B
 use Rattle.demands.proofs.Hubs.{hub-runs, call-tells, call-hub, call-next}
 use Rattle.demands.proofs.Gone.{made-creates, newest-made}
@@ -95,14 +95,14 @@ module _ {e f : Event} (a : Alike e f) (s : Server) where
 -- ---- events after one that made a job
 
 module _ (k : ℕ) (e : Event) (s r : Server) (a : Apart k s r) where
-  but-assigned : (x : Send) → ButAssigned k (messageOf e s x) (messageOf e r x)
+  but-assigned : (x : Send) → ButWorkload k (messageOf e s x) (messageOf e r x)
   unfolding messageOf
-  but-assigned (plain to kind as′) = B.ButAssigned.equal refl
-  but-assigned (copy to kind) = B.ButAssigned.equal refl
+  but-assigned (plain to kind as′) = B.ButWorkload.equal refl
+  but-assigned (copy to kind) = B.ButWorkload.equal refl
   but-assigned (assign uniq to p) = by uniq (ℕ-discrete (jobAt (s .table) p .row .serial) k)
     where
-      by : (z : Bool) → Dec (jobAt (s .table) p .row .serial ≡ k) → ButAssigned k (messageOf e s (assign z to p)) (messageOf e r (assign z to p))
-      by z (no m) = B.ButAssigned.equal (rw (near-at (a .workloads) p m, a .table))
+      by : (z : Bool) → Dec (jobAt (s .table) p .row .serial ≡ k) → ButWorkload k (messageOf e s (assign z to p)) (messageOf e r (assign z to p))
+      by z (no m) = B.ButWorkload.equal (rw (near-at (a .workloads) p m, a .table))
       by true (yes q) =
           let j = jobAt (s .table) p in
           let n = j .row .size in
@@ -112,11 +112,11 @@ module _ (k : ℕ) (e : Event) (s r : Server) (a : Apart k s r) where
           let n = j .row .size in
           assigned to false (functionAt (s .table) (j .row .function) .name) [] (fit n (getD (s .workloads) p [])) (fit n (getD (r .workloads) p [])) (length-fit n _ ∙ sym (length-fit n _)) (rw q) (rw (← (a .table), q))
 
-  all-assigned : (xs : List Send) → All2 (ButAssigned k) (map (messageOf e s) xs) (map (messageOf e r) xs)
+  all-assigned : (xs : List Send) → All2 (ButWorkload k) (map (messageOf e s) xs) (map (messageOf e r) xs)
   all-assigned [] = All2.none
   all-assigned (x ∷ xs) = All2.more (but-assigned x) (all-assigned xs)
 
-  apart-messages : All2 (ButAssigned k) (messagesOf e s) (messagesOf e r)
+  apart-messages : All2 (ButWorkload k) (messagesOf e s) (messagesOf e r)
   unfolding messagesOf
   apart-messages = rw (← (decided-alike (alike-same e) s r (a .table))) (all-assigned (decided e s .packets))
 
@@ -146,12 +146,12 @@ module _ (n : ℕ) where
   apart-next k u v hu hv a x y lx ly e = rw (call-next n u hu x lx, call-next n v hv y ly, ← e) (next-apart k (x .event) (serverOf n u) (serverOf n v) a)
 
   apart-calls : (k : ℕ) {xs ys : List Call} → SameEvents xs ys → LongOutputs n xs → LongOutputs n ys → (u v : Memory) → Hub n u → Hub n v → Apart k (serverOf n u) (serverOf n v)
-      → Both (Packets (ButAssigned k)) xs ys (resultsOf n xs u) (resultsOf n ys v) × Apart k (serverOf n (afterCalls n xs u)) (serverOf n (afterCalls n ys v))
+      → Both (Packets (ButWorkload k)) xs ys (resultsOf n xs u) (resultsOf n ys v) × Apart k (serverOf n (afterCalls n xs u)) (serverOf n (afterCalls n ys v))
   unfolding calls leaves
   apart-calls k All2.none All.none All.none u v hu hv a = (Both.none, a)
   apart-calls k (All2.more {a = x} {b = y} e rest) (All.more lx ls) (All.more ly ms) u v hu hv a =
       let (b, c) = apart-calls k rest ls ms (kept (callOn n u x)) (kept (callOn n v y)) (call-hub n u hu x lx) (call-hub n v hv y ly) (apart-next k u v hu hv a x y lx ly e) in
-      let q : All2 (ButAssigned k) (told (callOn n u x)) (told (callOn n v y)) = rw (call-tells n u hu x lx, call-tells n v hv y ly, ← e) (apart-messages k (x .event) (serverOf n u) (serverOf n v) a) in
+      let q : All2 (ButWorkload k) (told (callOn n u x)) (told (callOn n v y)) = rw (call-tells n u hu x lx, call-tells n v hv y ly, ← e) (apart-messages k (x .event) (serverOf n u) (serverOf n v) a) in
       (Both.more q b, c)
 
 -- ---- one changed call

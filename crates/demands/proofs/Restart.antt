@@ -24,7 +24,7 @@ use Rattle.server_calls.specs.History.{Call, Memory, events}
 use Rattle.server_calls.proofs.Follows.{tableWith, workloadsWith, Running, server-back}
 use Rattle.server_calls.proofs.Histories.{LongOutputs, running-start, make-start}
 use Rattle.demands.specs.Messages.{told}
-use Rattle.demands.specs.Handles.{given, stands, NoMore}
+use Rattle.demands.specs.Handles.{given, stands, Spent}
 use Rattle.demands.specs.Hub.{Hub, Long, callOn, kept, afterCalls, tableIn, serverOf, restarted}
 use Rattle.demands.proofs.Hubs.{hub-with, hub-runs, call-tells, call-hub, call-next, calls-hub, calls-after}
 use Rattle.demands.proofs.Gone.{Used, used-after, given-used, gone-after}
@@ -110,7 +110,7 @@ module _ (n : ℕ) (old : Memory) (hub : Hub n old) (t w : Bytes) (lt : tableSiz
   restart-nobody h = ap (λ (s : Server). stands h (s .table)) restart-server
 
   -- no handle that was used in the old table is anybody's later
-  pub restart-gone : (h : Bytes) → Used h (serverOf n old .table) → (later : List Call) → LongOutputs n later → NoMore n h (afterCalls n later (restarted n old t w))
+  pub restart-gone : (h : Bytes) → Used h (serverOf n old .table) → (later : List Call) → LongOutputs n later → Spent n h (afterCalls n later (restarted n old t w))
   restart-gone h u later l =
       let m = restarted n old t w in
       let v = afterCalls n later m in
@@ -127,7 +127,7 @@ module _ (n : ℕ) (m : Memory) (hub : Hub n m) (h : Bytes) (x : Call) (lx : Lon
   oldMemory = afterCalls n between (kept (callOn n m x))
 
   pub told-restart : (t w : Bytes) → tableSize n ≤ length t → workloadsSize ≤ length w → (later : List Call) → LongOutputs n later
-      → NoMore n h (afterCalls n later (restarted n oldMemory t w))
+      → Spent n h (afterCalls n later (restarted n oldMemory t w))
   told-restart t w lt lw later ll =
       let hx = call-hub n m hub x lx in
       let ho = calls-hub n between (kept (callOn n m x)) hx lb in

@@ -24,7 +24,7 @@ use Rattle.server.specs.Events.{Send, Decision, silence, refuse, settle, error,
 use Rattle.server.specs.Server.{Server, decided}
 use Rattle.server_laws.proofs.Outcome.{Stands, Change, Served, Outcome, outcome}
 use Rattle.server_laws.proofs.Going.{joined-found, joined-inside}
-use Rattle.server_laws.proofs.Fates.{placeOf}
+use Rattle.server_laws.proofs.Fates.{placeChanged}
 use Rattle.server_calls.proofs.Packets.{isBad}
 use Rattle.demands.specs.Messages.{messageOf, messagesOf}
 use Rattle.demands.specs.Conditions.{typeOf, isSubmission}
@@ -203,7 +203,7 @@ refused-tells c h e s d n = go (isTold n)
 -- ---- which job a foreground submission's JOB_CREATED names
 
 pub data Created (d : ℕ) (b : Bytes) (t : Table) (h : Bytes) : Type 0 where
-  by-joining : Stands t d true → (p : ℕ) → placeOf d t (requestIn b) ≡ some p → p < length (t .jobs) → live (jobAt t p .row) ≡ true → h ≡ handle lap (jobAt t p .row .serial) → Created d b t h
+  by-joining : Stands t d true → (p : ℕ) → placeChanged d t (requestIn b) ≡ some p → p < length (t .jobs) → live (jobAt t p .row) ≡ true → h ≡ handle lap (jobAt t p .row .serial) → Created d b t h
   by-making : t .last < 4294967295 → h ≡ handle lap (suc (t .last)) → Created d b t h
 
 module _ (c d : ℕ) (b h : Bytes) (s : Server) where
@@ -224,7 +224,7 @@ module _ (c d : ℕ) (b h : Bytes) (s : Server) where
       sym (same-is _ _ (and-right (eqb d c) _ (sym (or-off _) ∙ w)))
 
   says-change : {a : Request} {ss : List Send} {v : Table} → requestIn b ≡ a → Stands (s .table) d true → Change d (s .table) a ss v → Says (settle ss v)
-  unfolding placeOf
+  unfolding placeChanged
   says-change q o (Change.able f k r) = quiet _ q refl refl
   says-change q o (Change.unknown f r) = quiet _ q refl refl
   says-change q o (Change.disabled f k r) = quiet _ q refl refl
@@ -233,7 +233,7 @@ module _ (c d : ℕ) (b h : Bytes) (s : Server) where
   says-change q o (Change.noJobFor uniq r) = quiet _ q refl refl
   says-change q o (Change.grabbed uniq p r) = quiet _ q refl refl
   says-change q o (Change.joins priority background f u size p r) = λ g.
-      by-joining o p (ap (placeOf d (s .table)) q ∙ rw r) (joined-inside (s .table) f u p r) (joined-found (s .table) f u p r) (first-told _ _ g)
+      by-joining o p (ap (placeChanged d (s .table)) q ∙ rw r) (joined-inside (s .table) f u p r) (joined-found (s .table) f u p r) (first-told _ _ g)
   says-change q o (Change.accepts priority background f u size k p r₁ r₂ r₃ l) = λ g. by-making l (first-told _ _ g)
   says-change q o (Change.worker how kind j x y p r) = quiet _ q refl refl
   says-change q o (Change.status j i r) = quiet _ q refl refl

@@ -24,7 +24,7 @@ use Rattle.demands.specs.Hub.{callOn, kept, afterCalls, resultsOf, table
 
 -- the same number and length, the same table; the opaque parts of the packets lie at the same places, and every written byte outside them
 -- is equal; beyond the reported length each output is as it was lent
-pub record Agree (n : ℕ) (x y : Call) (r q : Result) : Type 0 where
+pub record AlikeResults (n : ℕ) (x y : Call) (r q : Result) : Type 0 where
   pub number : r .number ≡ q .number
   pub length′ : r .length′ ≡ q .length′
   pub table : take (tableSize n) (r .table) ≡ take (tableSize n) (q .table)
@@ -51,11 +51,11 @@ pub data ButCopies (t : Table) (e f : Event) (a b : Message) : Type 0 where
 
 -- two packets: the same one; or two assignments of the job with serial k to one connection, JOB_ASSIGN or JOB_ASSIGN_UNIQ, with workloads
 -- of one length
-pub data ButAssigned (k : ℕ) (a b : Message) : Type 0 where
-  equal : a ≡ b → ButAssigned k a b
+pub data ButWorkload (k : ℕ) (a b : Message) : Type 0 where
+  equal : a ≡ b → ButWorkload k a b
   assigned : (to : ℕ) (uniq : Bool) (function : Bytes) (more : List Bytes) (w v : Bytes) → length w ≡ length v
       → a ≡ record { to = to; says = got (cond uniq 31 11) (handle lap k ∷ function ∷ (more ++ (w ∷ []))) }
-      → b ≡ record { to = to; says = got (cond uniq 31 11) (handle lap k ∷ function ∷ (more ++ (v ∷ []))) } → ButAssigned k a b
+      → b ≡ record { to = to; says = got (cond uniq 31 11) (handle lap k ∷ function ∷ (more ++ (v ∷ []))) } → ButWorkload k a b
 
 -- ---- one changed packet
 
@@ -68,13 +68,13 @@ Packets R x y r q = All2 R (told r) (told q)
 -- serial k, nothing differs but the workload in assignments of that job, and of the workloads only its place.
 pub data Later (n : ℕ) (m u v : Memory) (xs ys : List Call) : Type 0 where
   made-none : ((h : Bytes) → isMade h (tableIn n m) (tableIn n u) ≡ false) → serverOf n u ≡ serverOf n v → Both (Packets (λ a b. a ≡ b)) xs ys (resultsOf n xs u) (resultsOf n ys v) → Later n m u v xs ys
-  made-one : (k : ℕ) → isMade (handle lap k) (tableIn n m) (tableIn n u) ≡ true → Both (Packets (ButAssigned k)) xs ys (resultsOf n xs u) (resultsOf n ys v)
+  made-one : (k : ℕ) → isMade (handle lap k) (tableIn n m) (tableIn n u) ≡ true → Both (Packets (ButWorkload k)) xs ys (resultsOf n xs u) (resultsOf n ys v)
       → ((p : ℕ) → ¬ (jobAt (tableIn n (afterCalls n xs u)) p .row .serial ≡ k) → getD (serverOf n (afterCalls n xs u) .workloads) p [] ≡ getD (serverOf n (afterCalls n ys v) .workloads) p [])
       → Later n m u v xs ys
 
 -- the calls x on m and y on w, alike, and then the calls xs and ys, with the same events
 pub record One (n : ℕ) (m w : Memory) (x y : Call) (xs ys : List Call) : Type 0 where
-  pub itself : Agree n x y (callOn n m x) (callOn n w y)
+  pub itself : AlikeResults n x y (callOn n m x) (callOn n w y)
   pub packets : Packets (ButCopies (tableIn n m) (x .event) (y .event)) x y (callOn n m x) (callOn n w y)
-  pub others : Both (Agree n) xs ys (resultsOf n xs (kept (callOn n m x))) (resultsOf n ys (kept (callOn n w y)))
+  pub others : Both (AlikeResults n) xs ys (resultsOf n xs (kept (callOn n m x))) (resultsOf n ys (kept (callOn n w y)))
   pub later : Later n m (kept (callOn n m x)) (kept (callOn n w y)) xs ys

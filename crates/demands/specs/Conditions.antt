@@ -106,20 +106,20 @@ abbrev pub isSubmission : ℕ → Bool
 isSubmission kind = oneOf (7 ∷ 18 ∷ 21 ∷ 32 ∷ 33 ∷ 34 ∷ []) kind
 
 -- a submission that joins no unfinished job
-abbrev pub newJob : Table → ℕ → Bytes → Bytes → Bool
-newJob t kind f u = isSubmission kind && not (any (joins (t .functions) f u) (t .jobs))
+abbrev pub isNewJob : Table → ℕ → Bytes → Bytes → Bool
+isNewJob t kind f u = isSubmission kind && not (any (joins (t .functions) f u) (t .jobs))
 
 -- "CAN_DO or a new job names an unknown function while 16 are known"
 abbrev pub functionsFull : Table → ℕ → Bytes → Bytes → Bool
-functionsFull t kind f u = (eqb kind 1 || newJob t kind f u) && (not (any (λ x. same (x .name) f) (t .functions)) && all isKnown (t .functions))
+functionsFull t kind f u = (eqb kind 1 || isNewJob t kind f u) && (not (any (λ x. same (x .name) f) (t .functions)) && all isKnown (t .functions))
 
 -- "new job, 32 unfinished"
 abbrev pub jobsFull : Table → ℕ → Bytes → Bytes → Bool
-jobsFull t kind f u = newJob t kind f u && all (λ j. live (j .row)) (t .jobs)
+jobsFull t kind f u = isNewJob t kind f u && all (λ j. live (j .row)) (t .jobs)
 
 -- "new job, serials used up"
 abbrev pub serialsUsedUp : Table → ℕ → Bytes → Bytes → Bool
-serialsUsedUp t kind f u = newJob t kind f u && not (ltb (t .last) 4294967295)
+serialsUsedUp t kind f u = isNewJob t kind f u && not (ltb (t .last) 4294967295)
 
 -- "types 12, 13, 14, 25, 28, 29: handle isn't a job held by this connection"
 abbrev pub notHeld : Table → ℕ → ℕ → Bytes → Bool

@@ -50,7 +50,7 @@ isMade h t u = stands h u && not (stands h t)
 
 -- a handle that is nobody's any more: no unfinished job has it, no call gives it to anybody, and a call with a worker packet that names
 -- it, from a connection that is open, is refused by 14
-pub record NoMore (n : ℕ) (h : Bytes) (m : Memory) : Type 0 where
+pub record Spent (n : ℕ) (h : Bytes) (m : Memory) : Type 0 where
   pub nobody : stands h (tableIn n m) ≡ false
   pub ungiven : (x : Call) → Long n x → given h (told (callOn n m x)) ≡ false
   pub late : (x : Call) → Long n x → (c : ℕ) (b : Bytes) → x .event ≡ sends c b → isOpen (tableIn n m) c ≡ true → readingTells h (read requests b) ≡ true → callOn n m x .number ≡ 14

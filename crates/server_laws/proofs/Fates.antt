@@ -41,25 +41,25 @@ placeFor none (some q) none b = none
 placeFor none (some q) (some p) b = cond b (some p) none
 
 -- the place whose job a request of connection c changes; none, if it is refused or changes no job
-unfoldable pub placeOf : ℕ → Table → Request → Option ℕ
-placeOf c t (submit priority background f u size) = placeFor (joined t f u) (roomFor (t .functions) f) (freePlace t) (ltb (t .last) 4294967295)
-placeOf c t (grab uniq) = best t c
-placeOf c t (work how kind h n d) = find (λ j. holdsHandle c h (j .row)) (t .jobs)
-placeOf c t (R.bad n) = none
-placeOf c t reset = none
-placeOf c t preSleep = none
-placeOf c t echo = none
-placeOf c t (canDo f) = none
-placeOf c t (cantDo f) = none
-placeOf c t (getStatus h) = none
-placeOf c t (option name) = none
+unfoldable pub placeChanged : ℕ → Table → Request → Option ℕ
+placeChanged c t (submit priority background f u size) = placeFor (joined t f u) (roomFor (t .functions) f) (freePlace t) (ltb (t .last) 4294967295)
+placeChanged c t (grab uniq) = best t c
+placeChanged c t (work how kind h n d) = find (λ j. holdsHandle c h (j .row)) (t .jobs)
+placeChanged c t (R.bad n) = none
+placeChanged c t reset = none
+placeChanged c t preSleep = none
+placeChanged c t echo = none
+placeChanged c t (canDo f) = none
+placeChanged c t (cantDo f) = none
+placeChanged c t (getStatus h) = none
+placeChanged c t (option name) = none
 
 -- the event is not about place p: it is an open, it comes from a connection that is not open, or it is a packet that changes another place
 -- or none
 abbrev pub Untouched : Table → ℕ → Event → Type 0
 Untouched t p (opens c) = Unit {0}
 Untouched t p (closes c) = ¬ Stands t c true
-Untouched t p (sends c b) = Stands t c true → ¬ (placeOf c t (requestIn b) ≡ some p)
+Untouched t p (sends c b) = Stands t c true → ¬ (placeChanged c t (requestIn b) ≡ some p)
 
 -- what becomes of the job j at place p, and why
 pub data Becomes (t : Table) (p : ℕ) (j : Job) : Event → Job → Type 0 where
@@ -124,7 +124,7 @@ module _ (t : Table) (h : obeys t ≡ true) (p : ℕ) where
   none-some i o q r = let z : _≡_ {A = ℕ} 0 1 = cc in absurd (omega arith)
 
   -- one job anew, at place i
-  one-job : (c : ℕ) (b : Bytes) (a : Request) → requestIn b ≡ a → (i : ℕ) → placeOf c t a ≡ some i → i < length (t .jobs) → (ss : List Send) (u : Table) (k : Job) → u .jobs ≡ set (t .jobs) i k
+  one-job : (c : ℕ) (b : Bytes) (a : Request) → requestIn b ≡ a → (i : ℕ) → placeChanged c t a ≡ some i → i < length (t .jobs) → (ss : List Send) (u : Table) (k : Job) → u .jobs ≡ set (t .jobs) i k
       → (i ≡ p → Becomes t p here (sends c b) k) → lost (k .row) ≡ false → Becomes t p here (sends c b) (jobAt (settle ss u .table) p)
   one-job c b a q i r l ss u k v f g = by (ℕ-discrete i p)
     where
@@ -135,15 +135,15 @@ module _ (t : Table) (h : obeys t ≡ true) (p : ℕ) where
       by (yes e) = rw (at k (ap (λ (m : ℕ). getD (set (t .jobs) i k) m noJob) (sym e) ∙ getD-set-same (t .jobs) i k noJob l) g) (f e)
       by (no e) =
           rw (at here (getD-set-other (t .jobs) i p k noJob (λ y. e (sym y))) (awaited-at t h p))
-          (stays (sends c b) (λ o y. e (let z : some i ≡ some p = sym r ∙ ap (placeOf c t) (sym q) ∙ y in cc)))
+          (stays (sends c b) (λ o y. e (let z : some i ≡ some p = sym r ∙ ap (placeChanged c t) (sym q) ∙ y in cc)))
 
   module _ (c : ℕ) (b : Bytes) (o : Stands t c true) where
     -- a request that changes no job
-    idle : {a : Request} → requestIn b ≡ a → placeOf c t a ≡ none → Untouched t p (sends c b)
-    idle q r z y = none-some p _ r (ap (placeOf c t) (sym q) ∙ y)
+    idle : {a : Request} → requestIn b ≡ a → placeChanged c t a ≡ none → Untouched t p (sends c b)
+    idle q r z y = none-some p _ r (ap (placeChanged c t) (sym q) ∙ y)
 
     fate-change : {a : Request} {ss : List Send} {u : Table} → requestIn b ≡ a → Change c t a ss u → Becomes t p here (sends c b) (jobAt (settle ss u .table) p)
-    unfolding placeOf unableToAll sleeping
+    unfolding placeChanged unableToAll sleeping
     fate-change q (Change.able f i r) = same-jobs (sends c b) _ _ refl (idle q refl)
     fate-change q (Change.unknown f r) = same-jobs (sends c b) _ _ refl (idle q refl)
     fate-change q (Change.disabled f i r) = same-jobs (sends c b) _ _ refl (idle q refl)
@@ -169,8 +169,8 @@ module _ (t : Table) (h : obeys t ≡ true) (p : ℕ) where
     fate-change q (Change.optioned name r) = same-jobs (sends c b) _ _ refl (idle q refl)
     fate-change q Change.echoed = same-jobs (sends c b) _ _ refl (idle q refl)
 
-    refused-none : {a : Request} {n : ℕ} → Refuses c t a n → placeOf c t a ≡ none
-    unfolding placeOf
+    refused-none : {a : Request} {n : ℕ} → Refuses c t a n → placeChanged c t a ≡ none
+    unfolding placeChanged
     refused-none (Refuses.unread n) = refl
     refused-none (Refuses.noRoom f e) = refl
     refused-none (Refuses.noFunction priority background f u size e₁ e₂) = rw (e₁, e₂)
