@@ -3,18 +3,20 @@ use Prim.Native.Nat.{ℕ, _+_, _*_, _%_, _<_, _≤_}
 use mathlib.Core.Path.{_≡_, refl, sym, ap, ap₂, _∙_}
 use mathlib.Core.Bool.{Bool, true, false, not, cond, _&&_, _||_}
 use native.Mathlib.Omega.{arith}
-use borrow.Author.Tests.{ltb-true, leb-true, eqb-true, eq-eqb}
+use borrow.Author.Tests.{eqb-true, eq-eqb}
 use lib.ListN.{length}
-use lib.Dec.{eqb, leb, ltb}
+use lib.Dec.{eqb}
 use Rattle.octets.specs.Bytes.{Bytes}
 use Rattle.octets.proofs.Strings.{and-left, and-right, and-both}
-use Rattle.sets.specs.Sets.{has, union, isEmpty}
+use Rattle.sets.specs.Sets.{has, union}
 use Rattle.sets.proofs.Laws.{has-union}
 use Rattle.lists.specs.Lists.{any, all, numbers}
+use Rattle.server.specs.declared.JobRow.{JobRow}
 use Rattle.server.specs.Sizes.{connectionCount, functionCount, jobCount, nameSize}
 use Rattle.server.specs.Table.{rowsOf, ablesOf, live, queued, names, wanted, grabbable}
 use Rattle.server.specs.Layout.{functionIn, rowIn, tableOf, namesAt, tableSize}
 use Rattle.server.specs.Rules.{isKnown, functionsAsDefined}
+use Rattle.server.proofs.Rows.{InRange, in-range, free-row}
 use Rattle.table_passes.proofs.Tests.{iff, below-at, some-at, some-by, same-below, any-below, any-or}
 use Rattle.table_passes.proofs.Rows.{rows-any, able-at, defined-all}
 use Rattle.table_passes.proofs.Unions.{has-if}
@@ -32,18 +34,14 @@ module _ (b : Bytes) (rows : rowsMean b ≡ true) where
   unfolding rowsMean
   mean-at k h = and-left (numbersMean (rowIn connectionCount b k)) (isAwaited (rowIn connectionCount b k)) (below-at (λ k. numbersMean (rowIn connectionCount b k) && isAwaited (rowIn connectionCount b k)) 32 k rows h)
 
-  live-at : (k : ℕ) → k < jobCount → live (rowIn connectionCount b k) ≡ true → leb (rowIn connectionCount b k .priority) 2 && (ltb (rowIn connectionCount b k .function) functionCount && leb (rowIn connectionCount b k .holder) connectionCount) ≡ true
-  live-at k h l = rw l at (mean-at k h)
+  live-at : (k : ℕ) → k < jobCount → live (rowIn connectionCount b k) ≡ true → InRange functionCount connectionCount (rowIn connectionCount b k)
+  live-at k h l = in-range functionCount connectionCount (rowIn connectionCount b k) (rw l at (mean-at k h))
 
   pub function-small : (k : ℕ) → k < jobCount → live (rowIn connectionCount b k) ≡ true → rowIn connectionCount b k .function < functionCount
-  function-small k h l =
-      ltb-true (rowIn connectionCount b k .function) functionCount
-      (and-left (ltb (rowIn connectionCount b k .function) functionCount) (leb (rowIn connectionCount b k .holder) connectionCount) (and-right (leb (rowIn connectionCount b k .priority) 2) (ltb (rowIn connectionCount b k .function) functionCount && leb (rowIn connectionCount b k .holder) connectionCount) (live-at k h l)))
+  function-small k h l = live-at k h l .function
 
   pub holder-small : (k : ℕ) → k < jobCount → live (rowIn connectionCount b k) ≡ true → rowIn connectionCount b k .holder ≤ connectionCount
-  holder-small k h l =
-      leb-true (rowIn connectionCount b k .holder) connectionCount
-      (and-right (ltb (rowIn connectionCount b k .function) functionCount) (leb (rowIn connectionCount b k .holder) connectionCount) (and-right (leb (rowIn connectionCount b k .priority) 2) (ltb (rowIn connectionCount b k .function) functionCount && leb (rowIn connectionCount b k .holder) connectionCount) (live-at k h l)))
+  holder-small k h l = live-at k h l .holder
 
   -- a free row has no holder
   pub held-live : (k : ℕ) → k < jobCount → (rowIn connectionCount b k .holder ≡ 0 → ⊥) → live (rowIn connectionCount b k) ≡ true
@@ -51,13 +49,7 @@ module _ (b : Bytes) (rows : rowsMean b ≡ true) where
     where
       go : (t : Bool) → live (rowIn connectionCount b k) ≡ t → t ≡ true
       go true q = refl
-      go false q = absurd (n (eqb-true (rowIn connectionCount b k .holder) 0 (holder-of (rw q at (mean-at k h)))))
-        where
-          holder-of : eqb (rowIn connectionCount b k .function) 0 && (eqb (rowIn connectionCount b k .priority) 0 && (not (rowIn connectionCount b k .background) && (isEmpty (rowIn connectionCount b k .listeners) && (eqb (rowIn connectionCount b k .holder) 0 && eqb (rowIn connectionCount b k .size) 0)))) ≡ true
-              → eqb (rowIn connectionCount b k .holder) 0 ≡ true
-          holder-of e =
-              and-left (eqb (rowIn connectionCount b k .holder) 0) (eqb (rowIn connectionCount b k .size) 0) (and-right (isEmpty (rowIn connectionCount b k .listeners)) _ (and-right (not (rowIn connectionCount b k .background)) _
-              (and-right (eqb (rowIn connectionCount b k .priority) 0) _ (and-right (eqb (rowIn connectionCount b k .function) 0) _ e))))
+      go false q = absurd (n (ap (λ (r : JobRow). r .holder) (free-row (rowIn connectionCount b k) q (rw q at (mean-at k h)))))
 
   -- ---- functions that jobs name
 
