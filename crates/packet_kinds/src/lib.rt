@@ -4,6 +4,7 @@ use packet::Kind;
 use packet::Rule;
 use packet::Shape;
 ghost use mathlib.Core.Path.{_≡_};
+ghost use mathlib.Core.Bool.{cond};
 ghost use Prim.Native.Nat.{_≤_};
 ghost use lib.ListN.{getD, length};
 ghost use Rattle.packet.specs.declared.Rule.the-variants.{Absent};
@@ -105,6 +106,16 @@ pub fn response_shape(kind: u32) -> Shape
         31 => Shape::UniqueAssignment,
         _ => Shape::Foreign,
     }
+}
+
+// The shape of this type in one direction: a request's, or a response's.
+pub fn shape_of(kind: u32, request: bool) -> Shape
+    ensures { λ r. ⌜ r ≡ cond request (requestShape kind) (responseShape kind) ⌝ }
+{
+    if request {
+        return request_shape(kind);
+    }
+    response_shape(kind)
 }
 
 // The rules of a shape's arguments, in order.

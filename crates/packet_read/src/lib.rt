@@ -6,10 +6,8 @@ use packet::Read;
 use packet::Shape;
 use packet::Split;
 ghost use mathlib.Core.Path.{_≡_};
-ghost use mathlib.Core.Bool.{cond};
 ghost use Prim.Native.Nat.{_<_, _^_};
 ghost use lib.ListN.{length};
-ghost use Rattle.packet.specs.Layout.{requestShape, responseShape};
 ghost use Rattle.packet.specs.Packet.{body, read, requests, responses};
 ghost use Rattle.packet.specs.Answers.{answerOf, argumentAt, between, headerOf};
 ghost use Rattle.packet_read.specs.Directions.{direction};
@@ -62,16 +60,6 @@ fn read_body(shape: Shape, kind: u32, d: &[u8]) -> Read
     }
 }
 
-// The shape of this type in one direction: a request's, or a response's.
-fn shape_of(kind: u32, request: bool) -> Shape
-    ensures { λ r. ⌜ r ≡ cond request (requestShape kind) (responseShape kind) ⌝ }
-{
-    if request {
-        return packet_kinds::request_shape(kind);
-    }
-    packet_kinds::response_shape(kind)
-}
-
 // Reads a packet of one direction: this magic, at most this much data, the types of requests or of responses.
 fn read_packet(s: &[u8], magic: &[u8], most: u32, request: bool) -> Read
     requires { ⌜ most < 65536 ⌝ }
@@ -80,7 +68,7 @@ fn read_packet(s: &[u8], magic: &[u8], most: u32, request: bool) -> Read
     let header = read_header(s, magic, most);
     match header {
         Header::Refused(number) => Read::Refused(number),
-        Header::Good(kind) => read_body(shape_of(kind, request), kind, &s[12..]),
+        Header::Good(kind) => read_body(packet_kinds::shape_of(kind, request), kind, &s[12..]),
     }
 }
 

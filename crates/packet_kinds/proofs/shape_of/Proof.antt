@@ -1,7 +1,7 @@
--- `packet_read::shape_of` meets its contract: a request's shape, or a response's, as the direction says. Assumes nothing.
+-- `packet_kinds::shape_of` meets its contract: a request's shape, or a response's, as the direction says. Assumes nothing.
 use borrow.Author.Needs.{needs}
-use Rattle.packet_read.proofs.shape_of.Statement.{statement}
-use Rattle.packet_read.proofs.shape_of.Tie as tie
+use Rattle.packet_kinds.proofs.shape_of.Statement.{statement}
+use Rattle.packet_kinds.proofs.shape_of.Tie as tie
 
 request-shape-requires : tie.Need-request-shape-requires
 request-shape-requires c κs = search needs
