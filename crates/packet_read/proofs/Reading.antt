@@ -16,10 +16,11 @@ use Rattle.packet.specs.declared.Read.the-variants as RV
 use Rattle.packet.specs.declared.Header.the-variants as HV
 use Rattle.packet.specs.declared.Split as S
 use Rattle.packet.specs.declared.Split.the-variants as SV
-use Rattle.packet.specs.Layout.{isOwn, rulesOf}
+use Rattle.packet.specs.Layout.{isOwn, requestShape, responseShape, rulesOf}
 use Rattle.packet.specs.Arguments.{Parts, bad, parts, split, answered}
 use Rattle.packet.specs.Packet.{Direction, header, argued, body, read}
 use Rattle.packet.specs.Answers.{answerOf, headed, headerOf, between, places, argumentAt}
+use Rattle.packet_read.specs.Directions.{side}
 
 -- ---- the header
 
@@ -142,3 +143,13 @@ argument-none s ends i h =
 -- the data of a packet with a good header is short
 pub data-short : (magic : Bytes) (most : ℕ) (s : Bytes) (kind : ℕ) → most < 65536 → HV.Good kind ≡ headerOf magic most s → length (take (length s - 12) (drop 12 s)) < 2 ^ 31
 data-short magic most s kind h e = let l = good-length magic most s kind e in rw rest-part (omega (arith, length-drop 12 s, l .0, l .1))
+
+-- ---- a side by its flag
+
+pub side-shape : (b : Bool) (kind : ℕ) (shape : Shape) → shape ≡ cond b (requestShape kind) (responseShape kind) → shape ≡ side b .shape kind
+side-shape true kind shape e = e
+side-shape false kind shape e = e
+
+pub side-most : (b : Bool) → side b .most ≤ 1088
+side-most true = omega arith
+side-most false = omega arith

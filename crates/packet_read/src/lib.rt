@@ -10,7 +10,7 @@ ghost use Prim.Native.Nat.{_<_, _^_};
 ghost use lib.ListN.{length};
 ghost use Rattle.packet.specs.Packet.{body, read, requests, responses};
 ghost use Rattle.packet.specs.Answers.{answerOf, argumentAt, between, headerOf};
-ghost use Rattle.packet_read.specs.Directions.{direction};
+ghost use Rattle.packet_read.specs.Directions.{direction, side};
 
 // The refusals, in the order in which they are checked.
 const SHORT: u8 = 5; // under 12 bytes
@@ -72,18 +72,28 @@ fn read_packet(s: &[u8], magic: &[u8], most: u32, request: bool) -> Read
     }
 }
 
+// Reads a packet of one side: a request, or a response.
+pub fn read_side(s: &[u8], request: bool) -> Read
+    ensures { λ r. ⌜ r ≡ answerOf (read (side request) (now (s .entry))) ⌝ }
+{
+    if request {
+        return read_packet(s, b"\0REQ", 1024, true);
+    }
+    read_packet(s, b"\0RES", 1088, false)
+}
+
 // Reads a request.
 pub fn read_request(s: &[u8]) -> Read
     ensures { λ r. ⌜ r ≡ answerOf (read requests (now (s .entry))) ⌝ }
 {
-    read_packet(s, b"\0REQ", 1024, true)
+    read_side(s, true)
 }
 
 // Reads a response.
 pub fn read_response(s: &[u8]) -> Read
     ensures { λ r. ⌜ r ≡ answerOf (read responses (now (s .entry))) ⌝ }
 {
-    read_packet(s, b"\0RES", 1088, false)
+    read_side(s, false)
 }
 
 // The bytes after place `before` and up to place `end`; none, if they do not lie in the packet.

@@ -1,7 +1,7 @@
 -- One packet in words: the connection, an arrow, the protocol's name of the type and the arguments; or why it cannot be read. And the
 -- server's refusal. An opaque argument is its length alone. Assumes nothing.
 use Prim.Native.Nat.{ℕ}
-use mathlib.Core.Bool.{cond}
+use mathlib.Core.Bool.{Bool, true, false, cond}
 use mathlib.Core.List.{[], _∷_, _++_}
 use lib.ListN.{length, getD}
 use lib.Dec.{eqb, ltb}
@@ -11,7 +11,8 @@ use Rattle.packet.specs.declared.Rule.the-variants.{Absent}
 use Rattle.packet.specs.declared.Shape.{Shape}
 use Rattle.packet.specs.Layout.{rulesOf}
 use Rattle.packet.specs.Opaque.{isOpaque}
-use Rattle.packet.specs.Packet.{Direction, Reading, refused, got, read, requests, responses}
+use Rattle.packet.specs.Packet.{Direction, Reading, refused, got, read}
+use Rattle.packet_read.specs.Directions.{side}
 use Rattle.handle.specs.Handle.{decimal}
 use Rattle.show_names.specs.Names.{labelOf, nameOf, reasonOf, space}
 use Rattle.show_names.specs.Pieces.{pieces}
@@ -42,6 +43,9 @@ toServer = 32 ∷ 45 ∷ 62 ∷ 32 ∷ []
 
 abbrev pub fromServer : Bytes
 fromServer = 32 ∷ 60 ∷ 45 ∷ 32 ∷ []
+
+abbrev pub arrow : Bool → Bytes
+arrow isRequest = cond isRequest toServer fromServer
 
 -- ---- one argument
 
@@ -105,10 +109,14 @@ saying w s = readText (w .shape) (numberAt s 4) (read w s)
 
 -- ---- one line, without its line end
 
+-- a line of requests, or of responses: the connection, the arrow, and what the packet says
+abbrev pub sideLine : Bool → ℕ → Bytes → Bytes
+sideLine isRequest c s = decimal c ++ (arrow isRequest ++ saying (side isRequest) s)
+
 -- `1 -> CAN_DO reverse`
 unfoldable pub requestLine : ℕ → Bytes → Bytes
-requestLine c s = decimal c ++ (toServer ++ saying requests s)
+requestLine c s = sideLine true c s
 
 -- `0 <- JOB_CREATED H:lap:1`
 unfoldable pub responseLine : ℕ → Bytes → Bytes
-responseLine c s = decimal c ++ (fromServer ++ saying responses s)
+responseLine c s = sideLine false c s

@@ -11,7 +11,7 @@ ghost use Rattle.octets.specs.Bytes.{numberAt};
 ghost use Rattle.octets.specs.Put.{put};
 ghost use Rattle.packet.specs.Layout.{rulesOf};
 ghost use Rattle.packet.specs.Answers.{argumentAt};
-ghost use Rattle.show_packet.specs.Lines.{argumentText, argumentTexts, labelBefore, packetText, refusalText, refusedText, requestLine, responseLine, seenByte, seenBytes, shown, sized, unreadableText, valueOf};
+ghost use Rattle.show_packet.specs.Lines.{argumentText, argumentTexts, arrow, labelBefore, packetText, refusalText, refusedText, requestLine, responseLine, seenByte, seenBytes, shown, sideLine, sized, unreadableText, valueOf};
 
 // A byte as it is shown: `?` for what is no visible character of ASCII.
 fn seen_byte(x: u8) -> u8
@@ -161,14 +161,25 @@ fn put_refused(out: &mut [u8], at: usize, packet: &[u8], number: u8) -> usize
     put_unreadable(out, place, number)
 }
 
-// Lays a request as a line: who sends it, and what it says.
-pub fn put_request(out: &mut [u8], at: usize, connection: u8, packet: &[u8]) -> usize
-    requires { ⌜ (at + length (requestLine connection (now packet)) ≤ length (now out)) ⌝ }
-    ensures { λ r. ⌜ (r ≡ at + length (requestLine connection (now (packet .entry)))) × (now (out .exit) ≡ put at (requestLine connection (now (packet .entry))) (now (out .entry))) ⌝ }
+// Lays the arrow between the connection and the packet: to the server, or from it.
+fn put_arrow(out: &mut [u8], at: usize, request: bool) -> usize
+    requires { ⌜ (at + length (arrow request) ≤ length (now out)) ⌝ }
+    ensures { λ r. ⌜ (r ≡ at + length (arrow request)) × (now (out .exit) ≡ put at (arrow request) (now (out .entry))) ⌝ }
+{
+    if request {
+        return octets::put(out, at, b" -> ");
+    }
+    octets::put(out, at, b" <- ")
+}
+
+// Lays a packet of one side as a line: who sends it or to whom it goes, and what it says.
+fn put_line(out: &mut [u8], at: usize, connection: u8, packet: &[u8], request: bool) -> usize
+    requires { ⌜ (at + length (sideLine request connection (now packet)) ≤ length (now out)) ⌝ }
+    ensures { λ r. ⌜ (r ≡ at + length (sideLine request connection (now (packet .entry)))) × (now (out .exit) ≡ put at (sideLine request connection (now (packet .entry))) (now (out .entry))) ⌝ }
 {
     let arrow = show_names::put_number(out, at, connection as u32);
-    let place = octets::put(out, arrow, b" -> ");
-    let read = packet_read::read_request(packet);
+    let place = put_arrow(out, arrow, request);
+    let read = packet_read::read_side(packet, request);
     match read {
         Read::Refused(number) => put_refused(out, place, packet, number),
         Read::Packet { kind, ends } => {
@@ -176,7 +187,7 @@ pub fn put_request(out: &mut [u8], at: usize, connection: u8, packet: &[u8]) -> 
                 out,
                 place,
                 kind,
-                packet_kinds::request_shape(kind),
+                packet_kinds::shape_of(kind, request),
                 packet,
                 ends,
             )
@@ -184,25 +195,18 @@ pub fn put_request(out: &mut [u8], at: usize, connection: u8, packet: &[u8]) -> 
     }
 }
 
+// Lays a request as a line: who sends it, and what it says.
+pub fn put_request(out: &mut [u8], at: usize, connection: u8, packet: &[u8]) -> usize
+    requires { ⌜ (at + length (requestLine connection (now packet)) ≤ length (now out)) ⌝ }
+    ensures { λ r. ⌜ (r ≡ at + length (requestLine connection (now (packet .entry)))) × (now (out .exit) ≡ put at (requestLine connection (now (packet .entry))) (now (out .entry))) ⌝ }
+{
+    put_line(out, at, connection, packet, true)
+}
+
 // Lays a response as a line: to whom it goes, and what it says.
 pub fn put_response(out: &mut [u8], at: usize, connection: u8, packet: &[u8]) -> usize
     requires { ⌜ (at + length (responseLine connection (now packet)) ≤ length (now out)) ⌝ }
     ensures { λ r. ⌜ (r ≡ at + length (responseLine connection (now (packet .entry)))) × (now (out .exit) ≡ put at (responseLine connection (now (packet .entry))) (now (out .entry))) ⌝ }
 {
-    let arrow = show_names::put_number(out, at, connection as u32);
-    let place = octets::put(out, arrow, b" <- ");
-    let read = packet_read::read_response(packet);
-    match read {
-        Read::Refused(number) => put_refused(out, place, packet, number),
-        Read::Packet { kind, ends } => {
-            put_packet(
-                out,
-                place,
-                kind,
-                packet_kinds::response_shape(kind),
-                packet,
-                ends,
-            )
-        }
-    }
+    put_line(out, at, connection, packet, false)
 }
