@@ -5,8 +5,9 @@ use packet::Ends;
 use packet::Read;
 use packet::Shape;
 ghost use mathlib.Core.Path.{_≡_};
-ghost use Rattle.packet.specs.Packet.{requests, responses};
+ghost use Rattle.packet.specs.Packet.{responses};
 ghost use Rattle.packet.specs.Answers.{argumentAt};
+ghost use Rattle.packet_read.specs.Directions.{side};
 ghost use Rattle.capture.specs.Packets.{Packed, packetsIn};
 ghost use Rattle.show_job.specs.Concerned.{concerned, firstSent, handleIn, jobNamed, namesJob};
 
@@ -35,25 +36,16 @@ fn handle_in(shape: Shape, packet: &[u8], ends: Ends) -> Serial
     handle::serial_of(packet_read::argument(packet, ends, 0))
 }
 
-// The serial that a request names.
-fn requested(packet: &[u8]) -> Serial
-    ensures { λ r. ⌜ r ≡ jobNamed requests (now (packet .entry)) ⌝ }
+// The serial that a packet of one side names: a request, or a response.
+fn named(packet: &[u8], request: bool) -> Serial
+    ensures { λ r. ⌜ r ≡ jobNamed (side request) (now (packet .entry)) ⌝ }
 {
-    let read = packet_read::read_request(packet);
+    let read = packet_read::read_side(packet, request);
     match read {
         Read::Refused(_) => Serial::None,
-        Read::Packet { kind, ends } => handle_in(packet_kinds::request_shape(kind), packet, ends),
-    }
-}
-
-// The serial that a response names.
-fn responded(packet: &[u8]) -> Serial
-    ensures { λ r. ⌜ r ≡ jobNamed responses (now (packet .entry)) ⌝ }
-{
-    let read = packet_read::read_response(packet);
-    match read {
-        Read::Refused(_) => Serial::None,
-        Read::Packet { kind, ends } => handle_in(packet_kinds::response_shape(kind), packet, ends),
+        Read::Packet { kind, ends } => {
+            handle_in(packet_kinds::shape_of(kind, request), packet, ends)
+        }
     }
 }
 
@@ -66,7 +58,7 @@ fn sent_first(sent: &[u8]) -> Serial
         return Serial::None;
     }
     let length = capture::packet_length(sent);
-    responded(&sent[1..length])
+    named(&sent[1..length], false)
 }
 
 // The serial that the packet which came concerns, with the addressed packets that were sent.
@@ -74,7 +66,7 @@ pub fn concerned(packet: &[u8], sent: &[u8]) -> Serial
     requires { ⌜ Packed (now sent) ⌝ }
     ensures { λ r. ⌜ r ≡ concerned (now (packet .entry)) (packetsIn (now (sent .entry))) ⌝ }
 {
-    let own = requested(packet);
+    let own = named(packet, true);
     match own {
         Serial::Of(serial) => Serial::Of(serial),
         Serial::None => sent_first(sent),

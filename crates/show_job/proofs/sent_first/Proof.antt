@@ -10,17 +10,17 @@ returns c = search (needs, first-none)
 packet-length-requires : tie.Need-packet-length-requires
 packet-length-requires c κs = search (needs, first-long)
 
-sub-responded : tie.Need-sub-responded
-sub-responded c = search needs
+sub-named : tie.Need-sub-named
+sub-named c = search needs
 
-part-responded-start : tie.Need-part-responded-start
-part-responded-start c = search needs
+part-named-start : tie.Need-part-named-start
+part-named-start c = search needs
 
-part-responded-end : tie.Need-part-responded-end
-part-responded-end c = search (needs, first-inside)
+part-named-end : tie.Need-part-named-end
+part-named-end c = search (needs, first-inside)
 
-responded-requires : tie.Need-responded-requires
-responded-requires c κs = search needs
+named-requires : tie.Need-named-requires
+named-requires c κs = search needs
 
 returns-2 : tie.Need-returns-2
 returns-2 c = search (needs, first-named)
@@ -31,8 +31,8 @@ sent-first-spec =
     (tie.spec
     returns
     packet-length-requires
-    sub-responded
-    part-responded-start
-    part-responded-end
-    responded-requires
+    sub-named
+    part-named-start
+    part-named-end
+    named-requires
     returns-2)
