@@ -67,7 +67,7 @@ pub words-alike : {e f : Event} → Alike e f → (s r : Server) → Running con
     → spokenTo (lineText k) (some e) s ≡ spokenTo (lineText k) (some f) r
 words-alike {e} {f} a s r h g q k =
     let b = answer-alike a s r q in
-    let ps : All2 AlikeSent (answer e s .sent) (answer f r .sent) = all-alike (b .sent) (sent-apt 16 e s h) (sent-apt 16 f r g) in
+    let ps : All2 AlikeSent (answer e s .sent) (answer f r .sent) = all-alike (b .sent) (sent-apt connectionCount e s h) (sent-apt connectionCount f r g) in
     line-alike ps a k (answer e s .number) (s .table) (next e s .table)
     ∙ ap (λ (u : Table). lineText k (some f) (map addressed (answer f r .sent)) (answer e s .number) u (next e s .table)) q
     ∙ ap₂ {C = Bytes} (λ (n : ℕ) (t : Table). lineText k (some f) (map addressed (answer f r .sent)) n (r .table) t) (b .number) (table-alike a s r q)

@@ -26,7 +26,7 @@ held = withHolder 2 (withListeners 5 (freshRow 1 0 1 4))
 abbrev urgent : JobRow
 urgent = inBackground (freshRow 3 0 2 4)
 
-nobody-asleep : sleepersText connectionCount (replicate 16 closed) ≡ text "\n    asleep none"
+nobody-asleep : sleepersText connectionCount (replicate connectionCount closed) ≡ text "\n    asleep none"
 unfolding compute
 nobody-asleep = refl
 
