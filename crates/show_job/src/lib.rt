@@ -37,7 +37,7 @@ fn handle_in(shape: Shape, packet: &[u8], ends: Ends) -> Serial
 }
 
 // The serial that a packet of one side names: a request, or a response.
-fn named(packet: &[u8], request: bool) -> Serial
+fn job_named(packet: &[u8], request: bool) -> Serial
     ensures { λ r. ⌜ r ≡ jobNamed (side request) (now (packet .entry)) ⌝ }
 {
     let read = packet_read::read_side(packet, request);
@@ -58,7 +58,7 @@ fn sent_first(sent: &[u8]) -> Serial
         return Serial::None;
     }
     let length = capture::packet_length(sent);
-    named(&sent[1..length], false)
+    job_named(&sent[1..length], false)
 }
 
 // The serial that the packet which came concerns, with the addressed packets that were sent.
@@ -66,7 +66,7 @@ pub fn concerned(packet: &[u8], sent: &[u8]) -> Serial
     requires { ⌜ Packed (now sent) ⌝ }
     ensures { λ r. ⌜ r ≡ concerned (now (packet .entry)) (packetsIn (now (sent .entry))) ⌝ }
 {
-    let own = named(packet, true);
+    let own = job_named(packet, true);
     match own {
         Serial::Of(serial) => Serial::Of(serial),
         Serial::None => sent_first(sent),

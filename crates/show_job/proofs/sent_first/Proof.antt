@@ -10,17 +10,17 @@ returns c = search (needs, first-none)
 packet-length-requires : tie.Need-packet-length-requires
 packet-length-requires c κs = search (needs, first-long)
 
-sub-named : tie.Need-sub-named
-sub-named c = search needs
+sub-job-named : tie.Need-sub-job-named
+sub-job-named c = search needs
 
-part-named-start : tie.Need-part-named-start
-part-named-start c = search needs
+part-job-named-start : tie.Need-part-job-named-start
+part-job-named-start c = search needs
 
-part-named-end : tie.Need-part-named-end
-part-named-end c = search (needs, first-inside)
+part-job-named-end : tie.Need-part-job-named-end
+part-job-named-end c = search (needs, first-inside)
 
-named-requires : tie.Need-named-requires
-named-requires c κs = search needs
+job-named-requires : tie.Need-job-named-requires
+job-named-requires c κs = search needs
 
 returns-2 : tie.Need-returns-2
 returns-2 c = search (needs, first-named)
@@ -31,8 +31,8 @@ sent-first-spec =
     (tie.spec
     returns
     packet-length-requires
-    sub-named
-    part-named-start
-    part-named-end
-    named-requires
+    sub-job-named
+    part-job-named-start
+    part-job-named-end
+    job-named-requires
     returns-2)

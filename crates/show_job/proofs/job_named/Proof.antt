@@ -1,11 +1,11 @@
--- `show_job::named` meets its contract: none for a refusal, and else by the shape of the type. Assumes nothing.
+-- `show_job::job_named` meets its contract: none for a refusal, and else by the shape of the type. Assumes nothing.
 use mathlib.Core.Path.{_∙_, sym}
 use Rattle.packet_read.specs.Directions.{side}
 use Rattle.packet_read.proofs.Reading.{side-shape}
 use Rattle.show_job.proofs.Named.{named-first, named-none}
 use borrow.Author.Needs.{needs}
-use Rattle.show_job.proofs.named.Statement.{statement}
-use Rattle.show_job.proofs.named.Tie as tie
+use Rattle.show_job.proofs.job_named.Statement.{statement}
+use Rattle.show_job.proofs.job_named.Tie as tie
 
 read-side-requires : tie.Need-read-side-requires
 read-side-requires c κs = search needs
@@ -30,8 +30,8 @@ returns-2 c =
     let b = c .before .before .before .before .before .before .before .args .request in
     c .handle-in .ensures ∙ named-first (side b) _ _ _ (sym (c .before .before .before .read .given .1) ∙ c .before .before .before .before .before .read-side .ensures) _ (side-shape b _ _ (c .before .shape-of .ensures))
 
-pub named-spec : {M : Type 1} → statement M
-named-spec =
+pub job-named-spec : {M : Type 1} → statement M
+job-named-spec =
     tie.close
     (tie.spec
     read-side-requires
