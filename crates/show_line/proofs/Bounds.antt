@@ -8,9 +8,8 @@ use Rattle.octets.specs.Bytes.{Bytes}
 use Rattle.lists.specs.Lists.{concat}
 use Rattle.server.specs.declared.JobRow.{JobRow}
 use Rattle.server.specs.Sizes.{connectionCount, outputSize}
-use Rattle.server.specs.Table.{Table}
+use Rattle.server.specs.Table.{Table, rowsOf}
 use Rattle.server.specs.Requests.{Event}
-use Rattle.plan.specs.Values.{rowsOf}
 use Rattle.capture.specs.Packets.{Addressed}
 use Rattle.capture.proofs.Texts.{Fits}
 use Rattle.show_parts.specs.Parts.{answerText, headingText, tableText}

@@ -16,12 +16,11 @@ use Rattle.octets.proofs.Runs.{laid-as}
 use Rattle.server.specs.declared.JobRow.{JobRow}
 use Rattle.server.specs.Sizes.{connectionCount}
 use Rattle.server.specs.Requests.{Event}
-use Rattle.server.specs.Table.{Table}
+use Rattle.server.specs.Table.{Table, rowsOf}
 use Rattle.server.specs.Layout.{tableOf, tableSize}
 use Rattle.server.specs.Call.{Result, serverIn, tooShort, isSound, refusedBy, performed, call, left}
 use Rattle.server.specs.Replay.{frame}
 use Rattle.server_calls.proofs.Refusals.{taken}
-use Rattle.plan.specs.Values.{rowsOf}
 use Rattle.capture.specs.Packets.{packetsIn}
 use Rattle.capture.specs.Spoken.{answeredTo, telling}
 use Rattle.capture.proofs.Telling.{frame-told, short-told}

@@ -5,10 +5,9 @@ use mathlib.Core.Option.{Option}
 use Rattle.octets.specs.Bytes.{Bytes}
 use Rattle.server.specs.declared.JobRow.{JobRow}
 use Rattle.server.specs.Sizes.{connectionCount, outputSize}
-use Rattle.server.specs.Table.{Table}
+use Rattle.server.specs.Table.{Table, rowsOf}
 use Rattle.server.specs.Requests.{Event}
 use Rattle.server.specs.Server.{Server}
-use Rattle.plan.specs.Values.{rowsOf}
 use Rattle.capture.specs.Spoken.{Speech, Told, told, said, spoken, spokenText}
 use Rattle.show_table.specs.Standing.{sleepersRoom, jobsRoom, goneRoom}
 use Rattle.show_parts.specs.Parts.{answerText, headingText, tableText}

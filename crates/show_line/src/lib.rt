@@ -17,7 +17,7 @@ ghost use lib.ListN.{length};
 ghost use Rattle.octets.specs.Put.{put};
 ghost use Rattle.server.specs.Sizes.{connectionCount, outputSize};
 ghost use Rattle.server.specs.Layout.{tableOf, tableSize};
-ghost use Rattle.plan.specs.Values.{rowsOf};
+ghost use Rattle.server.specs.Table.{rowsOf};
 ghost use Rattle.capture.specs.Frames.{Bounded, eventOf};
 ghost use Rattle.capture.specs.Packets.{Packed, packetsIn};
 ghost use Rattle.capture.specs.Spoken.{telling};
