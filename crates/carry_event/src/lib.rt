@@ -1,4 +1,4 @@
-// A plan plan carried out on the lent bytes: its packets in the output, its workloads and its table; or the ERROR packet of its
+// A plan carried out on the lent bytes: its packets in the output, its workloads and its table; or the ERROR packet of its
 // refusal. An inner crate: its callers lend a table that obeys the rules, and a plan that is ready for it; what is refused is the plan's.
 use packet::Ends;
 use packet::Shape;
@@ -18,7 +18,7 @@ ghost use Rattle.server.specs.Call.{isSound, left};
 ghost use Rattle.plan.specs.Parts.{changed};
 ghost use Rattle.carry_packet.specs.Messages.{messages};
 ghost use Rattle.plan.specs.Steps.{Inside, Lean, isLean};
-ghost use Rattle.carry_event.specs.Concluded.{Ready, concluded, opaquePlace, refusalBytes};
+ghost use Rattle.carry_event.specs.Concluded.{Ready, concluded, opaqueIn, opaquePlace, refusalBytes};
 
 // What a call answers: document 01's number, 0 if it is done, and how many bytes of the output it wrote.
 pub struct Answer {
@@ -39,6 +39,14 @@ fn opaque_place(shape: Shape) -> usize
     }
 }
 
+// The opaque argument of a packet that was read; empty, where its type has none.
+fn opaque_in(packet: &[u8], kind: u32, ends: Ends) -> &[u8]
+    ensures { λ r. ⌜ now r ≡ opaqueIn (now (packet .entry)) kind ends ⌝ }
+{
+    let place = opaque_place(packet_kinds::request_shape(kind));
+    packet_read::argument(packet, ends, place)
+}
+
 // Lays a NOOP for each connection of the set, from `at` on: nothing for the empty set. Returns where they end.
 fn wake(output: &mut [u8], at: usize, woken: u32) -> usize
     requires { ⌜ at + length (messages (members connectionCount woken) 6 []) ≤ length (now output) ⌝ }
@@ -50,7 +58,7 @@ fn wake(output: &mut [u8], at: usize, woken: u32) -> usize
     carry_packet::wake_all(output, at, woken)
 }
 
-// Carries out a plan plan whose step is lean: sends its packets, and writes what the step and its ending change. Returns how many
+// Carries out a plan whose step is lean: sends its packets, and writes what the step and its ending change. Returns how many
 // bytes it sent.
 fn perform_lean(
     table: &mut [u8],
@@ -72,11 +80,7 @@ fn perform_lean(
     let first = packet_read::argument(packet, ends, 0);
     let second = packet_read::argument(packet, ends, 1);
     let third = packet_read::argument(packet, ends, 2);
-    let opaque = packet_read::argument(
-        packet,
-        ends,
-        opaque_place(packet_kinds::request_shape(kind)),
-    );
+    let opaque = opaque_in(packet, kind, ends);
     let step = plan.step;
     let order = plan.order;
     let change = plan.change;
@@ -98,7 +102,7 @@ fn perform_lean(
     length
 }
 
-// Carries out a plan plan whose step is not lean: sends its packets, and then settles and writes all numbers. Returns how many bytes
+// Carries out a plan whose step is not lean: sends its packets, and then settles and writes all numbers. Returns how many bytes
 // it sent.
 fn perform_whole(
     table: &mut [u8],
@@ -111,19 +115,14 @@ fn perform_whole(
     ends: Ends,
 ) -> usize
     requires { ⌜ (isSound connectionCount (now table) ≡ true) × (tableSize connectionCount ≤ length (now table)) × (workloadsSize ≤ length (now workloads)) × (plan .number ≡ 0)
-        × Ready plan c kind (now packet) ends (now table) (now workloads) (now output)
-        × Inside (plan .step) × (isLean (plan .step) ≡ false) ⌝ }
+        × Ready plan c kind (now packet) ends (now table) (now workloads) (now output) × Inside (plan .step) × (isLean (plan .step) ≡ false) ⌝ }
     ensures { λ r. ⌜ left 0 r (now (output .exit)) (now (table .exit)) (now (workloads .exit))
         ≡ concluded plan c kind (now (packet .entry)) ends (now (table .entry)) (now (workloads .entry)) (now (output .entry)) ⌝ }
 {
     let first = packet_read::argument(packet, ends, 0);
     let second = packet_read::argument(packet, ends, 1);
     let third = packet_read::argument(packet, ends, 2);
-    let opaque = packet_read::argument(
-        packet,
-        ends,
-        opaque_place(packet_kinds::request_shape(kind)),
-    );
+    let opaque = opaque_in(packet, kind, ends);
     let step = plan.step;
     let order = plan.order;
     let change = plan.change;
@@ -159,7 +158,7 @@ pub fn refuse(output: &mut [u8], c: u8, number: u8) -> usize
     carry_packet::send_error(output, 0, c, number)
 }
 
-// Carries out a plan plan, or refuses by its number.
+// Carries out a plan, or refuses by its number.
 pub fn conclude(
     table: &mut [u8],
     workloads: &mut [u8],

@@ -7,7 +7,7 @@ use Rattle.plan.specs.Values.{valuesOf}
 use Rattle.plan.specs.declared.Values.{Values}
 use Rattle.plan.specs.Steps.{stepped}
 use Rattle.carry_output.proofs.Orders.{order-room, noop-room, answered}
-use Rattle.carry_event.proofs.Steps.{opaque-taken, done-concluded, lean-wakes, lean-workloads}
+use Rattle.carry_event.proofs.Steps.{done-concluded, lean-wakes, lean-workloads}
 use Rattle.carry_event.proofs.perform_lean.Statement.{statement}
 use Rattle.carry_event.proofs.perform_lean.Tie as tie
 
@@ -20,44 +20,38 @@ argument-requires-2 c κs = search needs
 argument-requires-3 : tie.Need-argument-requires-3
 argument-requires-3 c κs = search needs
 
-request-shape-requires : tie.Need-request-shape-requires
-request-shape-requires c κs = search needs
-
-opaque-place-requires : tie.Need-opaque-place-requires
-opaque-place-requires c κs = search needs
-
-argument-requires-4 : tie.Need-argument-requires-4
-argument-requires-4 c κs = search needs
+opaque-in-requires : tie.Need-opaque-in-requires
+opaque-in-requires c κs = search needs
 
 of-step-requires : tie.Need-of-step-requires
 of-step-requires c κs = search needs
 
 send-order-requires : tie.Need-send-order-requires
 send-order-requires c κs =
-    let s = c .before .before .before .before .before .before .before .before .before .before .before .before .before .before .before in
+    let s = c .before .before .before .before .before .before .before .before .before .before .before .before .before in
     let v : Values = stepped (s .args .plan .step) (valuesOf (tableOf connectionCount (s .args .table .now))) in
-    let a = c .before .before .before .before .before .before .before .before .before .before .argument .ensures in
+    let a = c .before .before .before .before .before .before .before .before .argument .ensures in
     (s .pre .0, s .pre .1, s .pre .2, rw a (s .pre .4 .orderly), rw a (order-room _ _ _ _ _ _ _ v _ (s .pre .4 .room)))
 
 wake-requires : tie.Need-wake-requires
 wake-requires c κs =
-    let s = c .before .before .before .before .before .before .before .before .before .before .before .before .before .before .before .before .before .before .before in
+    let s = c .before .before .before .before .before .before .before .before .before .before .before .before .before .before .before .before .before in
     let g = s .args in
     let v : Values = stepped (g .plan .step) (valuesOf (tableOf connectionCount (g .table .now))) in
-    let sent = rw (c .before .before .before .before .before .before .before .before .before .before .before .before .before .before .argument .ensures) at (c .before .before .before .send-order .ensures) in
+    let sent = rw (c .before .before .before .before .before .before .before .before .before .before .before .before .argument .ensures) at (c .before .before .before .send-order .ensures) in
     noop-room _ _ _ _ _ _ _ v _ (lean-wakes (g .plan) (g .table .now) (g .workloads .now) (g .packet .now) (g .c) (g .kind) (g .ends) (s .pre .7) _ (c .before .before .before .before .before .before .before .of-step .ensures)) _ _ _ (sent .0) (sent .1) (s .pre .4 .room)
 
 rework-requires : tie.Need-rework-requires
 rework-requires c κs =
-    let p = c .before .before .before .before .before .before .before .before .before .before .before .before .before .before .before .before .before .before .before .before .before .before .before .before .pre in
-    (p .2, p .1, rw (opaque-taken _ _ _ _ _ _ (c .before .before .before .before .before .before .before .before .before .before .before .before .before .before .before .before .request-shape .ensures) (c .before .before .before .before .before .before .before .before .before .before .before .before .before .before .before .opaque-place .ensures) (c .before .before .before .before .before .before .before .before .before .before .before .before .before .before .argument4 .ensures)) (p .4 .small), p .5, p .6)
+    let p = c .before .before .before .before .before .before .before .before .before .before .before .before .before .before .before .before .before .before .before .before .before .before .pre in
+    (p .2, p .1, rw (c .before .before .before .before .before .before .before .before .before .before .before .before .before .before .opaque-in .ensures) (p .4 .small), p .5, p .6)
 
 carry-requires : tie.Need-carry-requires
 carry-requires c κs =
-    let p = c .before .before .before .before .before .before .before .before .before .before .before .before .before .before .before .before .before .before .before .before .before .before .before .before .before .before .before .before .pre in
-    let a = c .before .before .before .before .before .before .before .before .before .before .before .before .before .before .before .before .before .before .before .before .before .before .before .argument .ensures in
-    let b = c .before .before .before .before .before .before .before .before .before .before .before .before .before .before .before .before .before .before .before .before .before .before .argument2 .ensures in
-    let d = c .before .before .before .before .before .before .before .before .before .before .before .before .before .before .before .before .before .before .before .before .before .argument3 .ensures in
+    let p = c .before .before .before .before .before .before .before .before .before .before .before .before .before .before .before .before .before .before .before .before .before .before .before .before .before .before .pre in
+    let a = c .before .before .before .before .before .before .before .before .before .before .before .before .before .before .before .before .before .before .before .before .before .argument .ensures in
+    let b = c .before .before .before .before .before .before .before .before .before .before .before .before .before .before .before .before .before .before .before .before .argument2 .ensures in
+    let d = c .before .before .before .before .before .before .before .before .before .before .before .before .before .before .before .before .before .before .before .argument3 .ensures in
     (p .0, p .1, rw (a, b, d) (p .4 .fitting), p .5, c .before .before .before .before .before .before .before .before .before .before .before .before .before .before .before .before .of-step .ensures, rw (a, b, d) (p .7))
 
 same-length : tie.Need-same-length
@@ -71,13 +65,13 @@ same-length-3 c = search needs
 
 returns : tie.Need-returns
 returns c =
-    let s = c .before .before .before .before .before .before .before .before .before .before .before .before .before .before .before .before .before .before .before .before .before .before .before .before .before .before .before .before .before .before .before in
+    let s = c .before .before .before .before .before .before .before .before .before .before .before .before .before .before .before .before .before .before .before .before .before .before .before .before .before .before .before .before .before in
     let g = s .args in
     let v : Values = stepped (g .plan .step) (valuesOf (tableOf connectionCount (g .table .now))) in
-    let a = c .before .before .before .before .before .before .before .before .before .before .before .before .before .before .before .before .before .before .before .before .before .before .before .before .before .before .argument .ensures in
-    let b = c .before .before .before .before .before .before .before .before .before .before .before .before .before .before .before .before .before .before .before .before .before .before .before .before .before .argument2 .ensures in
-    let d = c .before .before .before .before .before .before .before .before .before .before .before .before .before .before .before .before .before .before .before .before .before .before .before .before .argument3 .ensures in
-    let o = opaque-taken _ _ _ _ _ _ (c .before .before .before .before .before .before .before .before .before .before .before .before .before .before .before .before .before .before .before .before .before .before .before .request-shape .ensures) (c .before .before .before .before .before .before .before .before .before .before .before .before .before .before .before .before .before .before .before .before .before .before .opaque-place .ensures) (c .before .before .before .before .before .before .before .before .before .before .before .before .before .before .before .before .before .before .before .before .before .argument4 .ensures) in
+    let a = c .before .before .before .before .before .before .before .before .before .before .before .before .before .before .before .before .before .before .before .before .before .before .before .before .argument .ensures in
+    let b = c .before .before .before .before .before .before .before .before .before .before .before .before .before .before .before .before .before .before .before .before .before .before .before .argument2 .ensures in
+    let d = c .before .before .before .before .before .before .before .before .before .before .before .before .before .before .before .before .before .before .before .before .before .before .argument3 .ensures in
+    let o = c .before .before .before .before .before .before .before .before .before .before .before .before .before .before .before .before .before .before .before .before .before .opaque-in .ensures in
     let sent = rw a at (c .before .before .before .before .before .before .before .before .before .before .before .before .before .before .before .send-order .ensures) in
     let woken = lean-wakes (g .plan) (g .table .now) (g .workloads .now) (g .packet .now) (g .c) (g .kind) (g .ends) (s .pre .7) _ (c .before .before .before .before .before .before .before .before .before .before .before .before .before .before .before .before .before .before .before .of-step .ensures) in
     let whole = answered _ _ _ _ _ _ _ v _ woken _ _ _ _ _ (sent .0) (sent .1) (c .before .before .before .before .before .before .before .before .before .before .before .wake .ensures) in
@@ -91,9 +85,7 @@ perform-lean-spec =
     argument-requires
     argument-requires-2
     argument-requires-3
-    request-shape-requires
-    opaque-place-requires
-    argument-requires-4
+    opaque-in-requires
     of-step-requires
     send-order-requires
     wake-requires
