@@ -18,10 +18,11 @@ use Rattle.lists.proofs.Rows.{clash, never, any-at, any-where}
 use Rattle.server.specs.Table.{Table, noJob, jobAt, live, hasHandle, joins}
 use Rattle.server.specs.Requests.{Event, sends, Work, Request, requestIn, work}
 use Rattle.server.specs.Refusals.{isTold}
-use Rattle.server.specs.Events.{Send, plain, copy, assign, Decision, silence, refuse, settle, dropped, forgot, toWake, noop, created, unableToAll, sleeping, hears, listenersOf}
+use Rattle.server.specs.Events.{Send, plain, copy, assign, Decision, silence, refuse, settle, dropped, toWake, noop, created, unableToAll, sleeping, hears, listenersOf}
 use Rattle.server.specs.Server.{Server, decided, next}
 use Rattle.server_laws.proofs.Outcome.{Change, Served, Outcome, outcome}
 use Rattle.server_laws.proofs.Going.{best-found, grabbed-live, joined-found, joined-inside}
+use Rattle.server_laws.proofs.Places.{settled-last}
 use Rattle.demands.specs.Messages.{messageOf, messagesOf}
 use Rattle.demands.specs.Handles.{givesHandle, readingGives, given, stands}
 use Rattle.demands.proofs.Arguments.{work-read}
@@ -128,10 +129,6 @@ module _ (c : ℕ) (b : Bytes) (s : Server) where
   gives-change q (Change.status j o r) = gives-one _ 20 _ refl
   gives-change q (Change.optioned name r) = gives-one _ 27 _ refl
   gives-change q Change.echoed = All.more (gives-copy e s _ c 17 refl) All.none
-
-  settled-last : (ss : List Send) (u : Table) → settle ss u .table .last ≡ u .last
-  unfolding settle dropped forgot
-  settled-last ss u = refl
 
   gives-served : {a : Request} {d : Decision} → requestIn b ≡ a → Served c (s .table) a d → All (Gives e s (d .table .last)) (d .packets)
   gives-served q (Served.refused a m r) = gives-refused e s _ c m (s .table)

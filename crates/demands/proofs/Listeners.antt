@@ -27,7 +27,10 @@ use Rattle.server.specs.Server.{Server, answer, decided, next}
 use Rattle.server_laws.proofs.Outcome.{Stands, Silences, Outcome, outcome}
 use Rattle.server_laws.proofs.Openness.{none-open}
 use Rattle.server_laws.proofs.Obeyed.{obeyed}
-use Rattle.server_laws.proofs.Fates.{Untouched, Becomes, stays, begins, joins, taken, told, left, drops, fates}
+use Rattle.server_laws.proofs.Accepting.{submitted-keeps}
+use Rattle.server_laws.proofs.Closing.{left-serial}
+use Rattle.server_laws.proofs.Places.{Untouched, Becomes, stays, begins, joins, taken, told, left, drops}
+use Rattle.server_laws.proofs.Fates.{fates}
 use Rattle.server_calls.proofs.Follows.{Running, running-next}
 use Rattle.demands.specs.Messages.{messagesOf}
 use Rattle.demands.specs.Handles.{stands}
@@ -228,24 +231,21 @@ module _ (n : ℕ) (s : Server) (r : Running n s) (c : ℕ) (h : Bytes) where
       let z : jobAt u (a .place) .row .serial ≡ suc (u .last) = handle-one-to-one lap _ _ (omega arith) (omega arith) (sym (a .is) ∙ k) in
       omega arith
 
-  submitted-serial : (d : ℕ) (b : Bool) (row : JobRow) → submittedBy d b row .serial ≡ row .serial
-  submitted-serial d true row = refl
-  submitted-serial d false row = refl
-
   -- ---- each fate
 
-  heard-by : (p : ℕ) {e : Event} {k : Job} → Becomes u p (jobAt u p) e k → live (k .row) ≡ true → h ≡ handle lap (k .row .serial) → Heard e (has (k .row .listeners) c)
+  heard-by : (p : ℕ) {last : ℕ} {e : Event} {k : Job} → Becomes u last p (jobAt u p) e k → live (k .row) ≡ true → h ≡ handle lap (k .row .serial) → Heard e (has (k .row .listeners) c)
   heard-by p (stays e z) l q = sym (was p l q) ∙ stays-heard e p z l q
-  heard-by p (begins d b priority background f v size i o a z r₁ r₂ r₃ m) l q =
+  heard-by p (begins d b priority background f v size i o a z r₁ r₂ r₃ m e) l q =
+      let row = freshRow (suc (u .last)) i priority size in
       let (ls, g) = make-packets s d b o priority background f v size a i p r₁ r₂ r₃ m in
-      let k : h ≡ handle lap (suc (u .last)) = q ∙ ap (handle lap) (submitted-serial d background (freshRow (suc (u .last)) i priority size)) in
+      let k : h ≡ handle lap (suc (u .last)) = q ∙ ap (handle lap) (submitted-keeps d background row .serial) in
       let w : tellsCreated c h (messagesOf (sends d b) s) ≡ eqb d c && true = tells-created c h (sends d b) s d (suc (u .last)) ls g ∙ rw k (ap (λ (x : Bool). eqb d c && x) (same-refl (handle lap (suc (u .last))))) in
-      joined-listeners d background (freshRow (suc (u .last)) i priority size)
+      joined-listeners d background row
       ∙ ap (λ (x : Bool). x || (not background && eqb d c)) (zero-has c ∙ sym (nobody-listens n s r c h (λ y. new-none y k m)))
       ∙ submission-heard d b background (foreground-asks b priority background f v size a) w
   heard-by p (joins d b priority background f v size o a y) l q =
       let j = jobAt u p in
-      let x = submitted-serial d background (j .row) in
+      let x = submitted-keeps d background (j .row) .serial in
       let k : h ≡ handle lap (j .row .serial) = q ∙ ap (handle lap) x in
       let i : live (j .row) ≡ true = ap (λ (m : ℕ). not (eqb m 0)) (sym x) ∙ l in
       let (ls, g) = join-packets s d b o priority background f v size a p y in
@@ -260,7 +260,7 @@ module _ (n : ℕ) (s : Server) (r : Running n s) (c : ℕ) (h : Bytes) where
   heard-by p (told d b throws kind j x y o a w) l q = clash l refl
   heard-by p (left d o z) l q =
       let j = jobAt u p in
-      let x : leftBy d j .row .serial ≡ j .row .serial = cond-both (λ (k : Job). k .row .serial ≡ j .row .serial) (heldBy d (j .row)) refl refl in
+      let x = left-serial d j in
       let y : leftBy d j .row .listeners ≡ remove (j .row .listeners) d = cond-both (λ (k : Job). k .row .listeners ≡ remove (j .row .listeners) d) (heldBy d (j .row)) refl refl in
       let k : h ≡ handle lap (j .row .serial) = q ∙ ap (handle lap) x in
       let i : live (j .row) ≡ true = ap (λ (m : ℕ). not (eqb m 0)) (sym x) ∙ l in

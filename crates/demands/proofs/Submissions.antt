@@ -24,7 +24,7 @@ use Rattle.server.specs.Events.{Send, Decision, silence, refuse, settle, error,
 use Rattle.server.specs.Server.{Server, decided}
 use Rattle.server_laws.proofs.Outcome.{Stands, Change, Served, Outcome, outcome}
 use Rattle.server_laws.proofs.Going.{joined-found, joined-inside}
-use Rattle.server_laws.proofs.Fates.{placeChanged}
+use Rattle.server_laws.proofs.Places.{placeChanged}
 use Rattle.server_calls.proofs.Packets.{isBad}
 use Rattle.demands.specs.Messages.{messageOf, messagesOf}
 use Rattle.demands.specs.Conditions.{typeOf, isSubmission}

@@ -1,9 +1,10 @@
 -- Reasoning by cases: on a test, and entry by entry through two lists. Assumes nothing.
-use Prim.Native.Nat.{ℕ, zero, suc, _+_}
+use Prim.Native.Nat.{ℕ, zero, suc}
 use mathlib.Core.Path.{_≡_, refl}
 use mathlib.Core.Bool.{Bool, true, false, cond}
 use mathlib.Core.List.{List, [], _∷_, _++_, map}
-use lib.ListN.{getD, set}
+use native.Mathlib.Omega.{arith}
+use lib.ListN.{length, getD, set}
 
 -- what holds of both branches holds of the choice
 pub cond-both : {A : Type 0} (P : A → Type 0) (b : Bool) {x y : A} → P x → P y → P (cond b x y)
@@ -38,7 +39,7 @@ all-any f [] = All.none
 all-any f (x ∷ xs) = All.more (f x) (all-any f xs)
 
 module _ {A : Type 0} (R : A → A → Type 0) (same : (a : A) → R a a) where
-  pub all2-same : (xs : List A) → All2 R xs xs
+  all2-same : (xs : List A) → All2 R xs xs
   all2-same [] = All2.none
   all2-same (x ∷ xs) = All2.more (same x) (all2-same xs)
 
@@ -59,3 +60,10 @@ pub all2-at : {A : Type 0} {B : Type 0} {R : A → B → Type 0} {xs : List A} {
 all2-at All2.none i d e r = r
 all2-at (All2.more q qs) zero d e r = q
 all2-at (All2.more q qs) (suc i) d e r = all2-at qs i d e r
+
+-- from two lists of one length, place by place
+pub all2-by : {A : Type 0} {B : Type 0} {R : A → B → Type 0} (xs : List A) (ys : List B) (d : A) (e : B) → length xs ≡ length ys → ((i : ℕ) → R (getD xs i d) (getD ys i e)) → All2 R xs ys
+all2-by [] [] d e l f = All2.none
+all2-by [] (y ∷ ys) d e l f = absurd (omega arith)
+all2-by (x ∷ xs) [] d e l f = absurd (omega arith)
+all2-by (x ∷ xs) (y ∷ ys) d e l f = All2.more (f 0) (all2-by xs ys d e (omega arith) (λ i. f (suc i)))

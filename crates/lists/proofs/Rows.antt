@@ -6,8 +6,10 @@ use mathlib.Core.Bool.{Bool, true, false, _&&_, _||_, true≢false}
 use mathlib.Core.Option.{none}
 use mathlib.Core.List.{List, [], _∷_, map}
 use native.Mathlib.Nat.{zero-add, le-of-suc-le-suc, not-suc-le-zero}
+use native.Mathlib.Decide.{ℕ-discrete}
 use native.Mathlib.Omega.{arith}
 use lib.ListN.{length, getD, set, replicate}
+use lib.Seq.{getD-set-same, getD-set-other}
 use Rattle.octets.proofs.Strings.{and-left, and-right, and-both}
 use Rattle.lists.specs.Lists.{any, all, pairwise, mapFrom, numbers, implies}
 use Rattle.lists.proofs.Cases.{All2}
@@ -122,10 +124,6 @@ module _ {A : Type 0} (apart : A → A → Bool) where
   pairwise-at (x ∷ l) zero (suc k) d e h g = all-at (apart x) l k d (and-left (all (apart x) l) _ e) (le-of-suc-le-suc g)
   pairwise-at (x ∷ l) (suc i) (suc k) d e h g = pairwise-at l i k d (and-right (all (apart x) l) _ e) (le-of-suc-le-suc h) (le-of-suc-le-suc g)
 
-  pub pairwise-replicate : (n : ℕ) (x : A) → apart x x ≡ true → pairwise apart (replicate n x) ≡ true
-  pairwise-replicate zero x h = refl
-  pairwise-replicate (suc n) x h = and-both (all (apart x) (replicate n x)) _ (all-replicate (apart x) n x h) (pairwise-replicate n x h)
-
 -- ---- some row
 
 module _ {A : Type 0} (p : A → Bool) where
@@ -179,6 +177,13 @@ row-set P (y ∷ l) zero x zero d p q = p
 row-set P (y ∷ l) zero x (suc k) d p q = q
 row-set P (y ∷ l) (suc i) x zero d p q = q
 row-set P (y ∷ l) (suc i) x (suc k) d p q = row-set P l i x k d p q
+
+-- what holds of a row anew at its place, and of each other row at its own, holds at every place
+pub each-set : {A : Type 0} (P : ℕ → A → Type 0) (l : List A) (i : ℕ) (x d : A) → i < length l → P i x → ((k : ℕ) → ¬ (k ≡ i) → P k (getD l k d)) → (k : ℕ) → P k (getD (set l i x) k d)
+each-set P l i x d h p q k = elim (ℕ-discrete k i) [
+  | yes e ↦ rw (e, getD-set-same l i x d h) p
+  | no n ↦ rw (getD-set-other l i k x d n) (q k n)
+]
 
 -- ---- numbers in a row
 

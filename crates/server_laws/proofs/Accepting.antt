@@ -2,7 +2,7 @@
 -- otherwise it would have joined that one. Assumes nothing.
 use Prim.Native.Nat.{ℕ, suc, _+_, _<_}
 use mathlib.Core.Path.{_≡_, refl, ap, sym, _∙_}
-use mathlib.Core.Bool.{Bool, true, false, not}
+use mathlib.Core.Bool.{Bool, true, false, not, and-false}
 use mathlib.Core.Option.{none, some}
 use mathlib.Core.List.{[]}
 use borrow.Author.Tests.{le-leb, not-true}
@@ -12,11 +12,13 @@ use Rattle.octets.specs.Bytes.{Bytes, same, every, zeroFree, within}
 use Rattle.octets.proofs.Strings.{and-left, and-right, and-both, same-refl}
 use Rattle.packet.specs.Layout.{function, unique}
 use Rattle.packet.specs.Arguments.{fits}
+use Rattle.sets.specs.Sets.{insert}
+use Rattle.sets.proofs.Laws.{nonempty, has-insert-same}
 use Rattle.server.specs.declared.JobRow.{JobRow}
 use Rattle.server.specs.Sizes.{uniqueSize}
-use Rattle.server.specs.Table.{Function, Job, Table, noFunction, noJob, functionAt, jobAt, setFunction, live, roomFor, joins, joined, freshRow, withName, unstarted}
-use Rattle.server.specs.Events.{submittedBy, newJob, accepted}
-use Rattle.server.specs.Rules.{textWithin, together, rowHasMeaning, isOpen, onlyOpen}
+use Rattle.server.specs.Table.{Function, Job, Table, noFunction, noJob, functionAt, jobAt, setFunction, live, queued, roomFor, joins, joined, freshRow, withName}
+use Rattle.server.specs.Events.{lost, submittedBy, newJob, accepted}
+use Rattle.server.specs.Rules.{textWithin, together, numbersInRange, isOpen, onlyOpen}
 use Rattle.lists.proofs.Searches.{found}
 use Rattle.lists.proofs.Rows.{clash, all-at, all-row}
 use Rattle.server.proofs.Rows.{range-fresh}
@@ -37,6 +39,20 @@ pub record Kept (r s : JobRow) : Type 0 where
 pub submitted-keeps : (c : ℕ) (b : Bool) (r : JobRow) → Kept r (submittedBy c b r)
 submitted-keeps c true r = record { serial = refl; function = refl; priority = refl; holder = refl; size = refl }
 submitted-keeps c false r = record { serial = refl; function = refl; priority = refl; holder = refl; size = refl }
+
+pub submitted-range : (m n c : ℕ) (b : Bool) (r : JobRow) → numbersInRange m n r ≡ true → numbersInRange m n (submittedBy c b r) ≡ true
+submitted-range m n c true r e = e
+submitted-range m n c false r e = e
+
+-- the job is background or has a listener
+pub submitted-unlost : (c : ℕ) (b : Bool) (r : JobRow) → lost (submittedBy c b r) ≡ false
+submitted-unlost c true r = and-false (queued (submittedBy c true r))
+submitted-unlost c false r = simp (nonempty (insert (r .listeners) c) c (has-insert-same (r .listeners) c), and-false)
+
+-- its listeners stay open connections: one more, if any, is the submitter
+pub submitted-open : (t : Table) (c : ℕ) → c < length (t .connections) → isOpen t c ≡ true → (b : Bool) (r : JobRow) → onlyOpen t (r .listeners) ≡ true → onlyOpen t (submittedBy c b r .listeners) ≡ true
+submitted-open t c i o true r e = e
+submitted-open t c i o false r e = open-insert t (r .listeners) c i o e
 
 unique-within : (u : Bytes) → fits unique u ≡ true → textWithin uniqueSize u ≡ true
 unfolding fits
@@ -87,18 +103,12 @@ module _ (c : ℕ) (t : Table) (inside : c < length (t .connections)) (opened : 
       let a : same (k .unique) u ≡ true = rw (w .unique) (same-refl (k .unique)) in
       clash (and-both (live (k .row)) _ (w .second) (and-both (not (same u [])) _ (ap not (w .someUnique)) (and-both (same (k .unique) u) _ a (rw e (same-refl f))))) n
 
-  new-listeners : (b : Bool) → onlyOpen t (submittedBy c b bare .listeners) ≡ true
-  new-listeners true = none-open t
-  new-listeners false = open-insert t 0 c inside opened (none-open t)
-
-  new-range : (b : Bool) → rowHasMeaning tableNamed (unstarted (submittedBy c b bare) u) ≡ true
-  new-range true = range-fresh (length (set (t .functions) q place)) (length (t .connections)) (suc (t .last)) q priority size (g .low) (rw (length-set (t .functions) q place) (space .inside))
-  new-range false = range-fresh (length (set (t .functions) q place)) (length (t .connections)) (suc (t .last)) q priority size (g .low) (rw (length-set (t .functions) q place) (space .inside))
-
   new-means : rowMeans tableNamed new ≡ true
   new-means =
       let l : live (new .row) ≡ true = rw (keeps .serial) (ap not (eqb·suc-zero (t .last))) in
-      rw l (new-range background)
+      let m = length (set (t .functions) q place) in
+      let n = length (t .connections) in
+      rw l (submitted-range m n c background bare (range-fresh m n (suc (t .last)) q priority size (g .low) (rw (length-set (t .functions) q place) (space .inside))))
 
   is-new : New tableNamed new
   unfolding every
@@ -108,7 +118,7 @@ module _ (c : ℕ) (t : Table) (inside : c < length (t .connections)) (opened : 
         texts = and-both (textWithin uniqueSize u) true (unique-within u (g .unique)) refl;
         sizes = rw (new-name, keeps .size) (le-leb (length f + length u + size) 1022 (g .together));
         means = new-means;
-        listeners = new-listeners background;
+        listeners = submitted-open t c inside opened background bare (none-open t);
         holder = rw (keeps .holder);
         named = rw (new-name, name-some f (g .function));
         alone = no-twin;

@@ -1,25 +1,29 @@
--- Every change that an event makes before the table is settled keeps a sound table sound: one clause for each case of `Change`.
--- Assumes nothing.
+-- Every change that an event makes before the table is settled keeps a sound table sound. What is done to jobs has one clause for each
+-- fate (`Places`), what is done to the rest one for each case of `Change`. Assumes nothing.
 use Prim.Native.Nat.{ℕ, _<_}
-use mathlib.Core.Path.{_≡_, refl, ap, _∙_}
+use mathlib.Core.Path.{_≡_, refl, ap, sym, _∙_}
 use mathlib.Core.Bool.{Bool, true, false}
 use mathlib.Core.List.{List}
+use native.Mathlib.Omega.{arith}
 use lib.ListN.{length, length-set}
 use lib.Seq.{getD-set-same}
+use Rattle.octets.specs.Bytes.{Bytes}
 use Rattle.server.specs.declared.Connection.{Connection}
-use Rattle.server.specs.Table.{Table, closed, noFunction, connectionAt, functionAt, jobAt}
-use Rattle.server.specs.Requests.{Request}
+use Rattle.server.specs.Table.{Job, Table, closed, noFunction, noJob, connectionAt, functionAt, jobAt, withConnections, withJobs}
+use Rattle.server.specs.Requests.{sends, Request, requestIn}
 use Rattle.server.specs.Events.{Send, opening, ableTo, unable, unableToAll, sleeping}
-use Rattle.server.specs.Rules.{onlyOpen}
-use Rattle.lists.proofs.Cases.{all2-set, all2-map}
-use Rattle.server_laws.proofs.Outcome.{Change}
+use Rattle.server.specs.Rules.{isOpen, onlyOpen}
+use Rattle.lists.proofs.Cases.{all2-set, all2-map, all2-by}
+use Rattle.server_laws.proofs.Outcome.{Change, Stands}
 use Rattle.lists.proofs.Rows.{all-row}
 use Rattle.server_laws.proofs.Requests.{Good}
 use Rattle.server_laws.proofs.Openness.{none-open, open-insert}
 use Rattle.server_laws.proofs.Sound.{Sound}
-use Rattle.server_laws.proofs.Jobs.{on}
+use Rattle.server_laws.proofs.Jobs.{Goes, on, sound-jobs}
 use Rattle.server_laws.proofs.Functions.{Less, less-same, less-unable, sound-less, room, sound-name}
-use Rattle.server_laws.proofs.Going.{sound-connection, sound-sleeping, sound-job, grabbed-live, joined-found, held-found, still-grabbed, still-submitted, goes-worked}
+use Rattle.server_laws.proofs.Going.{sound-connection, sound-sleeping, still-same, grabbed-live, joined-found, held-found, still-grabbed, still-submitted, goes-worked}
+use Rattle.server_laws.proofs.Lengths.{long-change}
+use Rattle.server_laws.proofs.Places.{Becomes, stays, begins, joins, taken, told, becomes}
 use Rattle.server_laws.proofs.Accepting.{sound-accepted}
 
 pub sound-opening : (c : ℕ) (t : Table) → Sound t → Sound (opening c t)
@@ -35,27 +39,40 @@ asker-inside : (c : ℕ) (t : Table) (b : Bool) → c < length (t .connections) 
 unfolding sleeping
 asker-inside c t b i = rw length-set i
 
-same-jobs : (c : ℕ) (t : Table) (b : Bool) → sleeping b c t .jobs ≡ t .jobs
-unfolding sleeping
-same-jobs c t b = refl
+-- ---- jobs, place by place: each goes on or is over, if none is made, whatever becomes of the connections meanwhile
 
-pub sound-change : (c : ℕ) (t : Table) {a : Request} {ss : List Send} {u : Table} → c < length (t .connections) → connectionAt t c .opened ≡ true → Good a → Sound t → Change c t a ss u → Sound u
+module _ (c : ℕ) (t : Table) (b : Bytes) (cs : List Connection) (inside : c < length cs) (opened : isOpen (withConnections cs t) c ≡ true) where
+  abbrev v : Table
+  v = withConnections cs t
+
+  goes : {last p : ℕ} {k : Job} → Good (requestIn b) → last ≡ t .last → Becomes t last p (jobAt t p) (sends c b) k → Goes v (jobAt t p) k
+  goes g e (stays d z) = on (still-same v _)
+  goes g e (begins c b priority background f u size i o q z r₁ r₂ r₃ l n) = absurd (omega arith)
+  goes {p = p} g e (joins c b priority background f u size o q r) = on (still-submitted v c inside opened (jobAt t p) (joined-found t f u p r) background)
+  goes {p = p} g e (taken c b uniq o q r) = on (still-grabbed v c inside opened (jobAt t p) (grabbed-live t c p r))
+  goes {p = p} g e (told c b how kind h n d o q r) = goes-worked v c inside opened (jobAt t p) (held-found t c h p r) how n d (rw q at g)
+
+  sound-places : {a : Request} {ss : List Send} {u : Table} → Stands t c true → requestIn b ≡ a → Good a → Change c t a ss u → u .last ≡ t .last → Sound v → Sound (withJobs (u .jobs) v)
+  sound-places {u = u} o q g m e h = sound-jobs v (all2-by (t .jobs) (u .jobs) noJob noJob (sym (long-change c t m .jobs)) (λ p. goes (rw q g) e (becomes o q m p))) h
+
+-- ---- every change
+
+pub sound-change : (c : ℕ) (t : Table) (b : Bytes) {a : Request} {ss : List Send} {u : Table} → Stands t c true → requestIn b ≡ a → Good a → Sound t → Change c t a ss u → Sound u
 unfolding sleeping unableToAll
-sound-change c t i o g h (Change.able f q e) =
-    sound-name t f q (ableTo c f (functionAt t q)) (room t f q e) refl g
-    (open-insert t (functionAt t q .able) c i o (all-row (λ x. onlyOpen t (x .able)) (t .functions) q noFunction (h .abilities) (none-open t))) h
-sound-change c t i o g h (Change.unknown f e) = h
-sound-change c t i o g h (Change.disabled f q e) = sound-less t (all2-set (Less t) (less-same t) (t .functions) q noFunction (unable c (functionAt t q)) (less-unable t c (functionAt t q))) h
-sound-change c t i o g h Change.cleared = sound-less t (all2-map (Less t) (unable c) (less-unable t c) (t .functions)) h
-sound-change c t i o g h Change.slept = sound-sleeping t c true o h
-sound-change c t i o g h (Change.noJobFor uniq e) = sound-sleeping t c false o h
-sound-change c t i o g h (Change.grabbed uniq p e) =
-    sound-job (sleeping false c t) p _
-    (on (still-grabbed (sleeping false c t) c (asker-inside c t false i) (asker-open c t false i o) (jobAt t p) (grabbed-live t c p e)))
-    (sound-sleeping t c false o h)
-sound-change c t i o g h (Change.joins priority background f v size p e) = sound-job t p _ (on (still-submitted t c i o (jobAt t p) (joined-found t f v p e) background)) h
-sound-change c t i o g h (Change.accepts priority background f v size q p e₁ e₂ e₃ l) = sound-accepted c t i o priority background f v size q p g e₁ e₂ h l
-sound-change c t i o g h (Change.worker how kind k n d p e) = sound-job t p _ (goes-worked t c i o (jobAt t p) (held-found t c k p e) how n d g) h
-sound-change c t i o g h (Change.status k p e) = h
-sound-change c t i o g h (Change.optioned name e) = sound-connection t c _ o h
-sound-change c t i o g h Change.echoed = h
+sound-change c t b o q g h (Change.able f i e) =
+    sound-name t f i (ableTo c f (functionAt t i)) (room t f i e) refl g
+    (open-insert t (functionAt t i .able) c (o .inside) (o .state) (all-row (λ x. onlyOpen t (x .able)) (t .functions) i noFunction (h .abilities) (none-open t))) h
+sound-change c t b o q g h (Change.unknown f e) = h
+sound-change c t b o q g h (Change.disabled f i e) = sound-less t (all2-set (Less t) (less-same t) (t .functions) i noFunction (unable c (functionAt t i)) (less-unable t c (functionAt t i))) h
+sound-change c t b o q g h Change.cleared = sound-less t (all2-map (Less t) (unable c) (less-unable t c) (t .functions)) h
+sound-change c t b o q g h Change.slept = sound-sleeping t c true (o .state) h
+sound-change c t b o q g h (Change.noJobFor uniq e) = sound-sleeping t c false (o .state) h
+sound-change c t b o q g h (Change.grabbed uniq p e) =
+    sound-places c t b (sleeping false c t .connections) (asker-inside c t false (o .inside)) (asker-open c t false (o .inside) (o .state)) o q g (Change.grabbed uniq p e) refl
+    (sound-sleeping t c false (o .state) h)
+sound-change c t b o q g h (Change.joins priority background f v size p e) = sound-places c t b (t .connections) (o .inside) (o .state) o q g (Change.joins priority background f v size p e) refl h
+sound-change c t b o q g h (Change.accepts priority background f v size i p e₁ e₂ e₃ l) = sound-accepted c t (o .inside) (o .state) priority background f v size i p g e₁ e₂ h l
+sound-change c t b o q g h (Change.worker how kind k n d p e) = sound-places c t b (t .connections) (o .inside) (o .state) o q g (Change.worker how kind k n d p e) refl h
+sound-change c t b o q g h (Change.status k p e) = h
+sound-change c t b o q g h (Change.optioned name e) = sound-connection t c _ (o .state) h
+sound-change c t b o q g h Change.echoed = h

@@ -4,10 +4,10 @@ use Prim.Native.Nat.{ℕ, zero, suc}
 use mathlib.Core.Path.{_≡_, refl, ap, sym, _∙_, subst}
 use mathlib.Core.Logic.{_≢_}
 use mathlib.Core.Bool.{Bool, true, false, _&&_}
-use mathlib.Core.List.{[], _∷_, map}
+use mathlib.Core.List.{List, [], _∷_, map}
 use native.Mathlib.Omega.{arith}
 use borrow.Author.Tests.{eq-eqb}
-use lib.ListN.{length, set, length-set}
+use lib.ListN.{length, getD, set, length-set, List·getD-map}
 use lib.Seq.{getD-set-other}
 use Rattle.octets.specs.Bytes.{same, every}
 use Rattle.octets.proofs.Strings.{and-left, and-right}
@@ -29,6 +29,13 @@ use Rattle.server_laws.proofs.Going.{live-means}
 pub left-none : (c : ℕ) → leftBy c noJob ≡ noJob
 left-none c = ap (λ (s : ℕ). withRow (withListeners s noRow) noJob) (zero-remove c)
 
+pub left-at : (c : ℕ) (js : List Job) (p : ℕ) → getD (map (leftBy c) js) p noJob ≡ leftBy c (getD js p noJob)
+left-at c js p = ap (λ (d : Job). getD (map (leftBy c) js) p d) (sym (left-none c)) ∙ List·getD-map (leftBy c) js p noJob
+
+-- a job keeps its serial
+pub left-serial : (c : ℕ) (j : Job) → leftBy c j .row .serial ≡ j .row .serial
+left-serial c j = cond-both (λ (k : Job). k .row .serial ≡ j .row .serial) (heldBy c (j .row)) refl refl
+
 module _ (t : Table) (c : ℕ) where
   left-means : (j : Job) → rowMeans t j ≡ true → rowMeans t (leftBy c j) ≡ true
   unfolding same
@@ -47,7 +54,7 @@ module _ (t : Table) (c : ℕ) where
   unfolding every
   still-left j =
       record {
-        serial = cond-both (λ (k : Job). k .row .serial ≡ j .row .serial) (heldBy c (j .row)) refl refl;
+        serial = left-serial c j;
         function = cond-both (λ (k : Job). k .row .function ≡ j .row .function) (heldBy c (j .row)) refl refl;
         size = cond-both (λ (k : Job). k .row .size ≡ j .row .size) (heldBy c (j .row)) refl refl;
         unique = cond-both (λ (k : Job). k .unique ≡ j .unique) (heldBy c (j .row)) refl refl;

@@ -1,34 +1,33 @@
--- What becomes of one connection and of one unfinished job: a sound table stays sound when a connection that stays open changes, and
--- when a job that a search found is grabbed, joined or worked on. Assumes nothing.
+-- What becomes of one connection and of one unfinished job: a sound table stays sound when a connection that stays open changes, and a
+-- job that a search found goes on or is over when it is grabbed, joined or worked on. Assumes nothing.
 use Prim.Native.Nat.{ℕ, suc, _<_}
 use mathlib.Core.Path.{_≡_, refl, sym, _∙_}
 use mathlib.Core.Bool.{Bool, true, false, not, _&&_, _||_}
 use mathlib.Core.Option.{some}
 use mathlib.Core.List.{List, map}
-use borrow.Author.Tests.{eqb-true, eqb-false, not-true}
+use borrow.Author.Tests.{eqb-true, eqb-false, not-true, not-false}
 use lib.ListN.{length, set, length-set, getD}
 use lib.Dec.{eqb}
 use Rattle.octets.specs.Bytes.{Bytes}
 use Rattle.octets.proofs.Strings.{and-left, and-right, and-both}
 use Rattle.packet.specs.Layout.{function, unique}
 use Rattle.packet.specs.Arguments.{fits}
-use Rattle.sets.specs.Sets.{insert}
 use Rattle.server.specs.declared.Connection.{Connection}
 use Rattle.server.specs.declared.JobRow.{JobRow}
 use Rattle.lists.specs.Lists.{find}
-use Rattle.server.specs.Table.{Job, Table, noJob, connectionAt, jobAt, setConnection, setJob, withRow, withTexts, withListeners, inBackground, withHolder, rowsOf, ablesOf, noRow, live, queued, heldBy, grabbable, rank, greatest, bestRow, best, joins, joined}
+use Rattle.server.specs.Table.{Job, Table, noJob, connectionAt, jobAt, setConnection, withRow, withTexts, withHolder, rowsOf, ablesOf, noRow, live, queued, heldBy, grabbable, rank, greatest, bestRow, best, freeRow, freePlace, joins, joined}
 use Rattle.server.specs.Requests.{Work, tells, reports, ends, throws}
 use Rattle.server.specs.Events.{sleeping, submittedBy, holdsHandle, worked}
 use Rattle.server.specs.Rules.{storedNumber, rowHasMeaning, isOpen}
-use Rattle.lists.proofs.Cases.{all2-set}
 use Rattle.lists.proofs.Searches.{found}
 use Rattle.lists.proofs.Rows.{implies-by, all-imp, all-set}
 use Rattle.server.proofs.Rows.{range-holder}
 use Rattle.server_laws.proofs.Numbers.{row-at, rows-long}
 use Rattle.server_laws.proofs.Requests.{Told}
-use Rattle.server_laws.proofs.Openness.{open-insert, open-more, holder-more, still-open}
+use Rattle.server_laws.proofs.Openness.{open-more, holder-more, still-open}
 use Rattle.server_laws.proofs.Sound.{Sound, rowMeans, sound-connections}
-use Rattle.server_laws.proofs.Jobs.{Still, Goes, over, on, sound-jobs}
+use Rattle.server_laws.proofs.Jobs.{Still, Goes, over, on}
+use Rattle.server_laws.proofs.Accepting.{submitted-keeps, submitted-range, submitted-open}
 
 -- ---- connections
 
@@ -53,10 +52,6 @@ sound-sleeping t c b o h = sound-connection t c _ o h
 
 pub still-same : (t : Table) (j : Job) → Still t j j
 still-same t j = record { serial = refl; function = refl; size = refl; unique = refl; texts = λ e. e; means = λ e. e; listeners = λ e. e; holder = λ e. e }
-
--- one job's row anew
-pub sound-job : (t : Table) (p : ℕ) (k : Job) → Goes t (jobAt t p) k → Sound t → Sound (setJob t p k)
-sound-job t p k g h = sound-jobs t (all2-set (Goes t) (λ j. on (still-same t j)) (t .jobs) p noJob k g) h
 
 -- an unfinished job's row keeps a meaning that its numbers keep
 pub live-means : (t : Table) (j k : Job) → live (j .row) ≡ true → k .row .serial ≡ j .row .serial → (rowHasMeaning t j ≡ true → rowHasMeaning t k ≡ true) → rowMeans t j ≡ true → rowMeans t k ≡ true
@@ -100,6 +95,13 @@ unfolding holdsHandle
 held-found t c h p e =
     and-left (live (jobAt t p .row)) _ (and-left (heldBy c (jobAt t p .row)) _ (found (λ j. holdsHandle c h (j .row)) noJob (t .jobs) (some p) e .passes))
 
+pub free-place : (t : Table) (p : ℕ) → freePlace t ≡ some p → (jobAt t p .row .serial ≡ 0) × (p < length (t .jobs))
+unfolding freeRow
+free-place t p e =
+    let h = found (λ r. not (live r)) noRow (rowsOf t) (some p) e in
+    let n : not (live (jobAt t p .row)) ≡ true = rw (row-at t p) at (h .passes) in
+    (eqb-true _ 0 (not-false _ (not-true _ n)), rw (rows-long t) at (h .inside))
+
 -- ---- jobs that go on
 
 module _ (t : Table) (c : ℕ) (inside : c < length (t .connections)) (opened : isOpen t c ≡ true) (j : Job) (l : live (j .row) ≡ true) where
@@ -117,27 +119,17 @@ module _ (t : Table) (c : ℕ) (inside : c < length (t .connections)) (opened : 
       }
 
   pub still-submitted : (b : Bool) → Still t j (withRow (submittedBy c b (j .row)) j)
-  still-submitted true =
+  still-submitted b =
+      let k = submitted-keeps c b (j .row) in
       record {
-        serial = refl;
-        function = refl;
-        size = refl;
+        serial = k .serial;
+        function = k .function;
+        size = k .size;
         unique = refl;
         texts = λ e. e;
-        means = live-means t j (withRow (inBackground (j .row)) j) l refl (λ e. e);
-        listeners = λ e. e;
-        holder = λ e. e;
-      }
-  still-submitted false =
-      record {
-        serial = refl;
-        function = refl;
-        size = refl;
-        unique = refl;
-        texts = λ e. e;
-        means = live-means t j (withRow (withListeners (insert (j .row .listeners) c) (j .row)) j) l refl (λ e. e);
-        listeners = λ e. open-insert t (j .row .listeners) c inside opened e;
-        holder = λ e. e;
+        means = live-means t j (withRow (submittedBy c b (j .row)) j) l (k .serial) (submitted-range (length (t .functions)) (length (t .connections)) c b (j .row));
+        listeners = submitted-open t c inside opened b (j .row);
+        holder = λ e. rw (k .holder) e;
       }
 
   pub goes-worked : (how : Work) (n d : Bytes) → Told how n d → Goes t j (worked how n d j)

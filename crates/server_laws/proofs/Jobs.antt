@@ -5,7 +5,7 @@ use mathlib.Core.Bool.{Bool, true, false, not, _&&_, _||_}
 use mathlib.Core.List.{List, []}
 use native.Mathlib.Omega.{arith}
 use borrow.Author.Tests.{le-leb, leb-true, lt-ltb, eqb-true, ne-eqb}
-use lib.ListN.{length, set}
+use lib.ListN.{length}
 use lib.Dec.{leb, eqb, leb·zero}
 use Rattle.octets.specs.Bytes.{same}
 use Rattle.octets.proofs.Strings.{and-left, and-right, and-both, same-is}

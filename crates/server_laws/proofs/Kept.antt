@@ -8,16 +8,16 @@ use mathlib.Core.List.{List, [], _∷_}
 use borrow.Author.Tests.{lt-ltb, le-leb}
 use lib.ListN.{replicate, length-replicate}
 use lib.Dec.{leb}
-use Rattle.octets.specs.Bytes.{same, firstZero}
+use Rattle.octets.specs.Bytes.{Bytes, same, firstZero}
 use Rattle.server.specs.Table.{Table, closed, noFunction, noJob, fresh, withLastSerial}
-use Rattle.server.specs.Requests.{Event, Request}
+use Rattle.server.specs.Requests.{Event, requestIn}
 use Rattle.server.specs.Events.{Send, Decision, silence, refuse, settle, dropped, woken, forgot, opening, closing}
 use Rattle.server.specs.Rules.{onlyOpen, sleepersIdleFrom, queuedAwaited, obeys}
 use Rattle.server.specs.Server.{Server, decided, next, start, after}
 use Rattle.lists.proofs.Cases.{All}
 use Rattle.server_laws.proofs.Outcome.{Stands, Served, Outcome, outcome}
 use Rattle.lists.proofs.Rows.{all-replicate}
-use Rattle.server_laws.proofs.Requests.{Good, good-request}
+use Rattle.server_laws.proofs.Requests.{good-request}
 use Rattle.server_laws.proofs.Openness.{none-open}
 use Rattle.server_laws.proofs.Sound.{Sound}
 use Rattle.server_laws.proofs.Changes.{sound-opening, sound-change}
@@ -40,17 +40,17 @@ settled-obeys ss t h =
     obeys-by (settle ss t .table)
     (record { sound = sound-forgot (woken (dropped t)) s; defined = forgot-defined (woken (dropped t)) s; awaited = settled-awaited (dropped t) (dropped-awaited t); idle = settled-idle (dropped t) })
 
-served-obeys : (c : ℕ) (t : Table) → Stands t c true → {a : Request} {d : Decision} → Good a → obeys t ≡ true → Served c t a d → obeys (d .table) ≡ true
+served-obeys : (c : ℕ) (t : Table) → Stands t c true → (b : Bytes) {d : Decision} → obeys t ≡ true → Served c t (requestIn b) d → obeys (d .table) ≡ true
 unfolding refuse
-served-obeys c t o g h (Served.refused a n r) = h
-served-obeys c t o g h (Served.done a ss u m) = settled-obeys ss u (sound-change c t (o .inside) (o .state) g (obeyed t h .sound) m)
+served-obeys c t o b h (Served.refused a n r) = h
+served-obeys c t o b h (Served.done a ss u m) = settled-obeys ss u (sound-change c t b o refl (good-request b) (obeyed t h .sound) m)
 
 outcome-obeys : (t : Table) {e : Event} {d : Decision} → obeys t ≡ true → Outcome t e d → obeys (d .table) ≡ true
 unfolding silence
 outcome-obeys t h (Outcome.silenced e n r) = h
 outcome-obeys t h (Outcome.opened c o) = settled-obeys [] (opening c t) (sound-opening c t (obeyed t h .sound))
 outcome-obeys t h (Outcome.closed c o) = settled-obeys [] (closing c t) (sound-closing c t (obeyed t h .sound))
-outcome-obeys t h (Outcome.serves c b d o r) = served-obeys c t o (good-request b) h r
+outcome-obeys t h (Outcome.serves c b d o r) = served-obeys c t o b h r
 
 -- every event keeps the rules
 pub obeys-kept : (e : Event) (s : Server) → obeys (s .table) ≡ true → obeys (decided e s .table) ≡ true

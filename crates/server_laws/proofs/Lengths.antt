@@ -28,7 +28,7 @@ pub long-settle : (ss : List Send) (t : Table) → AsLong t (settle ss t .table)
 unfolding settle dropped wokenIn forgot
 long-settle ss t = record { connections = length-mapFrom _ 0 (t .connections); functions = length-mapFrom _ 0 (t .functions); jobs = length-map (t .jobs) unlessLost }
 
-long-change : (c : ℕ) (t : Table) {a : Request} {ss : List Send} {u : Table} → Change c t a ss u → AsLong t u
+pub long-change : (c : ℕ) (t : Table) {a : Request} {ss : List Send} {u : Table} → Change c t a ss u → AsLong t u
 unfolding sleeping unableToAll
 long-change c t (Change.able f q e) = record { connections = refl; functions = length-set (t .functions) q _; jobs = refl }
 long-change c t (Change.unknown f e) = record { connections = refl; functions = refl; jobs = refl }
@@ -49,7 +49,7 @@ unfolding refuse
 long-served c t (Served.refused a n r) = record { connections = refl; functions = refl; jobs = refl }
 long-served c t (Served.done a ss u m) = long-then (long-change c t m) (long-settle ss u)
 
-long-outcome : (t : Table) {e : Event} {d : Decision} → Outcome t e d → AsLong t (d .table)
+pub long-outcome : (t : Table) {e : Event} {d : Decision} → Outcome t e d → AsLong t (d .table)
 unfolding silence opening closing
 long-outcome t (Outcome.silenced e n r) = record { connections = refl; functions = refl; jobs = refl }
 long-outcome t (Outcome.opened c o) = long-then (record { connections = length-set (t .connections) c _; functions = refl; jobs = refl }) (long-settle [] (opening c t))

@@ -19,7 +19,7 @@ use Rattle.packet.specs.Opaque.{masked}
 use Rattle.lists.proofs.Cases.{cond-both}
 use Rattle.lists.proofs.Rows.{clash}
 use Rattle.server.specs.Table.{Job, Table}
-use Rattle.server.specs.Requests.{Event, sends, Work, Request, reset, preSleep, echo, canDo, cantDo, grab, submit, work, getStatus, option, requested, fromReading, requestIn}
+use Rattle.server.specs.Requests.{Event, sends, Request, reset, preSleep, echo, canDo, cantDo, grab, submit, work, getStatus, option, requested, fromReading, requestIn}
 use Rattle.server.specs.Requests as R
 use Rattle.server.specs.Events.{Send, Decision, silence, refuse, settle}
 use Rattle.server.specs.Server.{Server, Sent, render, rework, decided, answer, next}

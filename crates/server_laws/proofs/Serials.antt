@@ -1,29 +1,26 @@
 -- What an event does to the serials: each place keeps its job, loses it, or gets the job with the next serial, and only a submission
 -- makes a job. The last serial never falls, grows by one exactly if a job is made, and stays below 2 ^ 32. Assumes nothing.
-use Prim.Native.Nat.{ℕ, suc, _+_, _/_, _%_, _^_, _≤_, _<_}
-use native.Mathlib.Nat.{le-refl, le-trans, zero-div, one-le-pow}
+use Prim.Native.Nat.{ℕ, suc, _^_, _≤_, _<_}
+use native.Mathlib.Nat.{le-refl, le-trans}
 use native.Mathlib.Decide.{ℕ-discrete}
 use native.Mathlib.Omega.{arith}
 use mathlib.Core.Path.{_≡_, refl, ap, sym, _∙_}
-use mathlib.Core.Bool.{Bool, true, false, not, cond, and-false}
-use mathlib.Core.Option.{some}
+use mathlib.Core.Bool.{Bool, true}
+use mathlib.Core.Option.{none, some}
 use mathlib.Core.List.{List, [], _∷_, map}
-use lib.ListN.{length, getD, set, List·getD-map}
-use lib.Seq.{getD-set-same, getD-set-other}
-use lib.Dec.{eqb}
-use borrow.Author.Tests.{eqb-true, ne-eqb, not-true, not-false}
+use lib.Seq.{getD-set-same}
 use Rattle.octets.specs.Bytes.{Bytes}
-use Rattle.sets.specs.Sets.{has, insert}
-use Rattle.server.specs.declared.Connection.{Connection}
-use Rattle.server.specs.declared.JobRow.{JobRow}
-use Rattle.server.specs.Table.{Function, Job, Table, fresh, noRow, noJob, jobAt, rowsOf, live, heldBy, freeRow, freePlace, withConnections, withFunctions, setJob}
-use Rattle.server.specs.Requests.{Work, tells, reports, ends, throws, Event, sends, requestIn, Request, submit}
-use Rattle.server.specs.Events.{Send, Decision, lost, unlessLost, silence, refuse, dropped, toWake, woken, forgot, settle, opening, closing, leftBy, unableToAll, sleeping, submittedBy, newJob, created, accepted, worked, noop}
+use Rattle.server.specs.Table.{Job, Table, fresh, noJob, jobAt, freshRow, roomFor, freePlace, joined}
+use Rattle.server.specs.Requests.{tells, reports, ends, throws, Event, sends, requestIn, Request, submit}
+use Rattle.server.specs.Events.{Send, Decision, unlessLost, silence, refuse, dropped, toWake, settle, opening, closing, unableToAll, sleeping, newJob, created, accepted, noop}
 use Rattle.server.specs.Server.{Server, next, decided, start, after}
-use Rattle.lists.proofs.Searches.{found}
-use Rattle.lists.proofs.Cases.{All2, cond-both, all2-same, all2-set, all2-map, all2-trans, all2-at}
-use Rattle.server_laws.proofs.Numbers.{row-at, rows-long}
-use Rattle.server_laws.proofs.Outcome.{Change, able, unknown, disabled, cleared, slept, noJobFor, grabbed, joins, accepts, worker, status, optioned, echoed, Served, refused, done, Outcome, silenced, opened, closed, serves, outcome}
+use Rattle.lists.proofs.Cases.{All2, all2-by, all2-at}
+use Rattle.server_laws.proofs.Outcome.{Change, able, unknown, disabled, cleared, slept, noJobFor, grabbed, accepts, worker, status, optioned, echoed, Served, refused, done, Stands, Outcome, silenced, opened, closed, serves, outcome}
+use Rattle.server_laws.proofs.Lengths.{long-outcome}
+use Rattle.server_laws.proofs.Going.{free-place}
+use Rattle.server_laws.proofs.Places.{stays, begins, joins, taken, told, left, drops, Settles, goes-on, is-lost, settles, settled-at, settled-last}
+use Rattle.server_laws.proofs.Closing.{left-serial}
+use Rattle.server_laws.proofs.Accepting.{submitted-keeps, submitted-unlost}
 
 -- ---- places before and after
 
@@ -58,133 +55,94 @@ pub data Submits : Event → ℕ → Type 0 where
   submits : (c : ℕ) (b : Bytes) → IsSubmit (requestIn b) → Submits (sends c b) c
 
 -- only a submission makes a job
-data Shifts (c : ℕ) (a : Request) (t : Table) (d : Decision) : Type 0 where
-  stays : Stays t (d .table) → Shifts c a t d
-  makes : IsSubmit a → Makes c t d → Shifts c a t d
-
 pub data Moves (e : Event) (t : Table) (d : Decision) : Type 0 where
   keeps : Stays t (d .table) → Moves e t d
   adds : (c : ℕ) → Submits e c → Makes c t d → Moves e t d
 
-then-keep : {n : ℕ} (j k l : Job) → Follows n j k → Follows 0 k l → Follows n j l
-then-keep j k l (kept p) (kept q) = kept (q ∙ p)
-then-keep j k l (ended p) (kept q) = ended (q ∙ p)
-then-keep j k l (began p) (kept q) = began (q ∙ p)
-then-keep j k l f (ended q) = ended q
-then-keep j k l f (began q) = ended q
+-- ---- each fate
 
-pub same-job : {n : ℕ} (j : Job) → Follows n j j
-same-job j = kept refl
+-- a new job's serial is n, if one begins here
+follows : {t : Table} {last p : ℕ} {e : Event} {k : Job} (n : ℕ) → (last ≡ suc (t .last) → freePlace t ≡ some p → suc (t .last) ≡ n) → Settles t last p (jobAt t p) e k → Follows n (jobAt t p) k
+follows n new (goes-on (stays e z)) = kept refl
+follows {t} n new (goes-on (begins c b priority background f u size i o q z r₁ r₂ r₃ l e)) = began (submitted-keeps c background (freshRow (suc (t .last)) i priority size) .serial ∙ new e r₃)
+follows {t} {p = p} n new (goes-on (joins c b priority background f u size o q r)) = kept (submitted-keeps c background (jobAt t p .row) .serial)
+follows n new (goes-on (taken c b uniq o q r)) = kept refl
+follows n new (goes-on (told c b tells kind h x y o q r)) = kept refl
+follows n new (goes-on (told c b reports kind h x y o q r)) = kept refl
+follows n new (goes-on (told c b ends kind h x y o q r)) = ended refl
+follows n new (goes-on (told c b throws kind h x y o q r)) = ended refl
+follows {t} {p = p} n new (goes-on (left c o z)) = kept (left-serial c (jobAt t p))
+follows n new (goes-on (drops c o z)) = ended refl
+follows n new (is-lost x z) = ended refl
 
--- ---- settling
-
-dropped-follows : (j : Job) → Follows 0 j (unlessLost j)
-dropped-follows j = cond-both (Follows 0 j) (lost (j .row)) (ended refl) (kept refl)
-
-settled : (ss : List Send) (t : Table) → Stays t (settle ss t .table)
-unfolding settle dropped forgot
-settled ss t = record { jobs = all2-map (Follows 0) unlessLost dropped-follows (t .jobs); last = refl }
-
-then-settled : {t u : Table} (ss : List Send) → Stays t u → Stays t (settle ss u .table)
-then-settled {u = u} ss p =
-    let q : Stays u (settle ss u .table) = settled ss u in
-    record { jobs = all2-trans then-keep (p .jobs) (q .jobs); last = q .last ∙ p .last }
-
--- jobs and last serial are as they were
-idle : (t : Table) (cs : List Connection) (fs : List Function) → Stays t (withConnections cs (withFunctions fs t))
-idle t cs fs = record { jobs = all2-same (Follows 0) same-job (t .jobs); last = refl }
-
--- one job is another one
-one-job : (t : Table) (cs : List Connection) (p : ℕ) (k : Job) → Follows 0 (jobAt t p) k
-    → Stays t (withConnections cs (setJob t p k))
-one-job t cs p k f = record { jobs = all2-set (Follows 0) same-job (t .jobs) p noJob k f; last = refl }
-
-submitted-serial : (c : ℕ) (b : Bool) (r : JobRow) → submittedBy c b r .serial ≡ r .serial
-submitted-serial c true r = refl
-submitted-serial c false r = refl
-
-worked-follows : (how : Work) (n d : Bytes) (j : Job) → Follows 0 j (worked how n d j)
-worked-follows tells n d j = kept refl
-worked-follows reports n d j = kept refl
-worked-follows ends n d j = ended refl
-worked-follows throws n d j = ended refl
-
--- ---- a new job
-
-pub free-place : (t : Table) (p : ℕ) → freePlace t ≡ some p → (jobAt t p .row .serial ≡ 0) × (p < length (t .jobs))
-unfolding freeRow
-free-place t p e =
-    let h = found (λ r. not (live r)) noRow (rowsOf t) (some p) e in
-    let n : not (live (jobAt t p .row)) ≡ true = rw (row-at t p) at (h .passes) in
-    (eqb-true _ 0 (not-false _ (not-true _ n)), rw (rows-long t) at (h .inside))
-
--- a set with a connection put in is not empty
-insert-some : (c : ℕ) → insert 0 c ≡ 0 → ⊥
-unfolding insert has
-insert-some c e = let q : cond (eqb (0 / 2 ^ c % 2) 1) 0 (0 + 2 ^ c) ≡ 0 = e in let r : 0 + 2 ^ c ≡ 0 = rw (zero-div (2 ^ c)) at q in omega (arith, one-le-pow c 2 (omega arith))
-
--- a new job is background or has a listener, so it is not dropped
-pub new-stays : (c priority : ℕ) (b : Bool) (q : ℕ) (u : Bytes) (size n : ℕ) → unlessLost (newJob c priority b q u size (suc n)) .row .serial ≡ suc n
-new-stays c priority true q u size n = rw and-false
-new-stays c priority false q u size n = rw (ne-eqb (insert 0 c) 0 (insert-some c), and-false)
-
-made : (c : ℕ) (t : Table) (priority : ℕ) (b : Bool) (f u : Bytes) (size q p : ℕ) → freePlace t ≡ some p → t .last < 4294967295
-    → Makes c t (settle (created c (suc (t .last)) ∷ []) (accepted q f p (newJob c priority b q u size (suc (t .last))) t))
-unfolding settle dropped forgot
-made c t priority b f u size q p e m =
-    let h = free-place t p e in
-    let j : Job = newJob c priority b q u size (suc (t .last)) in
-    let at : (i : ℕ) → getD (map unlessLost (set (t .jobs) p j)) i noJob ≡ unlessLost (getD (set (t .jobs) p j) i noJob) = λ i. List·getD-map unlessLost (set (t .jobs) p j) i noJob in
-    record {
-      jobs = all2-trans then-keep (all2-set (Follows (suc (t .last))) same-job (t .jobs) p noJob j (began (submitted-serial c b _))) (settled [] (accepted q f p j t) .jobs);
-      last = refl;
-      room = m;
-      place = p;
-      free = h .0;
-      new = ap (λ (k : Job). k .row .serial) (at p ∙ ap unlessLost (getD-set-same (t .jobs) p j noJob (h .1))) ∙ new-stays c priority b q u size (t .last);
-      only = λ i n. rw (at i, getD-set-other (t .jobs) p i j noJob n) (dropped-follows (jobAt t i));
-      sleepers = toWake (dropped (accepted q f p j t));
-      packets = refl;
-    }
+all-follow : {t : Table} {e : Event} {d : Decision} (n : ℕ) → (d .table .last ≡ suc (t .last) → suc (t .last) ≡ n) → Outcome t e d → All2 (Follows n) (t .jobs) (d .table .jobs)
+all-follow {t} {d = d} n new o = all2-by (t .jobs) (d .table .jobs) noJob noJob (sym (long-outcome t o .jobs)) (λ p. follows n (λ e y. new e) (settles o p))
 
 -- ---- every event
 
-left-stays : (c : ℕ) (t : Table) → Stays t (closing c t)
-unfolding closing
-left-stays c t =
-    record { jobs = all2-map (Follows 0) (leftBy c) (λ j. kept (cond-both (λ (k : Job). k .row .serial ≡ j .row .serial) (heldBy c (j .row)) refl refl)) (t .jobs); last = refl }
+-- where the last serial stays, no job is made
+quiet : {t : Table} {e : Event} {d : Decision} → Outcome t e d → d .table .last ≡ t .last → Moves e t d
+quiet o e = keeps (record { jobs = all-follow 0 (λ r. absurd (omega arith)) o; last = e })
 
-changes : {c : ℕ} {t : Table} {a : Request} {ss : List Send} {u : Table} → Change c t a ss u → Shifts c a t (settle ss u)
-unfolding unableToAll sleeping
-changes {t} (able f q e) = stays (then-settled _ (idle t _ _))
-changes {t} (unknown f e) = stays (then-settled _ (idle t _ _))
-changes {t} (disabled f q e) = stays (then-settled _ (idle t _ _))
-changes {t} cleared = stays (then-settled _ (idle t _ _))
-changes {t} slept = stays (then-settled _ (idle t _ _))
-changes {t} (noJobFor uniq e) = stays (then-settled _ (idle t _ _))
-changes {t} (grabbed uniq p e) = stays (then-settled _ (one-job t _ p _ (kept refl)))
-changes {c} {t} (joins priority b f u size p e) = stays (then-settled _ (one-job t _ p _ (kept (submitted-serial c b _))))
-changes {c} {t} (accepts priority b f u size q p e₁ e₂ e₃ m) = makes is-submit (made c t priority b f u size q p e₃ m)
-changes {t} (worker how kind h n d p e) = stays (then-settled _ (one-job t _ p _ (worked-follows how n d _)))
-changes {t} (status h o e) = stays (then-settled _ (idle t _ _))
-changes {t} (optioned name e) = stays (then-settled _ (idle t _ _))
-changes {t} echoed = stays (then-settled _ (idle t _ _))
+module _ {c : ℕ} {t : Table} (o : Stands t c true) (b : Bytes) where
+  serves-by : {a : Request} {d : Decision} → requestIn b ≡ a → Served c t a d → Outcome t (sends c b) d
+  serves-by {d = d} q r = serves c b d o (rw q r)
 
-served-shifts : {c : ℕ} {t : Table} {a : Request} {d : Decision} → Served c t a d → Shifts c a t d
-unfolding refuse
-served-shifts {t} (refused a n r) = stays (idle t _ _)
-served-shifts (done a ss u m) = changes m
+  same-last : {a : Request} {ss : List Send} {u : Table} → requestIn b ≡ a → Change c t a ss u → u .last ≡ t .last → Moves (sends c b) t (settle ss u)
+  same-last {ss = ss} {u} q m e = quiet (serves-by q (done _ ss u m)) (settled-last ss u ∙ e)
+
+  made : (priority : ℕ) (background : Bool) (f u : Bytes) (size i p : ℕ) → requestIn b ≡ submit priority background f u size
+      → joined t f u ≡ none → roomFor (t .functions) f ≡ some i → freePlace t ≡ some p → t .last < 4294967295
+      → Makes c t (settle (created c (suc (t .last)) ∷ []) (accepted i f p (newJob c priority background i u size (suc (t .last))) t))
+  unfolding settle
+  made priority background f u size i p q r₁ r₂ r₃ l =
+      let ss = created c (suc (t .last)) ∷ [] in
+      let row = freshRow (suc (t .last)) i priority size in
+      let j : Job = newJob c priority background i u size (suc (t .last)) in
+      let v = accepted i f p j t in
+      let x : Outcome t (sends c b) (settle ss v) = serves-by q (done _ ss v (accepts priority background f u size i p r₁ r₂ r₃ l)) in
+      let (z, h) = free-place t p r₃ in
+      record {
+        jobs = all-follow _ (λ e. refl) x;
+        last = settled-last ss v;
+        room = l;
+        place = p;
+        free = z;
+        new =
+            ap (λ (k : Job). k .row .serial) (settled-at ss v p ∙ ap unlessLost (getD-set-same (t .jobs) p j noJob h))
+            ∙ rw (submitted-unlost c background row) (submitted-keeps c background row .serial);
+        only = λ k n. follows 0 (λ e (y : freePlace t ≡ some k). absurd (n (cc))) (settles x k);
+        sleepers = toWake (dropped v);
+        packets = refl;
+      }
+
+  change-moves : {a : Request} {ss : List Send} {u : Table} → requestIn b ≡ a → Change c t a ss u → Moves (sends c b) t (settle ss u)
+  unfolding unableToAll sleeping
+  change-moves q (able f i e) = same-last q (able f i e) refl
+  change-moves q (unknown f e) = same-last q (unknown f e) refl
+  change-moves q (disabled f i e) = same-last q (disabled f i e) refl
+  change-moves q cleared = same-last q cleared refl
+  change-moves q slept = same-last q slept refl
+  change-moves q (noJobFor uniq e) = same-last q (noJobFor uniq e) refl
+  change-moves q (grabbed uniq p e) = same-last q (grabbed uniq p e) refl
+  change-moves q (Change.joins priority background f u size p e) = same-last q (Change.joins priority background f u size p e) refl
+  change-moves q (accepts priority background f u size i p e₁ e₂ e₃ l) = adds c (submits c b (rw q is-submit)) (made priority background f u size i p q e₁ e₂ e₃ l)
+  change-moves q (worker how kind h n d p e) = same-last q (worker how kind h n d p e) refl
+  change-moves q (status h i e) = same-last q (status h i e) refl
+  change-moves q (optioned name e) = same-last q (optioned name e) refl
+  change-moves q echoed = same-last q echoed refl
+
+  served-moves : {a : Request} {d : Decision} → requestIn b ≡ a → Served c t a d → Moves (sends c b) t d
+  unfolding refuse
+  served-moves q (refused a n r) = quiet (serves-by q (refused a n r)) refl
+  served-moves q (done a ss u m) = change-moves q m
 
 outcome-moves : {t : Table} {e : Event} {d : Decision} → Outcome t e d → Moves e t d
-unfolding opening silence
-outcome-moves {t} (silenced e n r) = keeps (idle t _ _)
-outcome-moves {t} (opened c o) = keeps (then-settled [] (idle t _ _))
-outcome-moves {t} (closed c o) = keeps (then-settled [] (left-stays c t))
-outcome-moves {t} (serves c b d o r) = by (served-shifts r)
-  where
-    by : Shifts c (requestIn b) t d → Moves (sends c b) t d
-    by (stays m) = keeps m
-    by (makes i m) = adds c (submits c b i) m
+unfolding opening closing silence
+outcome-moves (silenced e n r) = quiet (silenced e n r) refl
+outcome-moves {t} (opened c o) = quiet (opened c o) (settled-last [] (opening c t))
+outcome-moves {t} (closed c o) = quiet (closed c o) (settled-last [] (closing c t))
+outcome-moves (serves c b d o r) = served-moves o b refl r
 
 pub moved : (e : Event) (s : Server) → Moves e (s .table) (decided e s)
 moved e s = outcome-moves (outcome e s)
@@ -213,7 +171,7 @@ began-is n k j l p z m (began q) = sym p ∙ q
 
 creates-is : {s : Server} {e : Event} {k : ℕ} (n : ℕ) → Creates s e k → All2 (Follows n) (s .table .jobs) (decided e s .table .jobs) → k ≡ n
 unfolding next
-creates-is {k = k} n c js = began-is n k _ _ (c .is) (c .some) (c .new) (all2-at js (c .place) noJob noJob (same-job noJob))
+creates-is {k = k} n c js = began-is n k _ _ (c .is) (c .some) (c .new) (all2-at js (c .place) noJob noJob (kept refl))
 
 -- where nothing new may stand but at one place, what is created stands there
 here : {s : Server} {e : Event} {k : ℕ} (p : ℕ) → ((i : ℕ) → ¬ (i ≡ p) → Follows 0 (jobAt (s .table) i) (jobAt (decided e s .table) i)) → (c : Creates s e k) → c .place ≡ p
@@ -241,39 +199,23 @@ creation s e = creation-by s e (moved e s)
 
 -- "Serials are never used again": what is created is numbered by the next serial
 pub numbered : {s : Server} {e : Event} {k : ℕ} → Creates s e k → Numbered s e k
-numbered {s} {e} {k} c = numbered-by (creation s e)
-  where
-    numbered-by : Creation s e → Numbered s e k
-    numbered-by (nothing m n) = absurd (n k c)
-    numbered-by (one d i m x f) = f k c
+numbered {s} {e} {k} c = elim (creation s e) [ nothing m n ↦ absurd (n k c) | one d i m x f ↦ f k c ]
 
 -- an event creates a job at one place only
 pub one-place : {s : Server} {e : Event} {k m : ℕ} (c : Creates s e k) (d : Creates s e m) → c .place ≡ d .place
 unfolding next
-one-place {s} {e} {k} {m} c d = by (creation s e)
-  where
-    by : Creation s e → c .place ≡ d .place
-    by (nothing w n) = absurd (n k c)
-    by (one c₁ i w x f) = here (w .place) (w .only) c ∙ sym (here (w .place) (w .only) d)
+one-place {s} {e} {k} {m} c d = elim (creation s e) [ nothing w n ↦ absurd (n k c) | one a i w x f ↦ here (w .place) (w .only) c ∙ sym (here (w .place) (w .only) d) ]
 
 -- the last serial grows by one exactly if a job is created
 pub grown-creates : (s : Server) (e : Event) → next e s .table .last ≡ suc (s .table .last) → Creates s e (suc (s .table .last))
-grown-creates s e g = by (creation s e)
-  where
-    by : Creation s e → Creates s e (suc (s .table .last))
-    by (nothing m n) = absurd (omega (arith, m .last))
-    by (one c i m d f) = d
+grown-creates s e g = elim (creation s e) [ nothing m n ↦ absurd (omega (arith, m .last)) | one c i m d f ↦ d ]
 
 pub creates-grown : {s : Server} {e : Event} {k : ℕ} → Creates s e k → next e s .table .last ≡ suc (s .table .last)
 creates-grown c = let x = numbered c in x .last ∙ x .is
 
 -- it never falls, over one event and over any
 pub last-kept : (s : Server) (e : Event) → s .table .last ≤ next e s .table .last
-last-kept s e = by (creation s e)
-  where
-    by : Creation s e → s .table .last ≤ next e s .table .last
-    by (nothing m n) = omega (arith, m .last)
-    by (one c i m d f) = omega (arith, f _ d .last)
+last-kept s e = elim (creation s e) [ nothing m n ↦ omega (arith, m .last) | one c i m d f ↦ omega (arith, f _ d .last) ]
 
 pub last-rises : (es : List Event) (s : Server) → s .table .last ≤ after s es .table .last
 unfolding after
@@ -282,11 +224,7 @@ last-rises (e ∷ es) s = le-trans (last-kept s e) (last-rises es (next e s))
 
 -- and it stays below 2 ^ 32, over one event, and over any from a fresh table on
 pub last-small : (s : Server) (e : Event) → s .table .last < 2 ^ 32 → next e s .table .last < 2 ^ 32
-last-small s e h = by (creation s e)
-  where
-    by : Creation s e → next e s .table .last < 2 ^ 32
-    by (nothing m n) = omega (arith, m .last)
-    by (one c i m d f) = omega (arith, f _ d .last, f _ d .room)
+last-small s e h = elim (creation s e) [ nothing m n ↦ omega (arith, m .last) | one c i m d f ↦ omega (arith, f _ d .last, f _ d .room) ]
 
 small-after : (es : List Event) (s : Server) → s .table .last < 2 ^ 32 → after s es .table .last < 2 ^ 32
 unfolding after

@@ -15,7 +15,7 @@ use Rattle.server.specs.declared.Connection.{Connection}
 use Rattle.server.specs.declared.JobRow.{JobRow}
 use Rattle.lists.specs.Lists.{any, implies}
 use Rattle.server.specs.Sizes.{nameSize}
-use Rattle.server.specs.Table.{Function, Job, Table, closed, noFunction, noJob, connectionAt, functionAt, jobAt, rowsOf, ablesOf, noRow, live, queued, able, names, wanted, grabbable}
+use Rattle.server.specs.Table.{Function, Job, Table, closed, noFunction, connectionAt, functionAt, jobAt, rowsOf, ablesOf, noRow, live, queued, able, names, wanted, grabbable}
 use Rattle.server.specs.Events.{lost, unlessLost, dropped, wakes, awake, wokenIn, woken, forgot}
 use Rattle.server.specs.Rules.{textWithin, isKnown, namesApart, asDefined, functionsAsDefined, isOpen, onlyOpen, queuedAwaited, sleeperIdle, sleepersIdleFrom, sleepersIdle}
 use Rattle.lists.proofs.Cases.{cond-both, cond-cases, All2, all2-map, all2-at}

@@ -2,30 +2,28 @@
 -- NOOP then goes to each sleeper able to do it", and to nobody else. Assumes nothing.
 use Prim.Native.Nat.{ℕ, suc, _<_}
 use mathlib.Core.Path.{_≡_, refl, ap, sym, _∙_}
-use mathlib.Core.Bool.{Bool, true, false, not, cond, _&&_}
+use mathlib.Core.Bool.{Bool, true, false, cond, _&&_}
 use mathlib.Core.Option.{none, some}
 use mathlib.Core.List.{List, _∷_, map}
-use native.Mathlib.Decide.{ℕ-discrete}
 use borrow.Author.Tests.{lt-ltb}
 use lib.ListN.{length, getD, length-set, length-map, List·getD-map}
-use lib.Seq.{getD-set-same, getD-set-other}
+use lib.Seq.{getD-set-same}
 use lib.Dec.{eqb·suc-zero}
 use Rattle.octets.specs.Bytes.{Bytes}
 use Rattle.octets.proofs.Strings.{and-left, and-right, and-both}
-use Rattle.sets.specs.Sets.{has, insert}
-use Rattle.sets.proofs.Laws.{has-insert-same, nonempty}
+use Rattle.sets.specs.Sets.{has}
 use Rattle.server.specs.declared.JobRow.{JobRow}
 use Rattle.lists.specs.Lists.{any, filter, numbers}
-use Rattle.server.specs.Table.{Function, Job, Table, noFunction, noJob, connectionAt, functionAt, jobAt, rowsOf, ablesOf, noRow, freeRow, live, queued, able, grabbable, roomFor, freePlace, joined, withName, freshRow}
+use Rattle.server.specs.Table.{Job, Table, noFunction, noJob, connectionAt, functionAt, jobAt, rowsOf, ablesOf, noRow, queued, able, grabbable, roomFor, freePlace, joined, withName, freshRow}
 use Rattle.server.specs.Requests.{submit}
-use Rattle.server.specs.Events.{settle, lost, unlessLost, dropped, wakes, toWakeIn, toWake, noop, submittedBy, created, newJob, accepted, submitNew, submitTo, served}
+use Rattle.server.specs.Events.{settle, lost, unlessLost, dropped, wakes, toWakeIn, toWake, noop, created, newJob, accepted, submitNew, submitTo, served}
 use Rattle.server.specs.Rules.{obeys}
 use Rattle.lists.proofs.Cases.{cond-cases}
-use Rattle.lists.proofs.Searches.{found}
-use Rattle.lists.proofs.Rows.{clash, never, iff, any-at, any-where}
-use Rattle.server_laws.proofs.Numbers.{row-at, able-at, rows-long}
+use Rattle.lists.proofs.Rows.{clash, iff, any-at, any-where, each-set}
+use Rattle.server_laws.proofs.Numbers.{row-at, able-at, rows-long, row-passes}
 use Rattle.server_laws.proofs.Functions.{room}
-use Rattle.server_laws.proofs.Accepting.{Kept, submitted-keeps}
+use Rattle.server_laws.proofs.Going.{free-place}
+use Rattle.server_laws.proofs.Accepting.{Kept, submitted-keeps, submitted-unlost}
 use Rattle.server_laws.proofs.Obeyed.{obeyed}
 use Rattle.server_laws.proofs.AtRest.{sleeps-on, choose-same}
 
@@ -44,24 +42,16 @@ module _ (c : ℕ) (t : Table) (priority : ℕ) (background : Bool) (f u : Bytes
   keeps = submitted-keeps c background bare
 
   place-inside : p < length (t .jobs)
-  unfolding freeRow
-  place-inside = rw (rows-long t) at (found (λ r. not (live r)) noRow (rowsOf t) (some p) free .inside)
-
-  -- a new job is awaited: its submitter listens, or it is background
-  new-kept : (b : Bool) → lost (submittedBy c b bare) ≡ false
-  new-kept true = never _ (λ e. clash (and-right (queued bare) false e) refl)
-  new-kept false = never _ (λ e. clash (and-right (queued bare) _ e) (nonempty (insert 0 c) c (has-insert-same 0 c)))
+  place-inside = free-place t p free .1
 
   new-queued : queued (new .row) ≡ true
   new-queued = rw (keeps .serial, keeps .holder, eqb·suc-zero (t .last))
 
   -- naming a function makes nobody able
   able-same : (k x : ℕ) → able (ablesOf after) k x ≡ able (ablesOf t) k x
-  able-same k x = ap (λ (s : ℕ). has s x) (able-at after k ∙ go (ℕ-discrete k q) ∙ sym (able-at t k))
-    where
-      go : Dec (k ≡ q) → functionAt after k .able ≡ functionAt t k .able
-      go (yes e) = rw e (ap (λ (y : Function). y .able) (getD-set-same (t .functions) q (withName f (functionAt t q)) noFunction (room t f q here .inside)))
-      go (no d) = ap (λ (y : Function). y .able) (getD-set-other (t .functions) q k (withName f (functionAt t q)) noFunction d)
+  able-same k x =
+      let e = each-set (λ i y. y .able ≡ functionAt t i .able) (t .functions) q (withName f (functionAt t q)) noFunction (room t f q here .inside) refl (λ i d. refl) k in
+      ap (λ (s : ℕ). has s x) (able-at after k ∙ e ∙ sym (able-at t k))
 
   row-after : (i : ℕ) → getD (rowsOf (dropped after)) i noRow ≡ unlessLost (jobAt after i) .row
   unfolding dropped
@@ -70,7 +60,7 @@ module _ (c : ℕ) (t : Table) (priority : ℕ) (background : Bool) (f u : Bytes
   new-row : getD (rowsOf (dropped after)) p noRow ≡ new .row
   new-row =
       row-after p ∙ ap (λ (j : Job). unlessLost j .row) (getD-set-same (t .jobs) p new noJob place-inside)
-      ∙ ap (λ (b : Bool). (cond b noJob new) .row) (new-kept background)
+      ∙ ap (λ (b : Bool). (cond b noJob new) .row) (submitted-unlost c background bare)
 
   -- what can be grabbed after dropping could be before
   kept-grabbable : (ables : List ℕ) (x : ℕ) (j : Job) → grabbable ables x (unlessLost j .row) ≡ true → grabbable ables x (j .row) ≡ true
@@ -82,17 +72,14 @@ module _ (c : ℕ) (t : Table) (priority : ℕ) (background : Bool) (f u : Bytes
 
   module _ (x : ℕ) (inside : x < length (t .connections)) (asleep : connectionAt t x .asleep ≡ true) where
     -- an earlier job was not grabbable, so only the new one can be
-    only-new : (i : ℕ) → i < length (t .jobs) → Dec (i ≡ p) → grabbable (ablesOf after) x (jobAt after i .row) ≡ true → able (ablesOf t) q x ≡ true
-    only-new i l (yes e) g =
-        let n : jobAt after i ≡ new = rw e (getD-set-same (t .jobs) p new noJob place-inside) in
-        let a : able (ablesOf after) (new .row .function) x ≡ true = and-right (queued (new .row)) _ (rw n at g) in
-        sym (able-same q x) ∙ (rw (keeps .function) at a)
-    only-new i l (no d) g =
-        let n : jobAt after i ≡ jobAt t i = getD-set-other (t .jobs) p i new noJob d in
-        let k : grabbable (ablesOf after) x (jobAt t i .row) ≡ true = rw n at g in
+    only-new : (i : ℕ) → i < length (t .jobs) → grabbable (ablesOf after) x (jobAt after i .row) ≡ true → able (ablesOf t) q x ≡ true
+    only-new =
+        each-set (λ i k. i < length (t .jobs) → grabbable (ablesOf after) x (k .row) ≡ true → able (ablesOf t) q x ≡ true) (t .jobs) p new noJob place-inside
+        (λ l g. sym (able-same q x) ∙ (rw (keeps .function) at (and-right (queued (new .row)) _ g)))
+        (λ i d l g.
         let a : grabbable (ablesOf t) x (jobAt t i .row) ≡ true
-        = and-both (queued (jobAt t i .row)) _ (and-left (queued (jobAt t i .row)) _ k) (sym (able-same (jobAt t i .row .function) x) ∙ and-right (queued (jobAt t i .row)) _ k) in
-        clash (and-both (connectionAt t x .asleep) _ asleep (any-at (grabbable (ablesOf t) x) (rowsOf t) i noRow (rw (rows-long t) l) (rw (row-at t i) a))) (sleeps-on t (obeyed t h .idle) x inside)
+        = and-both (queued (jobAt t i .row)) _ (and-left (queued (jobAt t i .row)) _ g) (sym (able-same (jobAt t i .row .function) x) ∙ and-right (queued (jobAt t i .row)) _ g) in
+        clash (and-both (connectionAt t x .asleep) _ asleep (row-passes t (grabbable (ablesOf t) x) i l a)) (sleeps-on t (obeyed t h .idle) x inside))
 
     work-is-new : any (grabbable (ablesOf after) x) (rowsOf (dropped after)) ≡ able (ablesOf t) q x
     work-is-new = iff _ _ there back
@@ -100,7 +87,7 @@ module _ (c : ℕ) (t : Table) (priority : ℕ) (background : Bool) (f u : Bytes
         there : any (grabbable (ablesOf after) x) (rowsOf (dropped after)) ≡ true → able (ablesOf t) q x ≡ true
         there e =
             let (i, l, g) = any-where (grabbable (ablesOf after) x) (rowsOf (dropped after)) noRow e in
-            only-new i (rw rows-after at l) (ℕ-discrete i p) (kept-grabbable (ablesOf after) x (jobAt after i) (rw (row-after i) at g))
+            only-new i (rw rows-after at l) (kept-grabbable (ablesOf after) x (jobAt after i) (rw (row-after i) at g))
 
         back : able (ablesOf t) q x ≡ true → any (grabbable (ablesOf after) x) (rowsOf (dropped after)) ≡ true
         back a = any-at (grabbable (ablesOf after) x) (rowsOf (dropped after)) p noRow (rw rows-after place-inside)

@@ -4,11 +4,11 @@ use Prim.Native.Nat.{ℕ, zero, suc, _+_, _<_, _≤_}
 use mathlib.Core.Path.{_≡_, refl, ap, sym, _∙_}
 use mathlib.Core.Logic.{_≢_}
 use mathlib.Core.Bool.{Bool, true, false, not, cond, _&&_, _||_}
-use mathlib.Core.List.{List, [], _∷_, map}
+use mathlib.Core.List.{List, [], _∷_}
 use native.Mathlib.Decide.{ℕ-discrete}
 use native.Mathlib.Omega.{arith}
 use borrow.Author.Tests.{eq-eqb, ne-eqb}
-use lib.ListN.{length, getD, set, length-set, List·getD-map}
+use lib.ListN.{length, set, length-set}
 use lib.Seq.{getD-set-same, getD-set-other, ext-getD}
 use lib.Dec.{eqb}
 use Rattle.octets.proofs.Strings.{and-left, and-both}
@@ -18,11 +18,12 @@ use Rattle.server.specs.declared.JobRow.{JobRow}
 use Rattle.lists.specs.Lists.{any, filter, numbers}
 use Rattle.server.specs.Table.{Job, Table, closed, noJob, connectionAt, jobAt, rowsOf, ablesOf, live, queued, heldBy, grabbable, withConnections, withAsleep}
 use Rattle.server.specs.Requests.{preSleep}
-use Rattle.server.specs.Events.{settle, lost, unlessLost, dropped, wakes, wokenIn, woken, toWakeIn, toWake, forgot, noop, closing, leftBy, sleeping, served}
+use Rattle.server.specs.Events.{settle, lost, unlessLost, wakes, wokenIn, woken, toWakeIn, toWake, noop, closing, leftBy, sleeping, served}
 use Rattle.server.specs.Rules.{sleeperIdle, obeys}
 use Rattle.lists.proofs.Cases.{cond-cases}
 use Rattle.lists.proofs.Rows.{clash, never, or-right, length-mapFrom}
-use Rattle.server_laws.proofs.Closing.{left-none}
+use Rattle.server_laws.proofs.Places.{settled-at}
+use Rattle.server_laws.proofs.Closing.{left-at}
 use Rattle.server_laws.proofs.Settled.{rouse, woken-at, idle-by}
 use Rattle.server_laws.proofs.Obeyed.{obeyed}
 use Rattle.server_laws.proofs.AtRest.{drops-none, sleeps-on, idle-at, choose-same, forgets-none, done, settle-idle}
@@ -124,19 +125,10 @@ left-lost c j =
     (λ e. ap (λ (b : Bool). b && unheard c (j .row)) (and-both (live (j .row)) true (and-left (live (j .row)) _ e) refl ∙ sym (or-right (queued (j .row)) (heldBy c (j .row)) e)))
     (λ e. ap (λ (b : Bool). b && unheard c (j .row)) (or-none (queued (j .row)) (heldBy c (j .row)) e))
 
-closing-jobs : (c : ℕ) (t : Table) → settle [] (closing c t) .table .jobs ≡ map unlessLost (map (leftBy c) (t .jobs))
-unfolding settle closing dropped forgot
-closing-jobs c t = refl
-
 -- dropped is exactly a job that would wait with no listener left and not in the background; any other stays, without connection c
 pub close-drops : (c : ℕ) (t : Table) (i : ℕ) → jobAt (settle [] (closing c t) .table) i ≡ cond (waitsAfter c (jobAt t i .row) && unheard c (jobAt t i .row)) noJob (leftBy c (jobAt t i))
+unfolding closing
 close-drops c t i =
-    ap (λ (js : List Job). getD js i noJob) (closing-jobs c t)
-    ∙ List·getD-map unlessLost (map (leftBy c) (t .jobs)) i noJob
-    ∙ ap unlessLost (row-left (t .jobs) i)
+    settled-at [] (closing c t) i
+    ∙ ap unlessLost (left-at c (t .jobs) i)
     ∙ ap (λ (b : Bool). cond b noJob (leftBy c (jobAt t i))) (left-lost c (jobAt t i))
-  where
-    row-left : (js : List Job) (k : ℕ) → getD (map (leftBy c) js) k noJob ≡ leftBy c (getD js k noJob)
-    row-left [] k = sym (left-none c)
-    row-left (j ∷ js) zero = refl
-    row-left (j ∷ js) (suc k) = row-left js k
