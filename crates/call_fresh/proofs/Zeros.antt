@@ -9,7 +9,7 @@ use Rattle.octets.specs.Bytes.{Bytes}
 use Rattle.octets.specs.Put.{put}
 use Rattle.server.specs.declared.Connection.{Connection}
 use Rattle.lists.specs.Lists.{fit}
-use Rattle.server.specs.Sizes.{functionCount, jobCount, nameSize, uniqueSize, numberSize}
+use Rattle.server.specs.Sizes.{functionCount, jobCount, nameSize, uniqueSize, numberSize, idSize}
 use Rattle.server.specs.Table.{Table, closed, noFunction, noJob, fresh}
 use Rattle.server.specs.Layout.{little, column, setSize, tableSize, rowBytes, bytesOf, serialsAt, namesAt}
 use Rattle.lists.proofs.Lists.{fit-none}
@@ -51,7 +51,7 @@ rows f x k e (suc m) =
 
 -- n connections, q functions and p jobs, all empty
 abbrev empty : ℕ → ℕ → ℕ → Table
-empty n q p = record { last = 0; connections = replicate n closed; functions = replicate q noFunction; jobs = replicate p noJob }
+empty n q p = record { last = 0; connections = replicate n closed; ids = replicate n []; functions = replicate q noFunction; jobs = replicate p noJob }
 
 -- the bytes of a set
 abbrev sets : ℕ → ℕ
@@ -59,7 +59,7 @@ sets n = setSize (length (replicate n closed))
 
 -- the rows of p free places are k zeros
 empty-zeros : (n q p k : ℕ) → rowBytes (replicate p noJob) ≡ zeros k → bytesOf (empty n q p)
-    ≡ zeros (4 + (k + (nameSize * q + (uniqueSize * p + (numberSize * p + (numberSize * p + (sets n * q + (sets n * p + (1 * n + (1 * n + 1 * n))))))))))
+    ≡ zeros (4 + (k + (nameSize * q + (uniqueSize * p + (numberSize * p + (numberSize * p + (sets n * q + (sets n * p + (1 * n + (1 * n + (1 * n + idSize * n)))))))))))
 unfolding bytesOf
 empty-zeros n q p k e =
     then 4 _ (little-zeros 4)
@@ -71,7 +71,8 @@ empty-zeros n q p k e =
     (then (sets n * q) _ (rows _ noFunction (sets n) (little-zeros (sets n)) q)
     (then (sets n * p) _ (rows _ noJob (sets n) (little-zeros (sets n)) p)
     (then (1 * n) _ (rows _ closed 1 flag-zeros n)
-    (then (1 * n) _ (rows _ closed 1 flag-zeros n) (rows _ closed 1 flag-zeros n))))))))))
+    (then (1 * n) _ (rows _ closed 1 flag-zeros n)
+    (then (1 * n) _ (rows _ closed 1 flag-zeros n) (rows _ [] idSize (text-zeros idSize) n)))))))))))
 
 -- the rows of all places: the bytes between the serials and the names
 row-zeros : rowBytes (replicate jobCount noJob) ≡ zeros (namesAt - serialsAt)

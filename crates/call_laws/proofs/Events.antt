@@ -112,7 +112,7 @@ module _ (c : ℕ) (p : Bytes) (ends : Ends) (kind : ℕ) (t w o : Bytes) (h : A
   pub request-ready : plan .number ≡ 0 → Ready plan c kind p ends t w o
   request-ready z =
       ready _ t w o (h .bytes) plan c kind p ends follows z
-      (rw plan-is (served-fitting _ c (tableOf connectionCount t) whole-table (request-suits kind _ _ _) (good-arguments p ends kind came)))
+      (rw plan-is (served-fitting _ c (tableOf connectionCount t) whole-table (h .inside) (request-suits kind _ _ _) (good-arguments p ends kind came)))
       (sized (plan .step) (tableOf connectionCount t) whole-table)
       (rw plan-is (served-orderly c (tableOf connectionCount t) whole-table p ends kind came))
       (opaque-small p ends kind came)
@@ -218,7 +218,7 @@ module _ (c : ℕ) (t w o : Bytes) (plan : Plan) (ends : Ends) (none : ends ≡ 
       rw (none, e)
       (quiet-concludes (opens c) true c t w o h (planOpening c)
       (λ v. rw (opening-decided (serverIn connectionCount t w) c (stands h)) (opening-planned v c (tableOf connectionCount t) (h .bytes .rules))) refl All.none zero-le
-      (opening-fitting noWords c (tableOf connectionCount t) (whole t (sound (h .bytes)))))
+      (opening-fitting noWords c (tableOf connectionCount t) (whole t (sound (h .bytes))) (h .inside)))
 
   pub closing-concludes : Admitted false c t w o → plan ≡ planClosing c → Concludes (closes c) plan c t w o ends
   unfolding opaqueOf serverIn ordered

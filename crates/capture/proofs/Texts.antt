@@ -30,7 +30,7 @@ use Rattle.capture.proofs.Sent.{all-formed, output-packets}
 
 -- ---- what is laid at the start of a buffer that has room
 
-laid-start : (s b : Bytes) → length s ≤ length b → take (length s) (put 0 s b) ≡ s
+pub laid-start : (s b : Bytes) → length s ≤ length b → take (length s) (put 0 s b) ≡ s
 laid-start s b h = ap (take (length s)) (put-start s b h) ∙ take-append-seam s _
 
 -- ---- words that fit into a text: those of packets that fit into the output
@@ -54,7 +54,7 @@ module _ (s : Server) (h : Running connectionCount s) where
   spoken-short room say k none = k none [] 16 (s .table) (s .table) tt (omega arith)
   spoken-short room say k (some e) = k (some e) _ _ _ _ (sent-addressed e) (sent-few e)
 
-  running-after : (f : Option Event) → Running connectionCount (serverAfter f s)
+  pub running-after : (f : Option Event) → Running connectionCount (serverAfter f s)
   running-after none = h
   running-after (some e) = running-next connectionCount e s h
 
@@ -141,13 +141,13 @@ over-itself : (a b t w : Bytes) → a ≡ t → b ≡ w → _≡_ {A = Made} (re
 over-itself a b t w p q = rw (p, q, put-itself t, put-itself w)
 
 module _ (t w : Bytes) (et : t ≡ replicate (tableSize connectionCount) 0) (ew : w ≡ replicate workloadsSize 0) where
-  long-table : tableSize connectionCount ≤ length t
+  pub long-table : tableSize connectionCount ≤ length t
   long-table = omega (arith, ap length et, length-replicate {A = ℕ} (tableSize connectionCount) 0)
 
-  long-workloads : workloadsSize ≤ length w
+  pub long-workloads : workloadsSize ≤ length w
   long-workloads = omega (arith, ap length ew, length-replicate {A = ℕ} workloadsSize 0)
 
-  zeros-made : _≡_ {A = Made} (make connectionCount t w) (record { number = 0; table = t; workloads = w })
+  pub zeros-made : _≡_ {A = Made} (make connectionCount t w) (record { number = 0; table = t; workloads = w })
   unfolding make
   zeros-made =
       rw (le-ltb (length t) (tableSize connectionCount) long-table, le-ltb (length w) workloadsSize long-workloads)

@@ -22,7 +22,7 @@ unfolding spoken
 spoken-cut says n h k [] s = refl
 spoken-cut says n h k (line ∷ lines) s = rw (cut-line n h line, spoken-cut says n h (suc k) lines (serverAfter (frame line) s))
 
-texts-cut : (buffer text : Bytes) → textsSeen (runOf buffer text) ≡ map (take (length buffer)) (linesOf text)
+pub texts-cut : (buffer text : Bytes) → textsSeen (runOf buffer text) ≡ map (take (length buffer)) (linesOf text)
 texts-cut buffer text =
     ap textsSeen (text-lines buffer text) ∙ map-map (λ (l : Seen). l .text) (cut (length buffer)) (take (length buffer)) (λ l. refl) (linesOf text)
 

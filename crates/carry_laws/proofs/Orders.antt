@@ -23,10 +23,10 @@ use Rattle.packet_kinds.proofs.Shapes.{shapes}
 use Rattle.lists.specs.Lists.{find}
 use Rattle.lists.proofs.Searches.{found}
 use Rattle.server.specs.Table.{Table, noJob, jobAt, live, hasHandle}
-use Rattle.server.specs.Requests.{Work, tells, reports, ends, throws, Request, reset, preSleep, echo, bad, canDo, cantDo, grab, submit, work, getStatus, option, requested}
+use Rattle.server.specs.Requests.{Work, tells, reports, ends, throws, Request, reset, preSleep, echo, bad, canDo, cantDo, identify, grab, submit, work, getStatus, option, requested}
 use Rattle.server.specs.Events.{Send, Decision}
 use Rattle.server_laws.proofs.Going.{best-found, grabbed-live}
-use Rattle.server_laws.proofs.Outcome.{Change, able, unknown, disabled, cleared, slept, noJobFor, grabbed, joins, accepts, worker, status, optioned, echoed}
+use Rattle.server_laws.proofs.Outcome.{Change, able, unknown, disabled, identified, cleared, slept, noJobFor, grabbed, joins, accepts, worker, status, optioned, echoed}
 use Rattle.plan.specs.declared.Plan.{Plan}
 use Rattle.plan.specs.Values.{valuesOf}
 use Rattle.plan.specs.Plans.{planCanDo, planCantDo, planGrab, planJoin, planWork, planStatus, planServed}
@@ -48,6 +48,7 @@ shaped s echo = shapes .same Echo s
 shaped s (bad n) = true
 shaped s (canDo f) = true
 shaped s (cantDo f) = true
+shaped s (identify i) = true
 shaped s (grab uniq) = true
 shaped s (submit priority background f u size) = true
 shaped s (work how kind h n d) = true
@@ -113,6 +114,7 @@ module _ (c : ℕ) (t : Table) (whole : Whole t) (p : Bytes) (places : Ends) (ki
   change-orders (able f q e) s i = zero-le
   change-orders (unknown f e) s i = zero-le
   change-orders (disabled f q e) s i = zero-le
+  change-orders (identified j) s i = zero-le
   change-orders cleared s i = zero-le
   change-orders slept s i = zero-le
   change-orders (noJobFor uniq e) s i = zero-le

@@ -23,13 +23,13 @@ use Rattle.server_laws.proofs.Numbers.{rows-long}
 use Rattle.server_laws.proofs.Functions.{room}
 use Rattle.server_laws.proofs.Going.{best-found}
 use Rattle.server_laws.proofs.Requests.{Good, Told}
-use Rattle.server_laws.proofs.Outcome.{Change, able, unknown, disabled, cleared, slept, noJobFor, grabbed, joins, accepts, worker, status, optioned, echoed}
+use Rattle.server_laws.proofs.Outcome.{Change, able, unknown, disabled, identified, cleared, slept, noJobFor, grabbed, joins, accepts, worker, status, optioned, echoed}
 use Rattle.plan.specs.declared.Plan.{Plan}
 use Rattle.plan.specs.Values.{valuesOf}
 use Rattle.plan.specs.Steps.{Inside}
 use Rattle.plan.specs.Plans.{planCanDo, planCantDo, planGrab, planJoin, planWork, planStatus, planServed, planOpening, planClosing}
 use Rattle.plan_laws.proofs.Draws.{planOf, Draws, refused, done, draws}
-use Rattle.plan_laws.proofs.Decides.{Words, Says, that-tells, that-reports, that-ends, that-throws, Suits, for-can, for-submit, for-work}
+use Rattle.plan_laws.proofs.Decides.{Words, Says, that-tells, that-reports, that-ends, that-throws, Suits, for-can, for-id, for-submit, for-work}
 use Rattle.carry_places.proofs.Laid.{Whole}
 use Rattle.carry_whole.specs.Fitting.{Fitting}
 
@@ -84,6 +84,7 @@ module _ (c : ℕ) (t : Table) (whole : Whole t) where
   change-inside h (able f q e) = room-place f q e
   change-inside h (unknown f e) = zero-le
   change-inside h (disabled f q e) = known-place f q e
+  change-inside h (identified i) = zero-le
   change-inside h cleared = h
   change-inside h slept = h
   change-inside h (noJobFor uniq e) = h
@@ -104,7 +105,7 @@ module _ (c : ℕ) (t : Table) (whole : Whole t) where
 
 -- ---- the change
 
-module _ (w : Words) (c : ℕ) (t : Table) (whole : Whole t) where
+module _ (w : Words) (c : ℕ) (t : Table) (whole : Whole t) (inside : c < connectionCount) where
   abbrev Fits : Plan → Type 0
   Fits p = Fitting (p .change) (w .first) (w .second) (w .third)
 
@@ -124,6 +125,7 @@ module _ (w : Words) (c : ℕ) (t : Table) (whole : Whole t) where
   change-fits (able f q e) for-can g = (room-place c t whole f q e, text-most 1 32 f g)
   change-fits (unknown f e) s g = zero-le
   change-fits (disabled f q e) s g = zero-le
+  change-fits (identified i) for-id g = (inside, text-most 1 64 (w .first) g)
   change-fits cleared s g = zero-le
   change-fits slept s g = zero-le
   change-fits (noJobFor uniq e) s g = zero-le
@@ -146,5 +148,5 @@ module _ (w : Words) (c : ℕ) (t : Table) (whole : Whole t) where
   pub opening-fitting : Fits (planOpening c)
   opening-fitting = zero-le
 
-  pub closing-fitting : c < connectionCount → Fits (planClosing c)
-  closing-fitting h = h
+  pub closing-fitting : Fits (planClosing c)
+  closing-fitting = inside

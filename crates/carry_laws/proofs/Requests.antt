@@ -6,7 +6,7 @@ use lib.ListN.{getD}
 use Rattle.octets.specs.Bytes.{Bytes}
 use Rattle.lists.proofs.Cases.{All}
 use Rattle.server.specs.Requests.{bad, requested}
-use Rattle.plan_laws.proofs.Decides.{Words, that-tells, that-reports, that-ends, that-throws, Suits, for-reset, for-sleep, for-echo, for-bad, for-can, for-cannot, for-grab, for-submit, for-work, for-status, for-option}
+use Rattle.plan_laws.proofs.Decides.{Words, that-tells, that-reports, that-ends, that-throws, Suits, for-reset, for-sleep, for-echo, for-bad, for-can, for-cannot, for-id, for-grab, for-submit, for-work, for-status, for-option}
 
 -- what the code passes on for a request of this type with these arguments
 abbrev pub wordsGiven : ℕ → Bytes → Bytes → Bytes → Words
@@ -31,7 +31,7 @@ module _ (kind : ℕ) (x y z : Bytes) where
       (All.more unserved (All.more unserved (All.more (for-submit _ _ _) (All.more unserved (All.more (for-grab _)  -- 5 to 9
       (All.more unserved (All.more unserved (All.more (for-work x that-reports) (All.more (for-work x (that-ends [] [])) (All.more (for-work x (that-ends [] []))  -- 10 to 14
       (All.more for-status (All.more for-echo (All.more unserved (All.more (for-submit _ _ _) (All.more unserved  -- 15 to 19
-      (All.more unserved (All.more (for-submit _ _ _) (All.more unserved (All.more unserved (All.more unserved  -- 20 to 24
+      (All.more unserved (All.more (for-submit _ _ _) (All.more for-id (All.more unserved (All.more unserved  -- 20 to 24
       (All.more (for-work x (that-throws [] [])) (All.more (for-option x) (All.more unserved (All.more (for-work x (that-tells [] [])) (All.more (for-work x (that-tells [] []))  -- 25 to 29
       (All.more (for-grab _) (All.more unserved (All.more (for-submit _ _ _) (All.more (for-submit _ _ _) (All.more (for-submit _ _ _) All.none)))))))))))))))))))))))))))))))))))
       kind

@@ -24,7 +24,7 @@ use Rattle.packet_laws.proofs.Answers.{read-answer}
 use Rattle.packet_laws.proofs.Places.{argument-read}
 use Rattle.packet_kinds.proofs.Tests.{bools, range-arm}
 use Rattle.packet_kinds.proofs.Shapes.{at-most-five, shapes}
-use Rattle.server.specs.Requests.{Work, Request, reset, preSleep, echo, bad, canDo, cantDo, grab, submit, work, getStatus, option, requested}
+use Rattle.server.specs.Requests.{Work, Request, reset, preSleep, echo, bad, canDo, cantDo, identify, grab, submit, work, getStatus, option, requested}
 use Rattle.carry_packet.specs.Messages.{Sendable, Forwards}
 
 -- ---- which packets may be forwarded
@@ -53,6 +53,7 @@ told k echo = true
 told k (bad n) = true
 told k (canDo f) = true
 told k (cantDo f) = true
+told k (identify i) = true
 told k (grab uniq) = true
 told k (submit priority background f u size) = true
 told k (work how kind h n d) = eqb kind k && shapes .same (responseShape k) (requestShape k)

@@ -5,20 +5,20 @@ use mathlib.Core.Bool.{Bool, cond}
 use mathlib.Core.List.{List, [], _∷_, map}
 use native.Mathlib.Nat.{add-zero, zero-add}
 use native.Mathlib.Omega.{arith}
-use lib.ListN.{length, getD, length-set}
+use lib.ListN.{length, getD, length-set, length-map}
 use Rattle.octets.specs.Bytes.{Bytes}
 use Rattle.octets.specs.Put.{put}
 use Rattle.server.specs.declared.JobRow.{JobRow}
 use Rattle.lists.specs.Lists.{fit, mapFrom}
-use Rattle.server.specs.Sizes.{functionCount, jobCount, nameSize, uniqueSize}
-use Rattle.server.specs.Table.{Job, Table, noRow, noJob, functionAt, jobAt, withJobs, setFunction, withName, withTexts, unstarted, heldBy, rowsOf}
-use Rattle.server.specs.Layout.{bytesOf, namesAt, uniquesAt}
+use Rattle.server.specs.Sizes.{connectionCount, functionCount, jobCount, nameSize, uniqueSize, idSize}
+use Rattle.server.specs.Table.{Job, Table, noRow, noJob, functionAt, jobAt, withJobs, setId, setFunction, withName, withTexts, unstarted, heldBy, rowsOf}
+use Rattle.server.specs.Layout.{bytesOf, namesAt, uniquesAt, idsAt}
 use Rattle.plan.specs.declared.Change.the-variants as CV
 use Rattle.plan.specs.Parts.{changed}
-use Rattle.table_laws.proofs.Puts.{put-name, put-numbers, put-texts}
+use Rattle.table_laws.proofs.Puts.{put-name, put-numbers, put-texts, put-id}
 use Rattle.carry_places.specs.Laying.{laidNumbers, laidZeros}
 use Rattle.carry_places.specs.Written.{laidReturned}
-use Rattle.carry_places.proofs.Laid.{Whole, zeros-laid}
+use Rattle.carry_places.proofs.Laid.{Whole, whole-jobs, zeros-laid}
 use Rattle.carry_places.proofs.Each.{eachJob, each-laid, all-jobs, job-whole}
 
 module _ (t : Table) (w : Whole t) (b : Bytes) where
@@ -47,7 +47,16 @@ module _ (t : Table) (w : Whole t) (b : Bytes) where
       ∙ put-texts n (record { functions = length-set (t .functions) q (withName a (functionAt t q)) ∙ w .functions; jobs = w .jobs }) b p h
       (unstarted (jobAt t p .row) u) refl
 
-  -- ---- close: `0` and `0` for the jobs that the connection held
+  -- ---- SET_CLIENT_ID
+
+  id-laid : (u : Table) → Whole u → (c : ℕ) (i : Bytes) → c < connectionCount → put (idsAt connectionCount + idSize * c) (fit idSize i) (put 0 (bytesOf u) b) ≡ put 0 (bytesOf (setId u c i)) b
+  id-laid u v c i h = rw (v .connections) at (put-id u (record { functions = v .functions; jobs = v .jobs }) b c (rw (v .ids) h) i)
+
+  pub id-changed : (c : ℕ) (a n d : Bytes) → c < connectionCount → put (idsAt connectionCount + idSize * c) (fit idSize a) (put 0 (bytesOf t) b) ≡ put 0 (bytesOf (changed (CV.Id c) a n d t)) b
+  unfolding changed
+  id-changed c a n d h = id-laid t w c a h
+
+  -- ---- close: `0` and `0` for the jobs that the connection held, and no client id
 
   abbrev returned : ℕ → List JobRow → ℕ → Job → Job
   returned c rs p j = cond (heldBy c (getD rs p noRow)) (withTexts (48 ∷ []) (48 ∷ []) j) j
@@ -65,10 +74,18 @@ module _ (t : Table) (w : Whole t) (b : Bytes) where
   row-of (j ∷ js) zero = refl
   row-of (j ∷ js) (suc i) = row-of js i
 
-  pub left-changed : (c : ℕ) (a n d : Bytes) → laidReturned c (rowsOf t) (put 0 (bytesOf t) b) ≡ put 0 (bytesOf (changed (CV.Left c) a n d t)) b
-  unfolding changed
-  left-changed c a n d =
+  abbrev returnedJobs : ℕ → Table
+  returnedJobs c = withJobs (map (λ j. cond (heldBy c (j .row)) (withTexts (48 ∷ []) (48 ∷ []) j) j) (t .jobs)) t
+
+  returned-laid : (c : ℕ) → laidReturned c (rowsOf t) (put 0 (bytesOf t) b) ≡ put 0 (bytesOf (returnedJobs c)) b
+  returned-laid c =
       each-laid (λ p. laidZeros (heldBy c (getD (rowsOf t) p noRow)) p) (eachJob (returned c (rowsOf t))) jobCount b
       (λ p u v h. zeros-laid u v b (heldBy c (getD (rowsOf t) p noRow)) p h) (job-whole (returned c (rowsOf t))) 0 jobCount t w (omega arith)
       ∙ ap (λ (u : Table). put 0 (bytesOf u) b) (all-jobs (returned c (rowsOf t)) jobCount t (w .jobs))
       ∙ ap (λ (js : List Job). put 0 (bytesOf (withJobs js t)) b) (returned-all c (rowsOf t) 0 (t .jobs) (λ i h. ap (λ (m : ℕ). getD (rowsOf t) m noRow) (zero-add i) ∙ row-of (t .jobs) i))
+
+  pub left-changed : (c : ℕ) (a n d : Bytes) → c < connectionCount
+      → put (idsAt connectionCount + idSize * c) (fit idSize []) (laidReturned c (rowsOf t) (put 0 (bytesOf t) b)) ≡ put 0 (bytesOf (changed (CV.Left c) a n d t)) b
+  unfolding changed
+  left-changed c a n d h =
+      ap (put (idsAt connectionCount + idSize * c) (fit idSize [])) (returned-laid c) ∙ id-laid (returnedJobs c) (whole-jobs t w _ (length-map (t .jobs) _)) c [] h

@@ -13,7 +13,7 @@ use Rattle.lists.specs.Lists.{mapFrom}
 use Rattle.server.specs.Table.{Function, Job, Table, closed, noFunction, noJob, connectionAt, functionAt, jobAt, withConnections, withFunctions, withJobs, setConnection, setFunction, setJob}
 use Rattle.server.specs.Layout.{bytesOf}
 use Rattle.carry_places.specs.Laying.{laidEach}
-use Rattle.carry_places.proofs.Laid.{Whole}
+use Rattle.carry_places.proofs.Laid.{Whole, whole-connections, whole-functions, whole-jobs}
 
 -- ---- a loop
 
@@ -102,10 +102,10 @@ all-connections g n t e = connections-each g 0 n t ∙ ap (λ (cs : List Connect
 -- ---- they keep the table's size
 
 pub job-whole : (g : ℕ → Job → Job) (k : ℕ) (t : Table) → Whole t → Whole (eachJob g k t)
-job-whole g k t w = record { connections = w .connections; functions = w .functions; jobs = length-set (t .jobs) k _ ∙ w .jobs }
+job-whole g k t w = whole-jobs t w _ (length-set (t .jobs) k _)
 
 pub function-whole : (g : ℕ → Function → Function) (k : ℕ) (t : Table) → Whole t → Whole (eachFunction g k t)
-function-whole g k t w = record { connections = w .connections; functions = length-set (t .functions) k _ ∙ w .functions; jobs = w .jobs }
+function-whole g k t w = whole-functions t w _ (length-set (t .functions) k _)
 
 pub connection-whole : (g : ℕ → Connection → Connection) (k : ℕ) (t : Table) → Whole t → Whole (eachConnection g k t)
-connection-whole g k t w = record { connections = length-set (t .connections) k _ ∙ w .connections; functions = w .functions; jobs = w .jobs }
+connection-whole g k t w = whole-connections t w _ (length-set (t .connections) k _)

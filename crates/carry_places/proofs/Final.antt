@@ -22,7 +22,7 @@ use Rattle.plan.specs.Parts.{rowed, rowedAll, ableAll, finalTable}
 use Rattle.lists.proofs.Lists.{number-made}
 use Rattle.carry_places.specs.Laying.{laidJob, laidFunction, laidFlags}
 use Rattle.carry_places.specs.Written.{laidJobs, laidFunctions, laidConnections, written}
-use Rattle.carry_places.proofs.Laid.{Whole, job-laid, function-laid, flags-laid}
+use Rattle.carry_places.proofs.Laid.{Whole, whole-last, whole-functions, whole-jobs, job-laid, function-laid, flags-laid}
 use Rattle.carry_places.proofs.Each.{eachJob, eachFunction, eachConnection, each-laid, all-jobs, all-functions, all-connections, job-whole, function-whole, connection-whole}
 
 -- ---- a list given place by place
@@ -97,15 +97,15 @@ module _ (v : Values) (s : Table) (w : Whole s) (b : Bytes) (u : Values) (eu : u
 
   w₀ : Whole t₀
   unfolding t₀
-  w₀ = record { connections = w .connections; functions = w .functions; jobs = w .jobs }
+  w₀ = whole-last s w (u .last)
 
   w₁ : Whole t₁
   unfolding t₀ t₁
-  w₁ = record { connections = w .connections; functions = w .functions; jobs = length-mapFrom (newJob (u .rows)) 0 (s .jobs) ∙ w .jobs }
+  w₁ = whole-jobs t₀ w₀ _ (length-mapFrom (newJob (u .rows)) 0 (s .jobs))
 
   w₂ : Whole t₂
   unfolding t₀ t₁ t₂
-  w₂ = record { connections = w .connections; functions = length-mapFrom (newFunction marks (u .able)) 0 (s .functions) ∙ w .functions; jobs = w₁ .jobs }
+  w₂ = whole-functions t₁ w₁ _ (length-mapFrom (newFunction marks (u .able)) 0 (s .functions))
 
   jobs-laid : laidJobs (u .rows) (put 0 (bytesOf t₀) b) ≡ put 0 (bytesOf t₁) b
   unfolding newJob t₀ t₁

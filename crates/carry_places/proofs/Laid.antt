@@ -12,7 +12,7 @@ use Rattle.octets.proofs.Laying.{put-one}
 use Rattle.server.specs.declared.Connection.{Connection}
 use Rattle.server.specs.declared.JobRow.{JobRow}
 use Rattle.server.specs.Sizes.{connectionCount, functionCount, jobCount}
-use Rattle.server.specs.Table.{Job, Table, noJob, noFunction, functionAt, jobAt, setConnection, setFunction, setJob, withJobs, withAble, withRow, withTexts, live}
+use Rattle.server.specs.Table.{Function, Job, Table, noJob, noFunction, functionAt, jobAt, setConnection, setFunction, setJob, withLastSerial, withConnections, withIds, withFunctions, withJobs, withAble, withRow, withTexts, live}
 use Rattle.server.specs.Layout.{little, flagByte, bytesOf}
 use Rattle.table_laws.proofs.Puts.{Sized, put-job, put-row, put-numbers, put-function, put-able, put-connection}
 use Rattle.plan.specs.Parts.{rowed}
@@ -21,8 +21,26 @@ use Rattle.carry_places.specs.Laying.{laidRow, laidFree, laidJob, laidZe
 -- a table of the product's size
 pub record Whole (t : Table) : Type 0 where
   pub connections : length (t .connections) ≡ connectionCount
+  pub ids : length (t .ids) ≡ connectionCount
   pub functions : length (t .functions) ≡ functionCount
   pub jobs : length (t .jobs) ≡ jobCount
+
+-- with one part anew it is as long
+module _ (t : Table) (w : Whole t) where
+  pub whole-last : (s : ℕ) → Whole (withLastSerial s t)
+  whole-last s = record { connections = w .connections; ids = w .ids; functions = w .functions; jobs = w .jobs }
+
+  pub whole-connections : (cs : List Connection) → length cs ≡ length (t .connections) → Whole (withConnections cs t)
+  whole-connections cs e = record { connections = e ∙ w .connections; ids = w .ids; functions = w .functions; jobs = w .jobs }
+
+  pub whole-ids : (is : List Bytes) → length is ≡ length (t .ids) → Whole (withIds is t)
+  whole-ids is e = record { connections = w .connections; ids = e ∙ w .ids; functions = w .functions; jobs = w .jobs }
+
+  pub whole-functions : (fs : List Function) → length fs ≡ length (t .functions) → Whole (withFunctions fs t)
+  whole-functions fs e = record { connections = w .connections; ids = w .ids; functions = e ∙ w .functions; jobs = w .jobs }
+
+  pub whole-jobs : (js : List Job) → length js ≡ length (t .jobs) → Whole (withJobs js t)
+  whole-jobs js e = record { connections = w .connections; ids = w .ids; functions = w .functions; jobs = e ∙ w .jobs }
 
 -- ---- one byte
 

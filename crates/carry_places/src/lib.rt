@@ -11,6 +11,8 @@ use server::EXCEPTIONS_AT;
 use server::FUNCTIONS;
 use server::FUNCTIONS_AT;
 use server::HOLDERS_AT;
+use server::ID_SIZE;
+use server::IDS_AT;
 use server::JOBS;
 use server::JobRow;
 use server::LAST_AT;
@@ -31,9 +33,9 @@ ghost use Prim.Native.Nat.{_+_, _*_, _≤_, _<_};
 ghost use lib.ListN.{length};
 ghost use Rattle.octets.specs.Put.{put};
 ghost use Rattle.lists.specs.Lists.{fit};
-ghost use Rattle.server.specs.Sizes.{connectionCount, functionCount, jobCount, nameSize, numberSize, uniqueSize};
+ghost use Rattle.server.specs.Sizes.{connectionCount, functionCount, idSize, jobCount, nameSize, numberSize, uniqueSize};
 ghost use Rattle.server.specs.Table.{heldBy, rowsOf};
-ghost use Rattle.server.specs.Layout.{flagByte, little, namesAt, tableOf, tableSize, uniquesAt};
+ghost use Rattle.server.specs.Layout.{flagByte, idsAt, little, namesAt, tableOf, tableSize, uniquesAt};
 ghost use Rattle.plan.specs.Settling.{settledValues};
 ghost use Rattle.carry_places.specs.Laying.{laidFlags, laidForgotten, laidFours, laidFree, laidFunction, laidJob, laidNumbers, laidRow, laidTwos, laidZeros};
 ghost use Rattle.carry_places.specs.Written.{laidConnections, laidFunctions, laidJobs, laidReturned, written};
@@ -197,6 +199,14 @@ pub fn put_flags(table: &mut [u8], c: usize, x: Connection)
     put_flag(table, EXCEPTIONS_AT + c, x.exceptions);
 }
 
+// Its client id.
+pub fn put_id(table: &mut [u8], c: usize, id: &[u8])
+    requires { ⌜ (tableSize connectionCount ≤ length (now table)) × (c < connectionCount) × (length (now id) ≤ idSize) ⌝ }
+    ensures { λ _. ⌜ now (table .exit) ≡ put (idsAt connectionCount + idSize * c) (fit idSize (now (id .entry))) (now (table .entry)) ⌝ }
+{
+    table_texts::put_text(table, IDS_AT + ID_SIZE * c, ID_SIZE, id);
+}
+
 // All connections.
 fn put_connections(table: &mut [u8], connections: [Connection; CONNECTIONS])
     requires { ⌜ tableSize connectionCount ≤ length (now table) ⌝ }
@@ -235,7 +245,7 @@ fn put_zeros(table: &mut [u8], p: usize, row: JobRow, c: usize)
 }
 
 // The same for all jobs, when the connection leaves.
-pub fn reset_held(table: &mut [u8], c: usize)
+fn reset_held(table: &mut [u8], c: usize)
     requires { ⌜ (tableSize connectionCount ≤ length (now table)) × (c < connectionCount) ⌝ }
     ensures { λ _. ⌜ now (table .exit) ≡ laidReturned c (rowsOf (tableOf connectionCount (now (table .entry)))) (now (table .entry)) ⌝ }
 {
@@ -246,6 +256,15 @@ pub fn reset_held(table: &mut [u8], c: usize)
         put_zeros(table, p, row, c);
         p += 1;
     }
+}
+
+// The texts when a connection leaves: `0` and `0` for the jobs that it held, and no client id.
+pub fn put_left(table: &mut [u8], c: usize)
+    requires { ⌜ (tableSize connectionCount ≤ length (now table)) × (c < connectionCount) ⌝ }
+    ensures { λ _. ⌜ now (table .exit) ≡ put (idsAt connectionCount + idSize * c) (fit idSize []) (laidReturned c (rowsOf (tableOf connectionCount (now (table .entry)))) (now (table .entry))) ⌝ }
+{
+    reset_held(table, c);
+    put_id(table, c, b"");
 }
 
 // ---- the end of an event that settles all numbers

@@ -29,7 +29,7 @@ use Rattle.lists.specs.declared.Place.the-variants.{At, Nowhere}
 use Rattle.plan.specs.Values.{valuesOf}
 use Rattle.plan.specs.Parts.{changed, finalTable}
 use Rattle.carry_places.specs.Laying.{laidRow, laidEach}
-use Rattle.carry_places.proofs.Laid.{Whole, set-own, row-laid, free-laid, flags-laid, forgotten-laid}
+use Rattle.carry_places.proofs.Laid.{Whole, whole-last, whole-connections, whole-functions, whole-jobs, set-own, row-laid, free-laid, flags-laid, forgotten-laid}
 use Rattle.carry_places.proofs.Each.{eachConnection, each-laid, each-none, all-connections, connection-whole}
 use Rattle.carry_whole.proofs.Laid.{whole}
 use Rattle.carry_whole.proofs.Carried.{changed-whole}
@@ -49,10 +49,10 @@ step-laid (SV.Row p r) t w b i = row-laid t w b p r i
 step-laid (SV.End p) t w b i = free-laid t w b p i
 step-laid (SV.Grab p r c x) t w b i =
     ap (laidRow p r) (flags-laid t w b c x (i .1))
-    ∙ row-laid (setConnection t c x) (record { connections = length-set (t .connections) c x ∙ w .connections; functions = w .functions; jobs = w .jobs }) b p r (i .0)
+    ∙ row-laid (setConnection t c x) (whole-connections t w _ (length-set (t .connections) c x)) b p r (i .0)
 step-laid (SV.New p r) t w b i =
     ap (laidRow p r) (put-last t b (r .serial))
-    ∙ row-laid (withLastSerial (r .serial) t) (record { connections = w .connections; functions = w .functions; jobs = w .jobs }) b p r i
+    ∙ row-laid (withLastSerial (r .serial) t) (whole-last t w (r .serial)) b p r i
 step-laid (SV.Flags c x) t w b i = flags-laid t w b c x i
 step-laid (SV.Able q s) t w b i = (rw (w .connections) at (put-able t (record { functions = w .functions; jobs = w .jobs }) b q i s))
 step-laid (SV.Reset c) t w b i = refl
@@ -61,13 +61,12 @@ step-laid (SV.Leave c) t w b i = refl
 sparse-whole : (step : S′.Step) (t : Table) → Whole t → Whole (sparse step t)
 unfolding sparse
 sparse-whole SV.Nothing t w = w
-sparse-whole (SV.Row p r) t w = record { connections = w .connections; functions = w .functions; jobs = length-set (t .jobs) p _ ∙ w .jobs }
-sparse-whole (SV.End p) t w = record { connections = w .connections; functions = w .functions; jobs = length-set (t .jobs) p noJob ∙ w .jobs }
-sparse-whole (SV.Grab p r c x) t w =
-    record { connections = length-set (t .connections) c x ∙ w .connections; functions = w .functions; jobs = length-set (t .jobs) p _ ∙ w .jobs }
-sparse-whole (SV.New p r) t w = record { connections = w .connections; functions = w .functions; jobs = length-set (t .jobs) p _ ∙ w .jobs }
-sparse-whole (SV.Flags c x) t w = record { connections = length-set (t .connections) c x ∙ w .connections; functions = w .functions; jobs = w .jobs }
-sparse-whole (SV.Able q s) t w = record { connections = w .connections; functions = length-set (t .functions) q _ ∙ w .functions; jobs = w .jobs }
+sparse-whole (SV.Row p r) t w = whole-jobs t w _ (length-set (t .jobs) p _)
+sparse-whole (SV.End p) t w = whole-jobs t w _ (length-set (t .jobs) p noJob)
+sparse-whole (SV.Grab p r c x) t w = whole-jobs (setConnection t c x) (whole-connections t w _ (length-set (t .connections) c x)) _ (length-set (t .jobs) p _)
+sparse-whole (SV.New p r) t w = whole-last (setJob t p (withRow r (jobAt t p))) (whole-jobs t w _ (length-set (t .jobs) p _)) (r .serial)
+sparse-whole (SV.Flags c x) t w = whole-connections t w _ (length-set (t .connections) c x)
+sparse-whole (SV.Able q s) t w = whole-functions t w _ (length-set (t .functions) q _)
 sparse-whole (SV.Reset c) t w = w
 sparse-whole (SV.Leave c) t w = w
 
@@ -100,7 +99,7 @@ unfolding laidEnding ended
 ending-laid e t w b i =
     ap (laidWithout (e .forgotten)) (awake-laid (e .woken) t w b)
     ∙ without-laid (e .forgotten) (withConnections (mapFrom (roused (e .woken)) 0 (t .connections)) t)
-    (record { connections = length-mapFrom (roused (e .woken)) 0 (t .connections) ∙ w .connections; functions = w .functions; jobs = w .jobs }) b i
+    (whole-connections t w _ (length-mapFrom (roused (e .woken)) 0 (t .connections))) b i
 
 -- where nobody wakes nothing is laid
 pub none-awake : (b : Bytes) → laidEach (laidIfWoken 0) 0 connectionCount b ≡ b

@@ -7,9 +7,9 @@ use Rattle.octets.specs.Bytes.{Bytes}
 use Rattle.octets.specs.Put.{put}
 use Rattle.octets.proofs.Strings.{and-left}
 use Rattle.lists.specs.Lists.{fit}
-use Rattle.server.specs.Sizes.{connectionCount, functionCount, jobCount, nameSize, uniqueSize}
+use Rattle.server.specs.Sizes.{connectionCount, functionCount, jobCount, nameSize, uniqueSize, idSize}
 use Rattle.server.specs.Table.{Job, heldBy, rowsOf}
-use Rattle.server.specs.Layout.{connectionIn, functionIn, jobIn, tableOf, bytesOf, isImage, namesAt, uniquesAt}
+use Rattle.server.specs.Layout.{connectionIn, idIn, functionIn, jobIn, tableOf, bytesOf, isImage, namesAt, uniquesAt, idsAt}
 use Rattle.server.specs.Call.{isSound}
 use Rattle.table_laws.proofs.Columns.{length-places}
 use Rattle.table_laws.proofs.Image.{image-back}
@@ -19,12 +19,12 @@ use Rattle.plan.specs.Parts.{changed}
 use Rattle.carry_places.specs.Laying.{laidNumbers}
 use Rattle.carry_places.specs.Written.{laidReturned}
 use Rattle.carry_places.proofs.Laid.{Whole}
-use Rattle.carry_places.proofs.Changes.{name-changed, texts-changed, job-changed, left-changed}
+use Rattle.carry_places.proofs.Changes.{name-changed, texts-changed, job-changed, id-changed, left-changed}
 
 module _ (b : Bytes) (sound : isSound connectionCount b ≡ true) where
   pub whole : Whole (tableOf connectionCount b)
   unfolding tableOf
-  whole = record { connections = length-places (connectionIn connectionCount b) 0 connectionCount; functions = length-places (functionIn connectionCount b) 0 16; jobs = length-places (jobIn connectionCount b) 0 32 }
+  whole = record { connections = length-places (connectionIn connectionCount b) 0 connectionCount; ids = length-places (idIn connectionCount b) 0 connectionCount; functions = length-places (functionIn connectionCount b) 0 16; jobs = length-places (jobIn connectionCount b) 0 32 }
 
   back : put 0 (bytesOf (tableOf connectionCount b)) b ≡ b
   unfolding isSound
@@ -56,6 +56,14 @@ module _ (b : Bytes) (sound : isSound connectionCount b ≡ true) where
     unfolding after
     texts-laid p e h = ap (laidNumbers p u d) (sym back) ∙ texts-changed (tableOf connectionCount b) whole b p a u d h ∙ ap after (sym e)
 
-    pub left-laid : (c : ℕ) → x ≡ CV.Left c → laidReturned c (rowsOf (tableOf connectionCount b)) b ≡ put 0 (bytesOf (changed x a u d (tableOf connectionCount b))) b
+    pub id-laid : (c : ℕ) → x ≡ CV.Id c → c < connectionCount → put (idsAt connectionCount + idSize * c) (fit idSize a) b ≡ put 0 (bytesOf (changed x a u d (tableOf connectionCount b))) b
     unfolding after
-    left-laid c e = ap (laidReturned c (rowsOf (tableOf connectionCount b))) (sym back) ∙ left-changed (tableOf connectionCount b) whole b c a u d ∙ ap after (sym e)
+    id-laid c e h = ap (put (idsAt connectionCount + idSize * c) (fit idSize a)) (sym back) ∙ id-changed (tableOf connectionCount b) whole b c a u d h ∙ ap after (sym e)
+
+    pub left-laid : (c : ℕ) → x ≡ CV.Left c → c < connectionCount
+        → put (idsAt connectionCount + idSize * c) (fit idSize []) (laidReturned c (rowsOf (tableOf connectionCount b)) b) ≡ put 0 (bytesOf (changed x a u d (tableOf connectionCount b))) b
+    unfolding after
+    left-laid c e h =
+        ap (λ (m : Bytes). put (idsAt connectionCount + idSize * c) (fit idSize []) (laidReturned c (rowsOf (tableOf connectionCount b)) m)) (sym back)
+        ∙ left-changed (tableOf connectionCount b) whole b c a u d h
+        ∙ ap after (sym e)

@@ -29,7 +29,8 @@ pub fn change_texts(table: &mut [u8], change: Change, first: &[u8], second: &[u8
             second,
         ),
         Change::Texts { place } => carry_places::put_numbers(table, place, second, third),
-        Change::Left { connection } => carry_places::reset_held(table, connection),
+        Change::Id { connection } => carry_places::put_id(table, connection, first),
+        Change::Left { connection } => carry_places::put_left(table, connection),
     }
 }
 

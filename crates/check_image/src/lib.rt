@@ -97,7 +97,7 @@ fn followed(table: &[u8], at: usize, last: &[u8; UNIQUE_SIZE]) -> bool
 }
 
 // The same of `m` times 64 bytes.
-fn all_followed(table: &[u8], at: usize, m: usize, last: &[u8; UNIQUE_SIZE]) -> bool
+pub fn all_followed(table: &[u8], at: usize, m: usize, last: &[u8; UNIQUE_SIZE]) -> bool
     requires { ⌜ at + uniqueSize * m + 1 ≤ length (now table) ⌝ }
     ensures { λ r. ⌜ r ≡ all (λ i. all (lastOrFollowed (now (last .entry)) (now (table .entry)) (at + uniqueSize * i)) (numbers 0 uniqueSize)) (numbers 0 m) ⌝ }
 {

@@ -107,7 +107,7 @@ module _ (b : Bytes) (long : tableSize connectionCount ≤ length b) (small : (i
   -- ---- the flags of one connection
 
   flag : (j c : ℕ) → j ≤ 2 * connectionCount → c < connectionCount → eqb (getD b (openedAt connectionCount + j + c) 0) 0 ≡ not (eqb (getD b (openedAt connectionCount + j + c) 0) 1)
-  flag j c g h = let m : openedAt connectionCount + (j + c) ≡ openedAt connectionCount + j + c = omega arith in rw m at (flag-at (3 * connectionCount) b (openedAt connectionCount) long flags (j + c) (omega arith))
+  flag j c g h = let m : openedAt connectionCount + (j + c) ≡ openedAt connectionCount + j + c = omega arith in rw m at (flag-at (3 * connectionCount) b (openedAt connectionCount) (omega arith) flags (j + c) (omega arith))
 
   holds-is : (c : ℕ) → c < connectionCount → connectionHolds b used busy c ≡ Holds (connectionIn connectionCount b c .opened) (connectionIn connectionCount b c .asleep) (connectionIn connectionCount b c .exceptions) (has used c) (has busy c)
   holds-is c h = rw (flag 0 c (omega arith) h, flag connectionCount c (omega arith) h, flag (2 * connectionCount) c (omega arith) h)

@@ -1,5 +1,5 @@
--- The parts of the check together are soundness: an image of the layout whose table obeys every rule. Three rules hold of any bytes, those of
--- the next serial, of names and of uniques within their places; the rules of whole jobs are those of numbers, uniques and stored numbers.
+-- The parts of the check together are soundness: an image of the layout whose table obeys every rule. Four rules hold of any bytes, those of
+-- the next serial, and of names, uniques and ids within their places; the rules of whole jobs are those of numbers, uniques and stored numbers.
 -- Assumes nothing.
 use Prim.Native.Nat.{ℕ, suc, _+_, _*_, _<_, _≤_}
 use mathlib.Core.Path.{_≡_, refl, sym, ap, ap₂, _∙_}
@@ -14,21 +14,22 @@ use Rattle.octets.specs.Bytes.{Bytes, same, firstZero, zeroFree}
 use Rattle.octets.proofs.Strings.{and-left, and-right, and-both, zero-le-length}
 use Rattle.sets.specs.Sets.{isEmpty}
 use Rattle.lists.specs.Lists.{all, numbers, implies}
-use Rattle.server.specs.Sizes.{connectionCount, functionCount, jobCount, nameSize, uniqueSize, numberSize}
+use Rattle.server.specs.Sizes.{connectionCount, functionCount, jobCount, nameSize, uniqueSize, numberSize, idSize}
 use Rattle.server.specs.Table.{live, queued}
-use Rattle.server.specs.Layout.{littleAt, textAt, functionIn, rowIn, jobIn, tableOf, backgroundsAt, namesAt, uniquesAt, numeratorsAt, denominatorsAt, openedAt, tableSize}
-use Rattle.server.specs.Rules.{nextSmall, serialsBelow, serialsDistinct, textWithin, storedNumber, namesWithin, textsWithin, sizesWithin, numbersFree, numbersInRange, rowIsFree, rowHasMeaning, rowsHaveMeaning, functionsDistinct, functionsAsDefined, abilitiesOpen, listenersOpen, holdersOpen, closedClear, queuedAwaited, uniquesDistinct, sleepersIdle, obeys}
+use Rattle.server.specs.Layout.{littleAt, textAt, idIn, functionIn, rowIn, jobIn, tableOf, backgroundsAt, namesAt, uniquesAt, numeratorsAt, denominatorsAt, openedAt, idsAt, tableSize}
+use Rattle.server.specs.Rules.{nextSmall, serialsBelow, serialsDistinct, textWithin, storedNumber, namesWithin, textsWithin, sizesWithin, numbersFree, numbersInRange, rowIsFree, rowHasMeaning, rowsHaveMeaning, functionsDistinct, functionsAsDefined, abilitiesOpen, listenersOpen, holdersOpen, closedClear, queuedAwaited, uniquesDistinct, sleepersIdle, idsWithin, idsOpen, obeys}
 use Rattle.server.specs.Call.{isSound}
 use Rattle.table_laws.specs.Tests.{areFlags, arePadded, imageTests}
 use Rattle.table_laws.proofs.Image.{image-tests}
 use Rattle.table_passes.proofs.Tests.{iff, and-same, all-and, below-by, same-below}
-use Rattle.table_passes.proofs.Rows.{jobs-all, functions-all, functions-length, connections-length}
+use Rattle.table_passes.proofs.Rows.{jobs-all, functions-all, ids-all, functions-length, connections-length}
 use Rattle.check_image.proofs.Places.{empty-text}
 use Rattle.check_rows.specs.Rows.{numbersMean, isAwaited, rowsMean}
 use Rattle.check_numbers.specs.Surveyed.{freeOrJob}
 use Rattle.check_numbers.specs.Numbers.{connectionRules, numberRules}
 use Rattle.check_exact.proofs.Texts.{text-within}
 use Rattle.check_texts.specs.Stored.{storedAt, storedRules}
+use Rattle.check_ids.specs.Ids.{idRules}
 use Rattle.check_table.specs.Parts.{byteRules, textRules}
 
 -- ---- rules that any bytes obey
@@ -56,6 +57,10 @@ text-fits k b at = and-both (leb (length (textAt k b at)) k) _ (le-leb (length (
 names-within : (b : Bytes) → namesWithin (tableOf connectionCount b) ≡ true
 names-within b =
     functions-all connectionCount b (λ x. textWithin nameSize (x .name)) ∙ below-by (λ q. textWithin nameSize (functionIn connectionCount b q .name)) functionCount (λ q _. text-fits 32 b (namesAt + nameSize * q))
+
+ids-within : (b : Bytes) → idsWithin (tableOf connectionCount b) ≡ true
+ids-within b =
+    ids-all connectionCount b (textWithin idSize) ∙ below-by (λ c. textWithin idSize (idIn connectionCount b c)) connectionCount (λ c _. text-fits idSize b (idsAt connectionCount + idSize * c))
 
 next-small : (b : Bytes) → ((i : ℕ) → getD b i 0 < 256) → nextSmall (tableOf connectionCount b) ≡ true
 unfolding tableOf littleAt
@@ -135,24 +140,26 @@ module _ (b : Bytes) (long : tableSize connectionCount ≤ length b) where
 
 -- ---- all rules, in the order of the check and in that of document 01
 
--- in the order of the check: flags of jobs and of connections, padded names and uniques; rows, uniques of free ones, serials below the last and
--- distinct, connections, functions known as defined; padded numbers, stored ones, sizes, functions distinct, uniques of others. Then the two
+-- in the order of the check: flags of jobs and of connections, padded names, uniques and ids, ids of open connections; rows, uniques of free ones, serials below the last and
+-- distinct, connections, functions known as defined; padded numbers, stored ones, sizes, functions distinct, uniques of others. Then the three
 -- rules of any bytes and the three of whole jobs
-module _ (backgrounds flags names uniques rows free below distinct abilities listeners holders closed sleepers known numerators denominators stored sizes functions others next-serial names-within-places texts meaning awaited : Bool) (next : next-serial ≡ true) (names-fit : names-within-places ≡ true) (whole-jobs : rows && (free && stored) ≡ (texts && meaning) && awaited) where
+module _ (backgrounds flags names uniques ids ids-open rows free below distinct abilities listeners holders closed sleepers known numerators denominators stored sizes functions others next-serial names-within-places ids-within-places texts meaning awaited : Bool) (next : next-serial ≡ true) (names-fit : names-within-places ≡ true) (ids-fit : ids-within-places ≡ true) (whole-jobs : rows && (free && stored) ≡ (texts && meaning) && awaited) where
   checked : Bool
-  checked = ((backgrounds && flags) && (names && uniques)) && ((rows && (free && ((below && distinct) && ((abilities && (listeners && (holders && (closed && sleepers)))) && known)))) && (((numerators && denominators) && stored) && (sizes && (functions && others))))
+  checked = ((backgrounds && flags) && (names && (uniques && (ids && ids-open)))) && ((rows && (free && ((below && distinct) && ((abilities && (listeners && (holders && (closed && sleepers)))) && known)))) && (((numerators && denominators) && stored) && (sizes && (functions && others))))
 
   defined : Bool
   defined =
-      (backgrounds && (names && (uniques && (numerators && (denominators && flags))))) && (next-serial && (below && (distinct && (names-within-places && (texts && (sizes && (meaning && (functions && (known && (abilities && (listeners && (holders && (closed && (awaited && (others && sleepers)))))))))))))))
+      (backgrounds && (names && (uniques && (numerators && (denominators && (flags && ids)))))) && (next-serial && (below && (distinct && (names-within-places && (texts && (sizes && (meaning && (functions && (known && (abilities && (listeners && (holders && (closed && (awaited && (others && (sleepers && (ids-within-places && ids-open)))))))))))))))))
 
   to : checked ≡ true → defined ≡ true
   unfolding checked defined
   to h =
-      let byte-part = and-left ((backgrounds && flags) && (names && uniques)) _ h in
-      let both-flags = and-left (backgrounds && flags) (names && uniques) byte-part in
-      let both-texts = and-right (backgrounds && flags) (names && uniques) byte-part in
-      let rest = and-right ((backgrounds && flags) && (names && uniques)) _ h in
+      let byte-part = and-left ((backgrounds && flags) && (names && (uniques && (ids && ids-open)))) _ h in
+      let both-flags = and-left (backgrounds && flags) (names && (uniques && (ids && ids-open))) byte-part in
+      let both-texts = and-right (backgrounds && flags) (names && (uniques && (ids && ids-open))) byte-part in
+      let x9 = and-right names (uniques && (ids && ids-open)) both-texts in
+      let both-ids = and-right uniques (ids && ids-open) x9 in
+      let rest = and-right ((backgrounds && flags) && (names && (uniques && (ids && ids-open)))) _ h in
       let number-part = and-left (rows && (free && ((below && distinct) && ((abilities && (listeners && (holders && (closed && sleepers)))) && known)))) _ rest in
       let last = and-right (rows && (free && ((below && distinct) && ((abilities && (listeners && (holders && (closed && sleepers)))) && known)))) _ rest in
       let x1 = and-right rows _ number-part in
@@ -172,10 +179,13 @@ module _ (backgrounds flags names uniques rows free below distinct abilities lis
       rw (
         next,
         names-fit,
+        ids-fit,
         and-left backgrounds flags both-flags,
         and-right backgrounds flags both-flags,
-        and-left names uniques both-texts,
-        and-right names uniques both-texts,
+        and-left names _ both-texts,
+        and-left uniques (ids && ids-open) x9,
+        and-left ids ids-open both-ids,
+        and-right ids ids-open both-ids,
         and-left below distinct serials,
         and-right below distinct serials,
         and-left abilities _ set-part,
@@ -197,12 +207,13 @@ module _ (backgrounds flags names uniques rows free below distinct abilities lis
   from : defined ≡ true → checked ≡ true
   unfolding checked defined
   from h =
-      let image = and-left (backgrounds && (names && (uniques && (numerators && (denominators && flags))))) _ h in
+      let image = and-left (backgrounds && (names && (uniques && (numerators && (denominators && (flags && ids)))))) _ h in
       let i1 = and-right backgrounds _ image in
       let i2 = and-right names _ i1 in
       let i3 = and-right uniques _ i2 in
-      let i4 = and-right numerators (denominators && flags) i3 in
-      let x0 = and-right (backgrounds && (names && (uniques && (numerators && (denominators && flags))))) _ h in
+      let i4 = and-right numerators _ i3 in
+      let i5 = and-right denominators (flags && ids) i4 in
+      let x0 = and-right (backgrounds && (names && (uniques && (numerators && (denominators && (flags && ids)))))) _ h in
       let x1 = and-right next-serial _ x0 in
       let x2 = and-right below _ x1 in
       let x3 = and-right distinct _ x2 in
@@ -216,16 +227,19 @@ module _ (backgrounds flags names uniques rows free below distinct abilities lis
       let y1 = and-right listeners _ y0 in
       let y2 = and-right holders _ y1 in
       let y3 = and-right closed _ y2 in
-      let y4 = and-right awaited (others && sleepers) y3 in
-      let whole : rows && (free && stored) ≡ true = whole-jobs ∙ and-both (texts && meaning) awaited (and-both texts meaning (and-left texts _ x4) (and-left meaning _ x6)) (and-left awaited (others && sleepers) y3) in
+      let y4 = and-right awaited _ y3 in
+      let y5 = and-right others _ y4 in
+      let y6 = and-right sleepers (ids-within-places && ids-open) y5 in
+      let whole : rows && (free && stored) ≡ true = whole-jobs ∙ and-both (texts && meaning) awaited (and-both texts meaning (and-left texts _ x4) (and-left meaning _ x6)) (and-left awaited _ y3) in
       let pair = and-right rows (free && stored) whole in
       rw (
         and-left backgrounds _ image,
         and-left names _ i1,
         and-left uniques _ i2,
-        and-left numerators (denominators && flags) i3,
-        and-left denominators flags i4,
-        and-right denominators flags i4,
+        and-left numerators _ i3,
+        and-left denominators (flags && ids) i4,
+        and-left flags ids i5,
+        and-right flags ids i5,
         and-left below _ x1,
         and-left distinct _ x2,
         and-left sizes _ x5,
@@ -235,8 +249,9 @@ module _ (backgrounds flags names uniques rows free below distinct abilities lis
         and-left listeners _ y0,
         and-left holders _ y1,
         and-left closed _ y2,
-        and-left others sleepers y4,
-        and-right others sleepers y4,
+        and-left others _ y4,
+        and-left sleepers (ids-within-places && ids-open) y5,
+        and-right ids-within-places ids-open y6,
         and-left rows (free && stored) whole,
         and-left free stored pair,
         and-right free stored pair,
@@ -246,22 +261,22 @@ module _ (backgrounds flags names uniques rows free below distinct abilities lis
   reorder = iff checked defined to from
 
 pub sound-is : (b : Bytes) → ((k : ℕ) → getD b k 0 < 256) → tableSize connectionCount ≤ length b → byteRules b && ((rowsMean b && numberRules b) && textRules b) ≡ isSound connectionCount b
-unfolding byteRules numberRules connectionRules textRules storedRules isSound imageTests obeys checked defined
+unfolding byteRules idRules numberRules connectionRules textRules storedRules isSound imageTests obeys checked defined
 sound-is b small long =
     let t = tableOf connectionCount b in
-    reorder (areFlags jobCount b backgroundsAt) (areFlags (3 * connectionCount) b (openedAt connectionCount)) (arePadded nameSize functionCount b namesAt) (arePadded uniqueSize jobCount b uniquesAt) (rowsMean b) (all (freeOrJob b) (numbers 0 jobCount)) (serialsBelow t) (serialsDistinct t)
+    reorder (areFlags jobCount b backgroundsAt) (areFlags (3 * connectionCount) b (openedAt connectionCount)) (arePadded nameSize functionCount b namesAt) (arePadded uniqueSize jobCount b uniquesAt) (arePadded idSize connectionCount b (idsAt connectionCount)) (idsOpen t) (rowsMean b) (all (freeOrJob b) (numbers 0 jobCount)) (serialsBelow t) (serialsDistinct t)
     (abilitiesOpen t) (listenersOpen t) (holdersOpen t) (closedClear t) (sleepersIdle t) (functionsAsDefined t) (arePadded numberSize jobCount b numeratorsAt) (arePadded numberSize jobCount b denominatorsAt) (all (storedAt b) (numbers 0 jobCount))
-    (sizesWithin t) (functionsDistinct t) (uniquesDistinct t) (nextSmall t) (namesWithin t) (textsWithin t) (rowsHaveMeaning t) (queuedAwaited t) (next-small b small) (names-within b) (jobs-hold b long)
+    (sizesWithin t) (functionsDistinct t) (uniquesDistinct t) (nextSmall t) (namesWithin t) (idsWithin t) (textsWithin t) (rowsHaveMeaning t) (queuedAwaited t) (next-small b small) (names-within b) (ids-within b) (jobs-hold b long)
     ∙ ap (λ (x : Bool). x && obeys t) (sym (image-tests connectionCount b small long))
 
 -- what the later parts ask of flags and texts
 pub each-of : (b : Bytes) → byteRules b ≡ true → (areFlags jobCount b backgroundsAt ≡ true) × (areFlags (3 * connectionCount) b (openedAt connectionCount) ≡ true) × (arePadded nameSize functionCount b namesAt ≡ true) × (arePadded uniqueSize jobCount b uniquesAt ≡ true)
 unfolding byteRules
 each-of b e =
-    let flags = and-left (areFlags jobCount b backgroundsAt && areFlags (3 * connectionCount) b (openedAt connectionCount)) (arePadded nameSize functionCount b namesAt && arePadded uniqueSize jobCount b uniquesAt) e in
-    let texts = and-right (areFlags jobCount b backgroundsAt && areFlags (3 * connectionCount) b (openedAt connectionCount)) (arePadded nameSize functionCount b namesAt && arePadded uniqueSize jobCount b uniquesAt) e in (
+    let flags = and-left (areFlags jobCount b backgroundsAt && areFlags (3 * connectionCount) b (openedAt connectionCount)) (arePadded nameSize functionCount b namesAt && (arePadded uniqueSize jobCount b uniquesAt && idRules b)) e in
+    let texts = and-right (areFlags jobCount b backgroundsAt && areFlags (3 * connectionCount) b (openedAt connectionCount)) (arePadded nameSize functionCount b namesAt && (arePadded uniqueSize jobCount b uniquesAt && idRules b)) e in (
       and-left (areFlags jobCount b backgroundsAt) (areFlags (3 * connectionCount) b (openedAt connectionCount)) flags,
       and-right (areFlags jobCount b backgroundsAt) (areFlags (3 * connectionCount) b (openedAt connectionCount)) flags,
-      and-left (arePadded nameSize functionCount b namesAt) (arePadded uniqueSize jobCount b uniquesAt) texts,
-      and-right (arePadded nameSize functionCount b namesAt) (arePadded uniqueSize jobCount b uniquesAt) texts,
+      and-left (arePadded nameSize functionCount b namesAt) _ texts,
+      and-left (arePadded uniqueSize jobCount b uniquesAt) (idRules b) (and-right (arePadded nameSize functionCount b namesAt) _ texts),
     )

@@ -7,10 +7,11 @@ use Rattle.server.specs.Layout.{tableOf, backgroundsAt, namesAt, uniquesAt, ope
 use Rattle.server.specs.Rules.{sizesWithin, functionsDistinct, uniquesDistinct}
 use Rattle.table_laws.specs.Tests.{areFlags, arePadded}
 use Rattle.check_texts.specs.Stored.{storedRules}
+use Rattle.check_ids.specs.Ids.{idRules}
 
--- each flag is 0 or 1, and zeros follow each name and unique
+-- each flag is 0 or 1, zeros follow each name and unique, and the rules of ids
 unfoldable pub byteRules : Bytes → Bool
-byteRules b = (areFlags jobCount b backgroundsAt && areFlags (3 * connectionCount) b (openedAt connectionCount)) && (arePadded nameSize functionCount b namesAt && arePadded uniqueSize jobCount b uniquesAt)
+byteRules b = (areFlags jobCount b backgroundsAt && areFlags (3 * connectionCount) b (openedAt connectionCount)) && (arePadded nameSize functionCount b namesAt && (arePadded uniqueSize jobCount b uniquesAt && idRules b))
 
 -- the rules that read texts
 unfoldable pub textRules : Bytes → Bool

@@ -21,7 +21,7 @@ ghost use Rattle.check_table.specs.Parts.{byteRules, textRules};
 // The flags of all connections.
 const FLAGS: usize = 3 * CONNECTIONS;
 
-// Whether each flag is 0 or 1, and each name and unique is followed by zeros.
+// Whether each flag is 0 or 1, each name, unique and client id is followed by zeros, and only open connections have an id.
 fn bytes_hold(table: &[u8]) -> bool
     requires { ⌜ tableSize connectionCount ≤ length (now table) ⌝ }
     ensures { λ r. ⌜ r ≡ byteRules (now (table .entry)) ⌝ }
@@ -30,7 +30,9 @@ fn bytes_hold(table: &[u8]) -> bool
         & check_image::flags(table, OPENED_AT, FLAGS)
     {
         if check_image::names_padded(table) {
-            return check_image::uniques_padded(table);
+            if check_image::uniques_padded(table) {
+                return check_ids::ids_hold(table);
+            }
         }
     }
     false

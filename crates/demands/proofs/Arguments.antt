@@ -10,7 +10,7 @@ use Rattle.packet.specs.declared.Shape.{Shape}
 use Rattle.packet.specs.declared.Shape.the-variants.{Foreign, Handle, Echo}
 use Rattle.packet.specs.Layout.{requestShape, responseShape}
 use Rattle.packet.specs.Packet.{Reading, refused, got, read, requests}
-use Rattle.server.specs.Requests.{Work, Request, reset, preSleep, echo, bad, canDo, cantDo, grab, submit, work, getStatus, option, requested, fromReading, requestIn}
+use Rattle.server.specs.Requests.{Work, Request, reset, preSleep, echo, bad, canDo, cantDo, identify, grab, submit, work, getStatus, option, requested, fromReading, requestIn}
 use Rattle.demands.proofs.Unmasked.{request-read}
 
 -- the tables of shapes of requests and of responses beside the table of what is asked
@@ -33,6 +33,7 @@ Named kind a s r preSleep = Unit {0}
 Named kind a s r (bad n) = Unit {0}
 Named kind a s r (canDo f) = Unit {0}
 Named kind a s r (cantDo f) = Unit {0}
+Named kind a s r (identify i) = Unit {0}
 Named kind a s r (grab uniq) = Unit {0}
 Named kind a s r (submit priority background f u size) = Unit {0}
 Named kind a s r (getStatus h) = (s ≡ Handle) × (h ≡ a)

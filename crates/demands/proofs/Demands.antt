@@ -4,10 +4,11 @@ use Prim.Native.Nat.{ℕ}
 use mathlib.Core.Path.{_≡_}
 use mathlib.Core.Bool.{true, false, _||_, _&&_}
 use mathlib.Core.List.{List}
-use Rattle.octets.specs.Bytes.{Bytes}
+use Rattle.octets.specs.Bytes.{Bytes, every, within}
 use Rattle.packet.specs.Packet.{read, requests}
 use Rattle.server.specs.Requests.{Event, sends, fromReading, requestIn}
 use Rattle.server.specs.Server.{Server, start}
+use Rattle.server.specs.Layout.{tableOf}
 use Rattle.server.specs.Call.{call}
 use Rattle.server_calls.specs.History.{Call, Memory}
 use Rattle.server_calls.proofs.Follows.{Running, tableWith, workloadsWith}
@@ -16,12 +17,17 @@ use Rattle.server_blind.proofs.Alike.{Alike}
 use Rattle.server_blind.proofs.Outputs.{Both}
 use Rattle.server_blind.proofs.Calls.{AlikeEvents}
 use Rattle.server_blind.proofs.LoneCalls.{SameEvents}
+use Rattle.command.specs.Order.{inOrder}
+use Rattle.command.specs.Texts.{shown, textFor}
+use Rattle.command.specs.Say.{say}
+use Rattle.command_laws.proofs.Shown.{shown-readable}
 use Rattle.demands.specs.Messages.{told, argumentsOf}
 use Rattle.demands.specs.Answered.{Answered}
-use Rattle.demands.specs.Conditions.{first, conditions, typeOf}
+use Rattle.demands.specs.Conditions.{first, conditions, lineConditions, typeOf}
 use Rattle.demands.specs.Listening.{heard, listens, wants, EachOnce}
 use Rattle.demands.specs.Exact.{Walk}
 use Rattle.demands.specs.Blind.{AlikeResults, One}
+use Rattle.demands.specs.Commands.{Said, Listed, Counted, SameText}
 use Rattle.demands.specs.Handles.{given, stands, isMade, readingTells, Spent}
 use Rattle.demands.specs.Hub.{Hub, Room, Long, callOn, kept, afterCalls, resultsOf, tableIn, serverOf, freshMemory, restarted}
 use Rattle.demands.proofs.Hubs.{hub-with, hub-fresh, fresh-server, calls-hub}
@@ -34,6 +40,7 @@ use Rattle.demands.proofs.Results.{calls-heard, call-tells-each, fresh-
 use Rattle.demands.proofs.Unmasked.{request-read}
 use Rattle.demands.proofs.Agreeing.{histories-agree}
 use Rattle.demands.proofs.OneChanged.{one-changed}
+use Rattle.demands.proofs.Commands.{say-said, say-number, hub-lists, hub-counts, texts-alike}
 
 -- ---- the memory
 
@@ -132,6 +139,35 @@ demand-3 = histories-agree
 pub demand-3-one : (n : ℕ) (m w : Memory) → Hub n m → Hub n w → serverOf n m ≡ serverOf n w → (x y : Call) → Long n x → Long n y → Alike (x .event) (y .event)
     → {xs ys : List Call} → SameEvents xs ys → LongOutputs n xs → LongOutputs n ys → One n m w x y xs ys
 demand-3-one = one-changed
+
+-- ---- text commands: 02, ask 1
+
+-- a technician's line, any bytes, from any connection on any lent bytes: the output begins with the connection's byte and one text, which the
+-- table alone determines, and table and workloads stay; or it is refused by 1, 2 or 3, and nothing changes
+pub text-said : (n c : ℕ) (line t w o : Bytes) → Said c (textFor line (tableOf n t)) t w o (say n c line t w o)
+text-said = say-said
+
+-- and the number is that of the first of these three rows that holds, 0 where none does
+pub text-number : (n c : ℕ) (line t w o : Bytes) → say n c line t w o .number ≡ first (lineConditions n c t w o)
+text-number = say-number
+
+-- what `status` lists, and of which `workers` lists those of each connection: each known function once, in rising byte order of name
+pub text-lists : (n : ℕ) (m : Memory) → Hub n m → Listed (tableIn n m .functions) (inOrder (tableIn n m .functions))
+text-lists = hub-lists
+
+-- its counts are the table's
+pub text-counts : (n : ℕ) (m : Memory) → Hub n m → (q : ℕ) → Counted (tableIn n m) q
+text-counts = hub-counts
+
+-- every byte that is printed of a name or an id is 33 to 126
+pub text-readable : (s : Bytes) → every (within 33 126) (shown s) ≡ true
+text-readable = shown-readable
+
+-- "No text depends on an opaque byte": after two histories whose events differ in opaque bytes alone, on memories whose tables are equal, every
+-- line is answered by the same number and the same text
+pub text-blind : (n : ℕ) {xs ys : List Call} → AlikeEvents xs ys → LongOutputs n xs → LongOutputs n ys → (m k : Memory) → Hub n m → Hub n k → tableIn n m ≡ tableIn n k
+    → (c : ℕ) (line o : Bytes) → let u = afterCalls n xs m in let v = afterCalls n ys k in SameText (say n c line (u .table) (u .workloads) o) (say n c line (v .table) (v .workloads) o)
+text-blind = texts-alike
 
 -- ---- restart
 

@@ -118,6 +118,7 @@ module _ (c : ℕ) (b : Bytes) (s : Server) where
   gives-change q (Change.able f k r) = All.none
   gives-change q (Change.unknown f r) = All.none
   gives-change q (Change.disabled f k r) = All.none
+  gives-change q (Change.identified i) = All.none
   gives-change q Change.cleared = All.none
   gives-change q Change.slept = All.none
   gives-change q (Change.noJobFor uniq r) = gives-one _ 10 [] refl

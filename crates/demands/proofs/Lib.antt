@@ -15,4 +15,5 @@ pub mod OneChanged
 pub mod Submissions
 pub mod Listeners
 pub mod Results
+pub mod Commands
 pub mod Demands

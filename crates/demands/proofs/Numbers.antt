@@ -17,7 +17,7 @@ use Rattle.packet.specs.Packet.{Reading, refused, header, argued, body, afterHe
 use Rattle.lists.specs.Lists.{any, all, find, up}
 use Rattle.lists.proofs.Rows.{clash}
 use Rattle.server.specs.Table.{Function, Job, Table, live, joins, joined, known, roomFor, orElse, freeFunction, freePlace, freeRow, rowsOf}
-use Rattle.server.specs.Requests.{Event, opens, closes, sends, Work, Request, reset, preSleep, echo, canDo, cantDo, grab, submit, work, getStatus, option, requested, fromReading, requestIn}
+use Rattle.server.specs.Requests.{Event, opens, closes, sends, Work, Request, reset, preSleep, echo, canDo, cantDo, identify, grab, submit, work, getStatus, option, requested, fromReading, requestIn}
 use Rattle.server.specs.Requests as R
 use Rattle.server.specs.Events as E
 use Rattle.server.specs.Events.{Decision, silence, refuse, settle, canDoAt, cantDoAt, grabAt, submitNew, submitTo, workAt, statusAt, optionIf, holdsHandle, exceptionsName, onlyIfOpen, onlyIfClosed}
@@ -50,6 +50,7 @@ module _ (a b : Bytes) where
   Asks k s preSleep = Tests k false false false false
   Asks k s echo = Tests k false false false false
   Asks k s (cantDo f) = Tests k false false false false
+  Asks k s (identify i) = Tests k false false false false
   Asks k s (grab uniq) = Tests k false false false false
   Asks k s (getStatus h) = Tests k false false false false
 
@@ -76,7 +77,7 @@ asks-at kind a b c =
     (line refl (line (tests 1, refl) (line (tests 2) (line (tests 3) (line (tests 4) (line refl (line refl  -- 0 to 6
     (line (tests 7, refl, refl) (line refl (line (tests 9) (line refl (line refl  -- 7 to 11
     (line (tests 12, refl) (line (tests 13, refl) (line (tests 14, refl) (line (tests 15) (line (tests 16) (line refl  -- 12 to 17
-    (line (tests 18, refl, refl) (line refl (line refl (line (tests 21, refl, refl) (line refl (line refl (line refl  -- 18 to 24
+    (line (tests 18, refl, refl) (line refl (line refl (line (tests 21, refl, refl) (line (tests 22) (line refl (line refl  -- 18 to 24
     (line (tests 25, refl) (line (tests 26, refl) (line refl (line (tests 28, refl) (line (tests 29, refl)  -- 25 to 29
     (line (tests 30) (line refl (line (tests 32, refl, refl) (line (tests 33, refl, refl) (line (tests 34, refl, refl) beyond)))))))))))))))))))))))))))))))))))  -- 30 to 34
     kind)
@@ -232,6 +233,7 @@ module _ (c : ℕ) (t : Table) where
     asked-number (submit priority background f u size) o h = rw (h .1, h .2) (new-job-number priority background size (h .0))
     asked-number (work how k x n d) o h = rw (h .1) (held-number how k n d (h .0))
     asked-number (option name) o h = rw (h .1) (named-number (h .0))
+    asked-number (identify i) o h = none-number h
     asked-number reset o h = none-number h
     asked-number preSleep o h = none-number h
     asked-number echo o h = none-number h

@@ -50,6 +50,7 @@ module _ (c : ℕ) (b : Bytes) (t : Table) where
   fair-change q (Change.able f k r) = All.none
   fair-change q (Change.unknown f r) = All.none
   fair-change q (Change.disabled f k r) = All.none
+  fair-change q (Change.identified i) = All.none
   fair-change q Change.cleared = All.none
   fair-change q Change.slept = All.none
   fair-change q (Change.noJobFor uniq r) = All.more a-plain All.none

@@ -322,6 +322,7 @@ module _ (n : ℕ) (s : Server) (h : Running n s) where
     reads-change q (Change.able f k r) = All.none
     reads-change q (Change.unknown f r) = All.none
     reads-change q (Change.disabled f k r) = All.none
+    reads-change q (Change.identified i) = All.none
     reads-change q Change.cleared = All.none
     reads-change q Change.slept = All.none
     reads-change q (Change.noJobFor uniq r) = reads-one 10 [] (empty-sendable 10 refl refl)

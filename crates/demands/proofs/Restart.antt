@@ -40,7 +40,7 @@ running-from : (n k : ℕ) → k < 2 ^ 32 → Running n (startFrom n k)
 unfolding startFrom start
 running-from n k small =
     let h = running-start n in
-    record { shaped = record { connections = h .shaped .connections; functions = h .shaped .functions; jobs = h .shaped .jobs; workloads = h .shaped .workloads; whole = h .shaped .whole }; rules = obeys-from n k small }
+    record { shaped = record { connections = h .shaped .connections; ids = h .shaped .ids; functions = h .shaped .functions; jobs = h .shaped .jobs; workloads = h .shaped .workloads; whole = h .shaped .whole }; rules = obeys-from n k small }
 
 -- ---- the bytes
 

@@ -1,12 +1,12 @@
 -- What a packet of a foreground type asks, and to whom JOB_CREATED goes. Assumes nothing.
-use Prim.Native.Nat.{ℕ, zero, suc, _<_}
+use Prim.Native.Nat.{ℕ, suc, _<_}
 use mathlib.Core.Path.{_≡_, refl, ap, sym, _∙_}
 use mathlib.Core.Bool.{Bool, true, false, not, cond, _||_, _&&_}
 use mathlib.Core.Option.{none, some}
 use mathlib.Core.List.{List, [], _∷_, map}
 use native.Mathlib.Omega.{arith}
 use borrow.Author.Tests.{eqb-true, lt-ltb}
-use lib.ListN.{length, getD, replicate, List·getD-map}
+use lib.ListN.{length, getD, List·getD-map}
 use lib.Dec.{eqb}
 use Rattle.octets.specs.Bytes.{Bytes, same}
 use Rattle.octets.proofs.Strings.{and-false, and-left, and-right, same-is}
@@ -15,9 +15,9 @@ use Rattle.packet.specs.Layout.{isOwn, requestShape, backgroundOf}
 use Rattle.packet.specs.Packet.{Reading, refused, got, read, requests}
 use Rattle.packet_laws.proofs.Packets.{read-got}
 use Rattle.lists.specs.Lists.{any}
-use Rattle.lists.proofs.Rows.{clash}
+use Rattle.lists.proofs.Rows.{clash, replicate-default}
 use Rattle.server.specs.Table.{Table, jobAt, setJob, withRow, live, roomFor, freePlace, joins, joined}
-use Rattle.server.specs.Requests.{Event, sends, Request, reset, preSleep, echo, canDo, cantDo, grab, submit, work, getStatus, option, requested, fromReading, requestIn}
+use Rattle.server.specs.Requests.{Event, sends, Request, reset, preSleep, echo, canDo, cantDo, identify, grab, submit, work, getStatus, option, requested, fromReading, requestIn}
 use Rattle.server.specs.Requests as R
 use Rattle.server.specs.Refusals.{isTold}
 use Rattle.server.specs.Events.{Send, Decision, silence, refuse, settle, error, noop, created, submittedBy, newJob, accepted, served, submitNew, submitTo, onlyIfOpen, toWake, dropped}
@@ -71,19 +71,15 @@ markIn d preSleep = d
 markIn d echo = d
 markIn d (canDo f) = d
 markIn d (cantDo f) = d
+markIn d (identify i) = d
 markIn d (grab uniq) = d
 markIn d (work how kind h n x) = d
 markIn d (getStatus h) = d
 markIn d (option name) = d
 
-same-at : (n : ℕ) (d : Bool) (i : ℕ) → getD (replicate n d) i d ≡ d
-same-at zero d i = refl
-same-at (suc n) d zero = refl
-same-at (suc n) d (suc i) = same-at n d i
-
 requested-mark : (kind : ℕ) (a b c : Bytes) → markIn (backgroundOf kind) (requested kind a b c) ≡ backgroundOf kind
 unfolding requested
-requested-mark kind a b c = rw (← (List·getD-map (markIn (backgroundOf kind)))) (same-at 35 (backgroundOf kind) kind)
+requested-mark kind a b c = rw (← (List·getD-map (markIn (backgroundOf kind)))) (replicate-default 35 kind (backgroundOf kind))
 
 abbrev pub isSubmit : Request → Bool
 isSubmit (submit priority background f u size) = true
@@ -93,6 +89,7 @@ isSubmit preSleep = false
 isSubmit echo = false
 isSubmit (canDo f) = false
 isSubmit (cantDo f) = false
+isSubmit (identify i) = false
 isSubmit (grab uniq) = false
 isSubmit (work how kind h n x) = false
 isSubmit (getStatus h) = false
@@ -110,6 +107,7 @@ asks-submission kind a b c o = by (requested kind a b c) (asks-at kind a b c)
     by echo h = h .isNew
     by (canDo f) h = h .0 .isNew
     by (cantDo f) h = h .isNew
+    by (identify i) h = h .isNew
     by (grab uniq) h = h .isNew
     by (work how k x n d) h = h .0 .isNew
     by (getStatus x) h = h .isNew
@@ -228,6 +226,7 @@ module _ (c d : ℕ) (b h : Bytes) (s : Server) where
   says-change q o (Change.able f k r) = quiet _ q refl refl
   says-change q o (Change.unknown f r) = quiet _ q refl refl
   says-change q o (Change.disabled f k r) = quiet _ q refl refl
+  says-change q o (Change.identified i) = quiet _ q refl refl
   says-change q o Change.cleared = quiet _ q refl refl
   says-change q o Change.slept = quiet _ q refl refl
   says-change q o (Change.noJobFor uniq r) = quiet _ q refl refl

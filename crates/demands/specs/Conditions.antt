@@ -147,3 +147,7 @@ unfoldable pub conditions : ℕ → Event → Bytes → Bytes → Bytes → List
 conditions n e t w o =
     let u = tableOf n t in
     row 1 (badMemory n t w o) ∷ row 2 (connectionAbove n e) ∷ row 3 (notOpen u e) ∷ row 4 (alreadyOpen u e) ∷ packetRows u e
+
+-- a technician's line. 02: "Refusals 1 to 3 hold here too."
+unfoldable pub lineConditions : ℕ → ℕ → Bytes → Bytes → Bytes → List Row
+lineConditions n c t w o = row 1 (badMemory n t w o) ∷ row 2 (not (ltb c n)) ∷ row 3 (not (isOpen (tableOf n t) c)) ∷ []

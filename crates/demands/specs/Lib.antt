@@ -6,3 +6,4 @@ pub mod Answered
 pub mod Exact
 pub mod Blind
 pub mod Listening
+pub mod Commands

@@ -170,6 +170,17 @@ pub all2-mapFrom : {A : Type 0} {B : Type 0} (R : A → B → Type 0) (f : ℕ �
 all2-mapFrom R f r i [] = All2.none
 all2-mapFrom R f r i (x ∷ l) = All2.more (r i x) (all2-mapFrom R f r (suc i) l)
 
+-- an entry set to the default is the default, inside the list or not; so is each of a list of defaults
+pub set-default : {A : Type 0} (l : List A) (i : ℕ) (d : A) → getD (set l i d) i d ≡ d
+set-default [] i d = refl
+set-default (x ∷ l) zero d = refl
+set-default (x ∷ l) (suc i) d = set-default l i d
+
+pub replicate-default : {A : Type 0} (n i : ℕ) (d : A) → getD (replicate n d) i d ≡ d
+replicate-default zero i d = refl
+replicate-default (suc n) zero d = refl
+replicate-default (suc n) (suc i) d = replicate-default n i d
+
 -- a row after a store is the new one or as before
 pub row-set : {A : Type 0} (P : A → Type 0) (l : List A) (i : ℕ) (x : A) (k : ℕ) (d : A) → P x → P (getD l k d) → P (getD (set l i x) k d)
 row-set P [] i x k d p q = q

@@ -9,7 +9,7 @@ use Rattle.packet.specs.declared.Kind.{Kind}
 use Rattle.packet.specs.declared.Rule.{Rule}
 use Rattle.packet.specs.declared.Rule.the-variants.{Text, Digits, Flag, AnyText, Opaque, Absent}
 use Rattle.packet.specs.declared.Shape.{Shape}
-use Rattle.packet.specs.declared.Shape.the-variants.{Foreign, Empty, Function, Submission, WorkStatus, WorkData, Handle, Echo, OptionName, Assignment, UniqueAssignment, Error, StatusAnswer}
+use Rattle.packet.specs.declared.Shape.the-variants.{Foreign, Empty, Function, Submission, WorkStatus, WorkData, Handle, Echo, OptionName, ClientId, Assignment, UniqueAssignment, Error, StatusAnswer}
 
 -- 01, sizes: "function 1 to 32 bytes; unique 0 to 64; handle argument 1 to 63; numerator and denominator each 1 to 10 digits"
 abbrev pub function : Rule
@@ -23,6 +23,10 @@ handle = Text 1 63
 
 abbrev pub number : Rule
 number = Digits 1 10
+
+-- 02, ask 1: "SET_CLIENT_ID (type 22, 1 to 64 bytes, no zero byte, else 10)"
+abbrev pub clientId : Rule
+clientId = Text 1 64
 
 -- 01: "19 ERROR (two digits, text)"
 abbrev pub twoDigits : Rule
@@ -39,6 +43,7 @@ rulesOf WorkData = handle ∷ Opaque ∷ []
 rulesOf Handle = handle ∷ []
 rulesOf Echo = Opaque ∷ []
 rulesOf OptionName = AnyText ∷ []
+rulesOf ClientId = clientId ∷ []
 rulesOf Assignment = handle ∷ function ∷ Opaque ∷ []
 rulesOf UniqueAssignment = handle ∷ function ∷ unique ∷ Opaque ∷ []
 rulesOf Error = twoDigits ∷ AnyText ∷ []
@@ -48,7 +53,7 @@ rulesOf StatusAnswer = handle ∷ Flag ∷ Flag ∷ number ∷ number ∷ []
 unfoldable pub padded : List Rule → List Rule
 padded rs = take 5 (rs ++ replicate 5 Absent)
 
--- 01's table of requests, by number from 0; "Every other number is not served."
+-- 01's table of requests, and 02's SET_CLIENT_ID, by number from 0; 01: "Every other number is not served."
 abbrev pub served : List Shape
 served =
     Foreign  -- 0
@@ -73,7 +78,7 @@ served =
     ∷ Foreign  -- 19 ERROR
     ∷ Foreign  -- 20 STATUS_RES
     ∷ Submission  -- 21 SUBMIT_JOB_HIGH
-    ∷ Foreign  -- 22 SET_CLIENT_ID
+    ∷ ClientId  -- 22 SET_CLIENT_ID
     ∷ Foreign  -- 23 CAN_DO_TIMEOUT
     ∷ Foreign  -- 24 ALL_YOURS
     ∷ WorkData  -- 25 WORK_EXCEPTION
@@ -150,6 +155,7 @@ isOwn WorkData = true
 isOwn Handle = true
 isOwn Echo = true
 isOwn OptionName = true
+isOwn ClientId = true
 isOwn Assignment = true
 isOwn UniqueAssignment = true
 isOwn Error = true

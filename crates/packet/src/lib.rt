@@ -12,6 +12,7 @@ pub enum Shape {
     Handle, // handle
     Echo, // opaque, all of it
     OptionName, // option name
+    ClientId, // client id
     Assignment, // handle, function, opaque workload
     UniqueAssignment, // handle, function, unique, opaque workload
     Error, // two digits, text

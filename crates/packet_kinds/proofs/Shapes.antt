@@ -9,7 +9,7 @@ use lib.ListN.{length, getD}
 use types.Run.{OneOf}
 use Rattle.packet.specs.Layout.{rulesOf}
 use Rattle.packet.specs.declared.Shape.{Shape}
-use Rattle.packet.specs.declared.Shape.the-variants.{Foreign, Empty, Function, Submission, WorkStatus, WorkData, Handle, Echo, OptionName, Assignment, UniqueAssignment, Error, StatusAnswer}
+use Rattle.packet.specs.declared.Shape.the-variants.{Foreign, Empty, Function, Submission, WorkStatus, WorkData, Handle, Echo, OptionName, ClientId, Assignment, UniqueAssignment, Error, StatusAnswer}
 use Rattle.packet.proofs.Shape.{the-type}
 use Rattle.packet_kinds.proofs.Tests.{Equality, numbers, each, gives, key-arm, at-place}
 
@@ -28,6 +28,7 @@ variants =
     ∷ Handle
     ∷ Echo
     ∷ OptionName
+    ∷ ClientId
     ∷ Assignment
     ∷ UniqueAssignment
     ∷ Error
@@ -47,6 +48,7 @@ numbered-back WorkData = refl
 numbered-back Handle = refl
 numbered-back Echo = refl
 numbered-back OptionName = refl
+numbered-back ClientId = refl
 numbered-back Assignment = refl
 numbered-back UniqueAssignment = refl
 numbered-back Error = refl

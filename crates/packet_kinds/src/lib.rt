@@ -18,6 +18,8 @@ const HANDLE: Rule = Rule::Text { least: 1, most: 63 };
 
 const NUMBER: Rule = Rule::Digits { least: 1, most: 10 };
 
+const CLIENT_ID: Rule = Rule::Text { least: 1, most: 64 };
+
 const TWO_DIGITS: Rule = Rule::Digits { least: 2, most: 2 };
 
 // The 36 types and number 0, each with its way and its layout: served, sent, separators, priority, background.
@@ -44,7 +46,7 @@ const KINDS: [Kind; 37] = [
     Kind(false, true, 1, 0, false), // 19 ERROR: response; two digits, text
     Kind(false, true, 4, 0, false), // 20 STATUS_RES: response; handle, known, running, numerator, denominator
     Kind(true, false, 2, 2, false), // 21 SUBMIT_JOB_HIGH: request; function, unique, opaque workload
-    Kind(false, false, 0, 0, false), // 22 SET_CLIENT_ID: neither served nor sent
+    Kind(true, false, 0, 0, false), // 22 SET_CLIENT_ID: request; client id
     Kind(false, false, 0, 0, false), // 23 CAN_DO_TIMEOUT: neither served nor sent
     Kind(false, false, 0, 0, false), // 24 ALL_YOURS: neither served nor sent
     Kind(true, true, 1, 0, false), // 25 WORK_EXCEPTION: both; handle, opaque data
@@ -84,6 +86,7 @@ pub fn request_shape(kind: u32) -> Shape
         13 | 25 | 28..=29 => Shape::WorkData,
         14..=15 => Shape::Handle,
         16 => Shape::Echo,
+        22 => Shape::ClientId,
         26 => Shape::OptionName,
         _ => Shape::Foreign,
     }
@@ -134,6 +137,7 @@ fn rules(shape: Shape) -> [Rule; 5]
         Shape::Handle => [HANDLE, none, none, none, none],
         Shape::Echo => [opaque, none, none, none, none],
         Shape::OptionName => [Rule::AnyText, none, none, none, none],
+        Shape::ClientId => [CLIENT_ID, none, none, none, none],
         Shape::Assignment => [HANDLE, FUNCTION, opaque, none, none],
         Shape::UniqueAssignment => [HANDLE, FUNCTION, UNIQUE, opaque, none],
         Shape::Error => [TWO_DIGITS, Rule::AnyText, none, none, none],
@@ -158,7 +162,7 @@ pub fn count_of(shape: Shape) -> usize
 {
     match shape {
         Shape::Foreign | Shape::Empty => 0,
-        Shape::Function | Shape::Handle | Shape::Echo | Shape::OptionName => 1,
+        Shape::Function | Shape::Handle | Shape::Echo | Shape::OptionName | Shape::ClientId => 1,
         Shape::WorkData | Shape::Error => 2,
         Shape::Submission | Shape::WorkStatus | Shape::Assignment => 3,
         Shape::UniqueAssignment => 4,

@@ -1,5 +1,5 @@
--- Packets computed by the definitions: those of document 000, "Binary Protocol Example", and the edges of the sizes in document 01.
--- Assumes nothing.
+-- Packets computed by the definitions: those of document 000, "Binary Protocol Example", and the edges of the sizes in documents 01
+-- and 02. Assumes nothing.
 use Prim.Native.Nat.{ℕ}
 use mathlib.Core.Path.{_≡_, refl}
 use mathlib.Core.List.{[], _∷_, _++_}
@@ -117,12 +117,15 @@ not-served = refl
 
 -- ---- the edges of the sizes
 
--- a request of n function bytes; a submission with n unique bytes; an echo of n bytes
+-- a request of n function bytes; a submission with n unique bytes; a client id of n bytes; an echo of n bytes
 abbrev functionOf : ℕ → Bytes
 functionOf n = req 1 n (replicate n 102)
 
 abbrev uniqueOf : ℕ → Bytes
 uniqueOf n = packet (requests .magic) 7 (reverse ++ (0 ∷ (replicate n 117 ++ (0 ∷ test))))
+
+abbrev clientIdOf : ℕ → Bytes
+clientIdOf n = req 22 n (replicate n 105)
 
 abbrev echoOf : ℕ → Bytes
 echoOf n = packet (requests .magic) 16 (replicate n 0)
@@ -146,6 +149,27 @@ unique-64 = refl
 unique-65 : read requests (uniqueOf 65) ≡ refused 10
 unfolding compute
 unique-65 = refl
+
+-- 02, ask 1: "SET_CLIENT_ID (type 22, 1 to 64 bytes, no zero byte, else 10)"
+client-id-0 : read requests (clientIdOf 0) ≡ refused 10
+unfolding compute
+client-id-0 = refl
+
+client-id-1 : read requests (clientIdOf 1) ≡ got 22 ((105 ∷ []) ∷ [])
+unfolding compute
+client-id-1 = refl
+
+client-id-64 : read requests (clientIdOf 64) ≡ got 22 (replicate 64 105 ∷ [])
+unfolding compute
+client-id-64 = refl
+
+client-id-65 : read requests (clientIdOf 65) ≡ refused 10
+unfolding compute
+client-id-65 = refl
+
+client-id-zero : read requests (req 22 3 (105 ∷ 0 ∷ 100 ∷ [])) ≡ refused 10
+unfolding compute
+client-id-zero = refl
 
 size-1024 : read requests (echoOf 1024) ≡ got 16 (replicate 1024 0 ∷ [])
 unfolding compute

@@ -15,7 +15,7 @@ use Rattle.octets.proofs.Strings.{and-left, and-right, and-both, same-is, zero-
 use Rattle.packet.specs.declared.Rule.{Rule}
 use Rattle.packet.specs.declared.Rule.the-variants.{Text, Digits, Flag, AnyText, Opaque, Absent}
 use Rattle.packet.specs.declared.Shape.{Shape}
-use Rattle.packet.specs.declared.Shape.the-variants.{Foreign, Empty, Function, Submission, WorkStatus, WorkData, Handle, Echo, OptionName, Assignment, UniqueAssignment, Error, StatusAnswer}
+use Rattle.packet.specs.declared.Shape.the-variants.{Foreign, Empty, Function, Submission, WorkStatus, WorkData, Handle, Echo, OptionName, ClientId, Assignment, UniqueAssignment, Error, StatusAnswer}
 use Rattle.packet.specs.Layout.{rulesOf}
 use Rattle.packet.specs.Arguments.{digits, fits, fitAll, join, Parts, bad, parts, front, split}
 use Rattle.packet.specs.Opaque.{isOpaque}
@@ -40,6 +40,7 @@ shapes-plain WorkData = refl
 shapes-plain Handle = refl
 shapes-plain Echo = refl
 shapes-plain OptionName = refl
+shapes-plain ClientId = refl
 shapes-plain Assignment = refl
 shapes-plain UniqueAssignment = refl
 shapes-plain Error = refl

@@ -13,7 +13,7 @@ use Rattle.packet.specs.declared.Ends.{Ends}
 use Rattle.packet.specs.declared.Read as R
 use Rattle.packet.specs.declared.Rule.{Rule}
 use Rattle.packet.specs.declared.Shape.{Shape}
-use Rattle.packet.specs.declared.Shape.the-variants.{Foreign, Empty, Function, Submission, WorkStatus, WorkData, Handle, Echo, OptionName, Assignment, UniqueAssignment, Error, StatusAnswer}
+use Rattle.packet.specs.declared.Shape.the-variants.{Foreign, Empty, Function, Submission, WorkStatus, WorkData, Handle, Echo, OptionName, ClientId, Assignment, UniqueAssignment, Error, StatusAnswer}
 use Rattle.packet.specs.Layout.{rulesOf}
 use Rattle.packet.specs.Arguments.{fits, fitAll, endsOf}
 use Rattle.packet.specs.Packet.{Direction, Reading, refused, got, read}
@@ -41,6 +41,7 @@ rules-few WorkData = omega arith
 rules-few Handle = omega arith
 rules-few Echo = omega arith
 rules-few OptionName = omega arith
+rules-few ClientId = omega arith
 rules-few Assignment = omega arith
 rules-few UniqueAssignment = omega arith
 rules-few Error = omega arith

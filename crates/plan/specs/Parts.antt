@@ -9,7 +9,7 @@ use Rattle.octets.specs.Bytes.{Bytes}
 use Rattle.sets.specs.Sets.{remove, members}
 use Rattle.server.specs.declared.Connection.{Connection}
 use Rattle.server.specs.declared.JobRow.{JobRow}
-use Rattle.server.specs.Table.{Function, Job, Table, noRow, noJob, noFunction, closed, jobAt, functionAt, setFunction, setJob, withRow, withTexts, withHolder, live, heldBy, withLastSerial, withConnections, withFunctions, withJobs, withName, withAble, freshRow, unstarted}
+use Rattle.server.specs.Table.{Function, Job, Table, noRow, noJob, noFunction, closed, jobAt, functionAt, setId, setFunction, setJob, withRow, withTexts, withHolder, live, heldBy, withLastSerial, withConnections, withFunctions, withJobs, withName, withAble, freshRow, unstarted}
 use Rattle.server.specs.Events.{Send, plain, copy, assign, created, statusOf, exceptionsName, submittedBy, deafTo}
 use Rattle.plan.specs.declared.Values as V′
 use Rattle.plan.specs.declared.Change as C′
@@ -62,7 +62,8 @@ changed (CV.Name q) a b d t = setFunction t q (withName a (functionAt t q))
 changed (CV.Job p q) a b d t =
     setJob (setFunction t q (withName a (functionAt t q))) p (unstarted (jobAt t p .row) b)
 changed (CV.Texts p) a b d t = setJob t p (withTexts b d (jobAt t p))
-changed (CV.Left c) a b d t = withJobs (map (λ j. cond (heldBy c (j .row)) (withTexts (48 ∷ []) (48 ∷ []) j) j) (t .jobs)) t
+changed (CV.Id c) a b d t = setId t c a
+changed (CV.Left c) a b d t = setId (withJobs (map (λ j. cond (heldBy c (j .row)) (withTexts (48 ∷ []) (48 ∷ []) j) j) (t .jobs)) t) c []
 
 -- a free row has no texts
 abbrev pub rowed : JobRow → Job → Job

@@ -9,7 +9,7 @@ use Rattle.sets.specs.Sets.{insert, remove}
 use Rattle.server.specs.declared.Connection.{Connection}
 use Rattle.lists.specs.Lists.{find}
 use Rattle.server.specs.Table.{Table, withHolder, hasHandle, known, roomFor, best, freePlace, joined, justOpened, withAsleep}
-use Rattle.server.specs.Requests.{Work, tells, reports, ends, throws, Request, reset, preSleep, echo, bad, canDo, cantDo, grab, submit, work, getStatus, option}
+use Rattle.server.specs.Requests.{Work, tells, reports, ends, throws, Request, reset, preSleep, echo, bad, canDo, cantDo, identify, grab, submit, work, getStatus, option}
 use Rattle.server.specs.Events.{exceptionsName, catching, submittedBy, holdsHandle}
 use Rattle.plan.specs.declared.Values as V′
 use Rattle.plan.specs.declared.Change as C′
@@ -74,6 +74,9 @@ abbrev pub planOption : Bool → ℕ → V′.Values → Plan
 planOption false c v = refusal 15
 planOption true c v = done (SV.Flags c (catching (connectionIn v c))) CV.Nothing OV.Optioned
 
+abbrev pub planIdentify : ℕ → Plan
+planIdentify c = done SV.Nothing (CV.Id c) OV.Nothing
+
 -- an open, and a close
 abbrev pub planOpening : ℕ → Plan
 planOpening c = done (SV.Flags c justOpened) CV.Nothing OV.Nothing
@@ -86,6 +89,7 @@ unfoldable pub planServed : ℕ → Request → Table → Plan
 planServed c (bad n) t = refusal n
 planServed c (canDo f) t = planCanDo (roomFor (t .functions) f) c (valuesOf t)
 planServed c (cantDo f) t = planCantDo (known (t .functions) f) c (valuesOf t)
+planServed c (identify i) t = planIdentify c
 planServed c reset t = done (SV.Reset c) CV.Nothing OV.Nothing
 planServed c preSleep t = done (SV.Flags c (sleepingRow true c (valuesOf t))) CV.Nothing OV.Nothing
 planServed c (grab uniq) t = planGrab (best t c) uniq c (valuesOf t)

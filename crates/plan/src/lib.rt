@@ -23,7 +23,8 @@ pub enum Change {
     Name { function: usize }, // the function's name is put at its place
     Job { place: usize, function: usize }, // a new job: the function's name, its unique, `0` and `0`
     Texts { place: usize }, // WORK_STATUS: the two texts as they came
-    Left { connection: usize }, // the jobs that the connection held: `0` and `0`
+    Id { connection: usize }, // SET_CLIENT_ID: the client id as it came
+    Left { connection: usize }, // a close: `0` and `0` for the jobs that the connection held, and no client id
 }
 
 // The packets that an event sends before any NOOP: all to the sender, but copies, which go to a set.

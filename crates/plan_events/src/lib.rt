@@ -1,5 +1,5 @@
-// What the rest of the events come to, as plans: abilities and sleep of a connection, open and close, worker packets, status and
-// options. An inner crate: it asks for all of the table's bytes, and refuses nothing; a plan carries the number of a refusal.
+// What the rest of the events come to, as plans: abilities, sleep and client id of a connection, open and close, worker packets, status
+// and options. An inner crate: it asks for all of the table's bytes, and refuses nothing; a plan carries the number of a refusal.
 use lists::Place;
 use plan::Change;
 use plan::Order;
@@ -20,7 +20,7 @@ ghost use Rattle.lists.specs.Places.{unplaced};
 ghost use Rattle.plan.specs.Values.{valuesOf};
 ghost use Rattle.plan.specs.Parts as P;
 ghost use Rattle.plan.specs.declared.Step.the-variants as SV;
-ghost use Rattle.plan.specs.Plans.{planClosing, planOpening, planOption, planStatus, planWork, sleepingRow};
+ghost use Rattle.plan.specs.Plans.{planClosing, planIdentify, planOpening, planOption, planStatus, planWork, sleepingRow};
 ghost use Rattle.plan.specs.Plans as B;
 ghost use Rattle.plan_events.specs.Works.{workOf};
 
@@ -57,6 +57,13 @@ pub fn pre_sleep(table: &[u8], c: usize) -> Plan
         Change::Nothing,
         Order::Nothing,
     )
+}
+
+// SET_CLIENT_ID.
+pub fn identify(c: usize) -> Plan
+    ensures { λ r. ⌜ r ≡ planIdentify c ⌝ }
+{
+    plan_jobs::done(Step::Nothing, Change::Id { connection: c }, Order::Nothing)
 }
 
 // Opening a connection.

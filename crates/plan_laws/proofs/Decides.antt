@@ -16,14 +16,14 @@ use Rattle.lists.specs.Lists.{find, filter}
 use Rattle.lists.proofs.Maps.{map-set, map-map, filter-all}
 use Rattle.lists.proofs.Rows.{clash}
 use Rattle.server.specs.declared.JobRow.{JobRow}
-use Rattle.server.specs.Table.{Function, Job, Table, noRow, noJob, noFunction, closed, connectionAt, functionAt, jobAt, rowsOf, ablesOf, setConnection, setFunction, setJob, withRow, withTexts, withHolder, live, heldBy, joined, withName}
+use Rattle.server.specs.Table.{Function, Job, Table, noRow, noJob, noFunction, closed, connectionAt, functionAt, jobAt, rowsOf, ablesOf, setConnection, setId, setFunction, setJob, withRow, withTexts, withHolder, live, heldBy, joined, withName}
 use Rattle.server.specs.Rules.{obeys}
-use Rattle.server.specs.Requests.{Work, tells, reports, ends, throws, Request, reset, preSleep, echo, bad, canDo, cantDo, grab, submit, work, getStatus, option}
+use Rattle.server.specs.Requests.{Work, tells, reports, ends, throws, Request, reset, preSleep, echo, bad, canDo, cantDo, identify, grab, submit, work, getStatus, option}
 use Rattle.server.specs.Events.{Send, plain, copy, Decision, refuse, noop, settle, opening, closing, leftBy, deafTo, unable, ableTo, unableToAll, sleeping, submittedBy, created, newJob, accepted, holdsHandle, hears, worked, listenersOf, statusOf, exceptionsName, catching, served, toWakeIn}
 use Rattle.server.specs.Refusals.{lastNumber}
 use Rattle.server_laws.proofs.Numbers.{row-at, able-at}
 use Rattle.server_laws.proofs.Going.{grabbed-live, joined-found, held-found}
-use Rattle.server_laws.proofs.Outcome.{Change, able, unknown, disabled, cleared, slept, noJobFor, grabbed, joins, accepts, worker, status, optioned, echoed, Refuses, unread, noRoom, noPlace, noSerial, notHeld, noOption}
+use Rattle.server_laws.proofs.Outcome.{Change, able, unknown, disabled, identified, cleared, slept, noJobFor, grabbed, joins, accepts, worker, status, optioned, echoed, Refuses, unread, noRoom, noPlace, noSerial, notHeld, noOption}
 use Rattle.server_laws.proofs.Outcome as O
 use Rattle.plan.specs.declared.Values as V′
 use Rattle.plan.specs.declared.Plan.{Plan}
@@ -68,6 +68,7 @@ pub data Suits (w : Words) : Request → Type 0 where
   for-bad : (n : ℕ) → 1 ≤ n → n ≤ lastNumber → Suits w (bad n)
   for-can : Suits w (canDo (w .first))
   for-cannot : (f : Bytes) → Suits w (cantDo f)
+  for-id : Suits w (identify (w .first))
   for-grab : (uniq : Bool) → Suits w (grab uniq)
   for-submit : (priority : ℕ) (background : Bool) (size : ℕ) → Suits w (submit priority background (w .first) (w .second) size)
   for-work : {how : Work} {n d : Bytes} (h : Bytes) → Says w how n d → Suits w (work how (w .kind) h n d)
@@ -158,19 +159,19 @@ module _ (w : Words) (c : ℕ) (t : Table) (ok : obeys t ≡ true) where
   unfolding planWork changed ordered valuesOf stepped
   p-work h (that-tells n d) p e =
       by-parts w c t (setJob t p (jobAt t p)) _ SV.Nothing CV.Nothing _ (same-rows p (jobAt t p) refl)
-      (record { functions = texts .functions; jobs = left-set SameJob p noJob _ (live-same (jobAt t p) (held-found t c h p e)) (texts .jobs) })
+      (record { ids = refl; functions = texts .functions; jobs = left-set SameJob p noJob _ (live-same (jobAt t p) (held-found t c h p e)) (texts .jobs) })
       (to-all (w .kind) p)
   p-work h that-reports p e =
       by-parts w c t (setJob t p (withTexts (w .second) (w .third) (jobAt t p))) _ SV.Nothing (CV.Texts p) _ (same-rows p (withTexts (w .second) (w .third) (jobAt t p)) refl)
-      (record { functions = texts .functions; jobs = both-set SameJob p _ _ (live-same (withTexts (w .second) (w .third) (jobAt t p)) (held-found t c h p e)) (texts .jobs) })
+      (record { ids = refl; functions = texts .functions; jobs = both-set SameJob p _ _ (live-same (withTexts (w .second) (w .third) (jobAt t p)) (held-found t c h p e)) (texts .jobs) })
       (to-all (w .kind) p)
   p-work h (that-ends n d) p e =
       by-parts w c t (setJob t p noJob) _ (SV.End p) CV.Nothing _ (other-rows (valuesOf t) p noJob noRow refl)
-      (record { functions = texts .functions; jobs = left-set SameJob p noJob _ (gone-same (jobAt t p)) (texts .jobs) })
+      (record { ids = refl; functions = texts .functions; jobs = left-set SameJob p noJob _ (gone-same (jobAt t p)) (texts .jobs) })
       (to-all (w .kind) p)
   p-work h (that-throws n d) p e =
       by-parts w c t (setJob t p noJob) _ (SV.End p) CV.Nothing _ (other-rows (valuesOf t) p noJob noRow refl)
-      (record { functions = texts .functions; jobs = left-set SameJob p noJob _ (gone-same (jobAt t p)) (texts .jobs) })
+      (record { ids = refl; functions = texts .functions; jobs = left-set SameJob p noJob _ (gone-same (jobAt t p)) (texts .jobs) })
       (to-some (w .kind) p)
 
   p-status : (o : Option ℕ) → Planned w c t (planStatus o) (settle (plain c 20 (statusOf o (w .job) t) ∷ []) t)
@@ -183,29 +184,30 @@ module _ (w : Words) (c : ℕ) (t : Table) (ok : obeys t ≡ true) where
   change-planned (able f q e) for-can =
       by-parts w c t (setFunction t q (ableTo c f (functionAt t q))) [] _ (CV.Name q) OV.Nothing
       (able-values q (ableTo c f (functionAt t q)) (insert (getD (ablesOf t) q 0) c) (ap (λ (s : ℕ). insert s c) (sym (able-at t q))))
-      (record { functions = both-set SameName q _ _ refl (texts .functions); jobs = texts .jobs })
+      (record { ids = refl; functions = both-set SameName q _ _ refl (texts .functions); jobs = texts .jobs })
       refl
   change-planned (unknown f e) (for-cannot g) = by-parts w c t t [] SV.Nothing CV.Nothing OV.Nothing refl texts refl
   change-planned (disabled f q e) (for-cannot g) =
       by-parts w c t (setFunction t q (unable c (functionAt t q))) [] _ CV.Nothing OV.Nothing
       (able-values q (unable c (functionAt t q)) (remove (getD (ablesOf t) q 0) c) (ap (λ (s : ℕ). remove s c) (sym (able-at t q))))
-      (record { functions = left-set SameName q noFunction _ refl (texts .functions); jobs = texts .jobs })
+      (record { ids = refl; functions = left-set SameName q noFunction _ refl (texts .functions); jobs = texts .jobs })
       refl
+  change-planned (identified i) for-id = by-parts w c t (setId t c (w .first)) [] SV.Nothing (CV.Id c) OV.Nothing refl (record { ids = refl; functions = texts .functions; jobs = texts .jobs }) refl
   change-planned cleared for-reset =
       by-parts w c t (unableToAll c t) [] (SV.Reset c) CV.Nothing OV.Nothing (ap (λ (l : List ℕ). withAbles l (valuesOf t)) unables)
-      (record { functions = left-map SameName (unable c) (λ a b e. e) (texts .functions); jobs = texts .jobs })
+      (record { ids = refl; functions = left-map SameName (unable c) (λ a b e. e) (texts .functions); jobs = texts .jobs })
       refl
-  change-planned slept for-sleep = by-parts w c t (sleeping true c t) [] _ CV.Nothing OV.Nothing refl (record { functions = texts .functions; jobs = texts .jobs }) refl
-  change-planned (noJobFor uniq e) (for-grab v) = by-parts w c t (sleeping false c t) _ _ CV.Nothing OV.NoJob refl (record { functions = texts .functions; jobs = texts .jobs }) refl
+  change-planned slept for-sleep = by-parts w c t (sleeping true c t) [] _ CV.Nothing OV.Nothing refl (record { ids = refl; functions = texts .functions; jobs = texts .jobs }) refl
+  change-planned (noJobFor uniq e) (for-grab v) = by-parts w c t (sleeping false c t) _ _ CV.Nothing OV.NoJob refl (record { ids = refl; functions = texts .functions; jobs = texts .jobs }) refl
   change-planned (grabbed uniq p e) (for-grab v) =
       by-parts w c t (setJob (sleeping false c t) p (withRow (withHolder (suc c) (jobAt t p .row)) (jobAt t p))) _ _ CV.Nothing (OV.Assign uniq p)
       (other-rows (valuesOf (sleeping false c t)) p (withRow (withHolder (suc c) (jobAt t p .row)) (jobAt t p)) _ (ap (withHolder (suc c)) (sym (row-at t p))))
-      (record { functions = texts .functions; jobs = left-set SameJob p noJob _ (rowed-same (jobAt t p) _ (grabbed-live t c p e)) (texts .jobs) })
+      (record { ids = refl; functions = texts .functions; jobs = left-set SameJob p noJob _ (rowed-same (jobAt t p) _ (grabbed-live t c p e)) (texts .jobs) })
       refl
   change-planned (joins priority background f u size p e) (for-submit priority′ background′ size′) =
       by-parts w c t (setJob t p (withRow (submittedBy c background (jobAt t p .row)) (jobAt t p))) _ _ CV.Nothing (OV.Created _)
       (other-rows (valuesOf t) p (withRow (submittedBy c background (jobAt t p .row)) (jobAt t p)) _ (ap (submittedBy c background) (sym (row-at t p))))
-      (record { functions = texts .functions; jobs = left-set SameJob p noJob _ (rowed-same (jobAt t p) _ (submitted-live c background (jobAt t p .row) ∙ joined-found t f u p e)) (texts .jobs) })
+      (record { ids = refl; functions = texts .functions; jobs = left-set SameJob p noJob _ (rowed-same (jobAt t p) _ (submitted-live c background (jobAt t p .row) ∙ joined-found t f u p e)) (texts .jobs) })
       (ap (λ (r : JobRow). created c (r .serial) ∷ []) (row-at t p))
   change-planned (accepts priority background f u size q p e₁ e₂ e₃ m) (for-submit priority′ background′ size′) =
       by-parts w c t (accepted q f p (newJob c priority background q u size (suc (t .last))) t) _ _ (CV.Job p q) (OV.Created (suc (t .last)))
@@ -213,6 +215,7 @@ module _ (w : Words) (c : ℕ) (t : Table) (ok : obeys t ≡ true) where
       (withAbles (map-set-same (λ (x : Function). x .able) (t .functions) q (withName f (functionAt t q)) noFunction refl i)
       (withRows (map-set (λ (j : Job). j .row) (t .jobs) p (newJob c priority background q u size (suc (t .last))) i) (valuesOf t))))
       (record {
+        ids = refl;
         functions = both-set SameName q _ _ refl (texts .functions);
         jobs = both-set SameJob p _ _ (record { unfinished = λ e. refl; free = λ e. clash (submitted-live c background _ ∙ ap not (eqb·suc-zero (t .last))) e }) (texts .jobs);
       })
@@ -220,7 +223,7 @@ module _ (w : Words) (c : ℕ) (t : Table) (ok : obeys t ≡ true) where
   change-planned (worker how kind h n d p e) (for-work h′ s) = p-work h s p e
   change-planned (status h o e) for-status = p-status o
   change-planned (optioned name e) (for-option name′) =
-      by-parts w c t (setConnection t c (catching (connectionAt t c))) _ _ CV.Nothing OV.Optioned refl (record { functions = texts .functions; jobs = texts .jobs })
+      by-parts w c t (setConnection t c (catching (connectionAt t c))) _ _ CV.Nothing OV.Optioned refl (record { ids = refl; functions = texts .functions; jobs = texts .jobs })
       (ap (λ (b : Bytes). plain c 27 (b ∷ []) ∷ []) (sym (same-is name exceptionsName e)))
   change-planned echoed for-echo = by-parts w c t t _ SV.Nothing CV.Nothing OV.Echo refl texts refl
 
@@ -247,7 +250,7 @@ module _ (w : Words) (c : ℕ) (t : Table) (ok : obeys t ≡ true) where
 
   pub opening-planned : Planned w c t (planOpening c) (settle [] (opening c t))
   unfolding opening changed ordered valuesOf stepped
-  opening-planned = by-parts w c t (opening c t) _ _ CV.Nothing OV.Nothing refl (record { functions = texts .functions; jobs = texts .jobs }) refl
+  opening-planned = by-parts w c t (opening c t) _ _ CV.Nothing OV.Nothing refl (record { ids = refl; functions = texts .functions; jobs = texts .jobs }) refl
 
   left-row : (j : Job) → leftBy c j .row ≡ leftRow c (j .row)
   left-row j = go (heldBy c (j .row))
@@ -263,5 +266,5 @@ module _ (w : Words) (c : ℕ) (t : Table) (ok : obeys t ≡ true) where
       by-parts w c t (closing c t) _ (SV.Leave c) (CV.Left c) OV.Nothing
       (λ i. withConnection c closed (withAbles (unables i)
       (withRows ((map-map (λ (j : Job). j .row) (leftBy c) (λ j. leftRow c (j .row)) left-row (t .jobs) ∙ sym (map-map (leftRow c) (λ (j : Job). j .row) (λ j. leftRow c (j .row)) (λ j. refl) (t .jobs))) i) (valuesOf t))))
-      (record { functions = left-map SameName (unable c) (λ a b e. e) (texts .functions); jobs = left-jobs c (texts .jobs) })
+      (record { ids = refl; functions = left-map SameName (unable c) (λ a b e. e) (texts .functions); jobs = left-jobs c (texts .jobs) })
       refl

@@ -11,9 +11,9 @@ use Rattle.octets.specs.Bytes.{Bytes, same}
 use Rattle.lists.specs.Lists.{find}
 use Rattle.lists.proofs.Cases.{cond-cases}
 use Rattle.server.specs.Table.{Table, hasHandle, known, roomFor, best, freePlace, joined}
-use Rattle.server.specs.Requests.{Work, Request, reset, preSleep, echo, bad, canDo, cantDo, grab, submit, work, getStatus, option}
+use Rattle.server.specs.Requests.{Work, Request, reset, preSleep, echo, bad, canDo, cantDo, identify, grab, submit, work, getStatus, option}
 use Rattle.server.specs.Events.{Send, Decision, refuse, settle, created, newJob, accepted, canDoAt, cantDoAt, grabAt, submitNew, submitTo, holdsHandle, workAt, statusAt, exceptionsName, optionIf, served}
-use Rattle.server_laws.proofs.Outcome.{Change, able, unknown, disabled, cleared, slept, noJobFor, grabbed, joins, accepts, worker, status, optioned, echoed, Refuses, unread, noRoom, noFunction, noPlace, noSerial, notHeld, noOption}
+use Rattle.server_laws.proofs.Outcome.{Change, able, unknown, disabled, identified, cleared, slept, noJobFor, grabbed, joins, accepts, worker, status, optioned, echoed, Refuses, unread, noRoom, noFunction, noPlace, noSerial, notHeld, noOption}
 use Rattle.plan.specs.declared.Plan.{Plan}
 use Rattle.plan.specs.declared.Step.the-variants as SV
 use Rattle.plan.specs.declared.Change.the-variants as CV
@@ -21,7 +21,7 @@ use Rattle.plan.specs.declared.Order.the-variants as OV
 use Rattle.plan.specs.Values.{valuesOf}
 use Rattle.plan.specs.Parts.{newRow}
 use Rattle.plan.specs.Plans as P
-use Rattle.plan.specs.Plans.{refusal, sleepingRow, planCanDo, planCantDo, planGrab, planNew, planJoin, planSubmit, planWork, planStatus, planOption, planServed}
+use Rattle.plan.specs.Plans.{refusal, sleepingRow, planCanDo, planCantDo, planGrab, planNew, planJoin, planSubmit, planWork, planStatus, planOption, planIdentify, planServed}
 
 module _ (c : ℕ) (t : Table) where
   -- the plan of a change
@@ -29,6 +29,7 @@ module _ (c : ℕ) (t : Table) where
   planOf (able f q e) = planCanDo (some q) c (valuesOf t)
   planOf (unknown f e) = planCantDo none c (valuesOf t)
   planOf (disabled f q e) = planCantDo (some q) c (valuesOf t)
+  planOf (identified i) = planIdentify c
   planOf cleared = P.done (SV.Reset c) CV.Nothing OV.Nothing
   planOf slept = P.done (SV.Flags c (sleepingRow true c (valuesOf t))) CV.Nothing OV.Nothing
   planOf (noJobFor uniq e) = planGrab none uniq c (valuesOf t)
@@ -102,6 +103,7 @@ module _ (c : ℕ) (t : Table) where
   draws (bad n) = refused _ _ (unread n)
   draws (canDo f) = d-canDo f (roomFor (t .functions) f) refl
   draws (cantDo f) = d-cantDo f (known (t .functions) f) refl
+  draws (identify i) = done (identified i)
   draws reset = done cleared
   draws preSleep = done slept
   draws (grab uniq) = d-grab uniq (best t c) refl

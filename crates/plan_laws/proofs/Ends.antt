@@ -8,6 +8,7 @@ use native.Mathlib.Decide.{ℕ-discrete}
 use borrow.Author.Tests.{eq-eqb, eqb-true}
 use lib.ListN.{length, getD, set, length-set}
 use lib.Seq.{getD-set-same, getD-set-other, ext-getD}
+use Rattle.octets.specs.Bytes.{Bytes}
 use Rattle.octets.proofs.Strings.{and-left, and-right, and-both, and-false}
 use Rattle.sets.specs.Sets.{has, isEmpty, members}
 use Rattle.sets.proofs.Laws.{zero-has}
@@ -19,7 +20,7 @@ use Rattle.lists.proofs.Maps.{map-set}
 use Rattle.lists.proofs.Rows.{clash, never, iff, all-set, any-at, any-where, length-mapFrom, mapFrom-at}
 use Rattle.server.specs.declared.Connection.{Connection}
 use Rattle.server.specs.declared.JobRow.{JobRow}
-use Rattle.server.specs.Table.{Function, Job, Table, closed, noJob, noRow, noFunction, connectionAt, functionAt, jobAt, rowsOf, ablesOf, queued, names, wanted, able, grabbable, withConnections, withFunctions, setConnection, setJob}
+use Rattle.server.specs.Table.{Function, Job, Table, closed, noJob, noRow, noFunction, connectionAt, functionAt, jobAt, rowsOf, ablesOf, queued, names, wanted, able, grabbable, withConnections, withIds, withFunctions, setConnection, setJob}
 use Rattle.server.specs.Events.{dropped, wakes, awake, wokenIn, woken, forgot, toWakeIn, toWake}
 use Rattle.server.specs.Rules.{queuedAwaited}
 use Rattle.server_laws.proofs.Numbers.{row-at, able-at, rows-long, row-passes, row-where}
@@ -117,9 +118,10 @@ module _ (t : Table) (o : Obeyed t) where
 
   -- ---- nothing
 
-  pub nothing-settles : Settles t (record { woken = 0; forgotten = Nowhere })
-  nothing-settles =
-      record { awaited = o .awaited; rouses = λ c l. sleeps t c l (λ e. e) (λ e. e); keeps = λ q h. all-kept (rowsOf t) q refl }
+  -- but client ids
+  pub nothing-settles : (is : List Bytes) → Settles (withIds is t) (record { woken = 0; forgotten = Nowhere })
+  nothing-settles is =
+      record { awaited = o .awaited; rouses = λ c l. sleeps (withIds is t) c l (λ e. e) (λ e. e); keeps = λ q h. all-kept (rowsOf t) q refl }
 
   -- ---- one job, which is no more grabbable than before; and a connection may stop sleeping
 

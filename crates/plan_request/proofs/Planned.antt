@@ -42,7 +42,7 @@ use Rattle.plan.specs.declared.Change.the-variants as CV
 use Rattle.plan.specs.declared.Order.the-variants as OV
 use Rattle.lists.specs.Places.{placed, unplaced}
 use Rattle.plan.specs.Values.{valuesOf, serialRow, heldRow}
-use Rattle.plan.specs.Plans.{sleepingRow, done, planCanDo, planCantDo, planGrab, planSubmit, planWork, planStatus, planOption, planServed}
+use Rattle.plan.specs.Plans.{sleepingRow, done, planCanDo, planCantDo, planGrab, planIdentify, planSubmit, planWork, planStatus, planOption, planServed}
 use Rattle.plan.proofs.Numbers.{serial-values, held-values, serial-none, held-none}
 use Rattle.server_laws.proofs.Requests.{Good, Submitted}
 use Rattle.lists.proofs.Rows.{clash}
@@ -163,6 +163,10 @@ module _ (b p : Bytes) (c kind : ℕ) (ends : Ends) (e : answerOf (read requests
   pub plan-reset : (r : Plan) → kind ≡ 3 → r ≡ done (SV.Reset c) CV.Nothing OV.Nothing → Answers r
   unfolding requested planServed
   plan-reset r q h = typed 3 r q h
+
+  pub plan-identify : (r : Plan) → kind ≡ 22 → r ≡ planIdentify c → Answers r
+  unfolding requested planServed
+  plan-identify r q h = typed 22 r q h
 
   pub plan-pre-sleep : (r : Plan) → kind ≡ 4 → r ≡ done (SV.Flags c (sleepingRow true c v)) CV.Nothing OV.Nothing → Answers r
   unfolding requested planServed

@@ -100,6 +100,7 @@ pub fn plan_request(table: &[u8], c: usize, kind: u32, packet: &[u8], ends: Ends
         13..=14 => plan_events::worked(table, held(table, c, first), Work::Ends), // WORK_COMPLETE, WORK_FAIL
         15 => plan_events::status(found(table, first)), // GET_STATUS
         16 => plan_jobs::done(Step::Nothing, Change::Nothing, Order::Echo), // ECHO_REQ
+        22 => plan_events::identify(c), // SET_CLIENT_ID
         25 => plan_events::worked(table, held(table, c, first), Work::Throws), // WORK_EXCEPTION
         26 => plan_events::option(table, octets::equal(first, b"exceptions"), c), // OPTION_REQ
         28..=29 => plan_events::worked(table, held(table, c, first), Work::Tells), // WORK_DATA, WORK_WARNING

@@ -9,7 +9,7 @@ use Rattle.packet.specs.Arguments.{fits, fitAll, join, split}
 use Rattle.packet.specs.Packet.{packet, header, body, read, requests, responses}
 use Rattle.packet.specs.Opaque.{hasZeros, past, hides, seen, visible, opaque, masked}
 use Rattle.server.specs.Sizes.{connectionCount}
-use Rattle.server.specs.Table.{fresh, hasHandle, rank, bestRow, freeRow, joined}
+use Rattle.server.specs.Table.{Table, fresh, hasHandle, rank, bestRow, freeRow, joined}
 use Rattle.server.specs.Requests.{Event, sends, requested, requestIn}
 use Rattle.server.specs.Refusals.{isTold}
 use Rattle.server.specs.Events.{silence, refuse, dropped, wokenIn, toWakeIn, forgot, settle, opening, closing, canDoAt, cantDoAt, unableToAll, sleeping, grabAt, submitNew, submitTo, holdsHandle, workAt, statusAt, optionIf, served, onlyIfOpen, onlyIfClosed}
@@ -32,10 +32,19 @@ numberOf a = a .number
 abbrev sentOf : Answer → List Sent
 sentOf a = a .sent
 
--- from any server on
-unfoldable pub answeredFrom : Server → List Event → List Answer
+-- from any server on: the answers, and the server afterwards
+unfoldable pub ranFrom : Server → List Event → List Answer × Server
 unfolding same startsWith firstZero every has insert remove members handle decimal decimalIn rulesOf requestShape responseShape priorityOf backgroundOf fits fitAll join split packet header body read hasZeros past hides seen visible opaque masked hasHandle rank bestRow freeRow joined requested requestIn isTold silence refuse dropped wokenIn toWakeIn forgot settle opening closing canDoAt cantDoAt unableToAll sleeping grabAt submitNew submitTo holdsHandle workAt statusAt optionIf served onlyIfOpen onlyIfClosed shownBy opaqueOf render decided next answer after answers
-answeredFrom s h = answers s h
+ranFrom s h = (answers s h, after s h)
+
+unfoldable pub answeredFrom : Server → List Event → List Answer
+unfolding ranFrom
+answeredFrom s h = ranFrom s h .0
+
+-- the table that a history of a fresh server of the product leaves
+unfoldable pub tableAfter : List Event → Table
+unfolding ranFrom fresh start
+tableAfter h = ranFrom (start connectionCount) h .1 .table
 
 unfoldable pub answered : List Event → List Answer
 unfolding answeredFrom fresh start

@@ -12,9 +12,9 @@ use Rattle.sets.specs.Sets.{insert, remove, isEmpty, members}
 use Rattle.server.specs.declared.Connection.{Connection}
 use Rattle.server.specs.declared.JobRow.{JobRow}
 use Rattle.lists.specs.Lists.{any, find, filter, mapFrom, numbers}
-use Rattle.server.specs.Table.{Function, Job, Table, closed, noFunction, noJob, connectionAt, functionAt, jobAt, withLastSerial, withConnections, withFunctions, withJobs, setConnection, setFunction, setJob, justOpened, withAsleep, withExceptions, withName, withAble, freshRow, withListeners, inBackground, withHolder, withRow, withTexts, unstarted, queued, heldBy, hasHandle, rowsOf, ablesOf, known, roomFor, wanted, grabbable, best, freePlace, joined}
+use Rattle.server.specs.Table.{Function, Job, Table, closed, noFunction, noJob, connectionAt, functionAt, jobAt, withLastSerial, withConnections, withFunctions, withJobs, setConnection, setId, setFunction, setJob, justOpened, withAsleep, withExceptions, withName, withAble, freshRow, withListeners, inBackground, withHolder, withRow, withTexts, unstarted, queued, heldBy, hasHandle, rowsOf, ablesOf, known, roomFor, wanted, grabbable, best, freePlace, joined}
 use Rattle.server.specs.Refusals.{errorText, isTold}
-use Rattle.server.specs.Requests.{Work, tells, reports, ends, throws, Request, reset, preSleep, echo, bad, canDo, cantDo, grab, submit, work, getStatus, option}
+use Rattle.server.specs.Requests.{Work, tells, reports, ends, throws, Request, reset, preSleep, echo, bad, canDo, cantDo, identify, grab, submit, work, getStatus, option}
 
 -- ---- packets to send
 
@@ -107,9 +107,9 @@ leftBy c j =
 abbrev pub unable : ℕ → Function → Function
 unable c x = withAble (remove (x .able) c) x
 
--- 01: "abilities, option and sleep are cleared"
+-- 01: "abilities, option and sleep are cleared"; 02: "close clears the id"
 unfoldable pub closing : ℕ → Table → Table
-closing c t = withJobs (map (leftBy c) (t .jobs)) (withFunctions (map (unable c) (t .functions)) (setConnection t c closed))
+closing c t = withJobs (map (leftBy c) (t .jobs)) (withFunctions (map (unable c) (t .functions)) (setId (setConnection t c closed) c []))
 
 -- ---- abilities
 
@@ -232,6 +232,7 @@ unfoldable pub served : ℕ → Request → Table → Decision
 served c (bad n) t = refuse c n t
 served c (canDo f) t = canDoAt (roomFor (t .functions) f) c f t
 served c (cantDo f) t = cantDoAt (known (t .functions) f) c t
+served c (identify i) t = settle [] (setId t c i)  -- 02: "SET_CLIENT_ID [..] is served": it sends nothing, and the last one counts
 served c reset t = settle [] (unableToAll c t)
 served c preSleep t = settle [] (sleeping true c t)
 served c (grab uniq) t = grabAt (best t c) uniq c (sleeping false c t)

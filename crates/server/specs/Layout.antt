@@ -9,7 +9,7 @@ use Rattle.octets.specs.Bytes.{Bytes, same, firstZero}
 use Rattle.server.specs.declared.Connection.{Connection}
 use Rattle.server.specs.declared.JobRow.{JobRow}
 use Rattle.lists.specs.Lists.{fit, numbers}
-use Rattle.server.specs.Sizes.{functionCount, jobCount, nameSize, uniqueSize, numberSize}
+use Rattle.server.specs.Sizes.{functionCount, jobCount, nameSize, uniqueSize, numberSize, idSize}
 use Rattle.server.specs.Table.{Function, Job, Table}
 
 -- ---- one field
@@ -89,14 +89,21 @@ asleepAt n = openedAt n + n
 abbrev pub exceptionsAt : ℕ → ℕ
 exceptionsAt n = asleepAt n + n
 
+-- the client ids of n connections
+abbrev pub idsAt : ℕ → ℕ
+idsAt n = exceptionsAt n + n
+
 -- how many bytes the layout uses
 abbrev pub tableSize : ℕ → ℕ
-tableSize n = exceptionsAt n + n
+tableSize n = idsAt n + idSize * n
 
 -- ---- bytes to table
 
 abbrev pub connectionIn : ℕ → Bytes → ℕ → Connection
 connectionIn n b c = record { opened = flagAt b (openedAt n + c); asleep = flagAt b (asleepAt n + c); exceptions = flagAt b (exceptionsAt n + c) }
+
+abbrev pub idIn : ℕ → Bytes → ℕ → Bytes
+idIn n b c = textAt idSize b (idsAt n + idSize * c)
 
 abbrev pub functionIn : ℕ → Bytes → ℕ → Function
 functionIn n b q = record { name = textAt nameSize b (namesAt + nameSize * q); able = littleAt (setSize n) b (ableAt + setSize n * q) }
@@ -128,6 +135,7 @@ tableOf n b =
     record {
       last = littleAt 4 b lastAt;
       connections = map (connectionIn n b) (numbers 0 n);
+      ids = map (idIn n b) (numbers 0 n);
       functions = map (functionIn n b) (numbers 0 functionCount);
       jobs = map (jobIn n b) (numbers 0 jobCount);
     }
@@ -162,7 +170,8 @@ bytesOf t =
     ++ (column (λ j. little (setSize n) (j .row .listeners)) (t .jobs)
     ++ (column (λ x. flagByte (x .opened)) (t .connections)
     ++ (column (λ x. flagByte (x .asleep)) (t .connections)
-    ++ column (λ x. flagByte (x .exceptions)) (t .connections))))))))))
+    ++ (column (λ x. flagByte (x .exceptions)) (t .connections)
+    ++ column (fit idSize) (t .ids)))))))))))
 
 -- "every field with a meaning in the layout": the bytes are those of the table that they hold, so each table has one byte image
 unfoldable pub isImage : ℕ → Bytes → Bool

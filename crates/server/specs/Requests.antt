@@ -23,6 +23,7 @@ pub data Request : Type 0 where
   reset preSleep echo : Request
   bad : (number : ℕ) → Request
   canDo cantDo : (function : Bytes) → Request
+  identify : (id : Bytes) → Request
   grab : (uniq : Bool) → Request
   submit : (priority : ℕ) (background : Bool) (function unique : Bytes) (size : ℕ) → Request
   work : (how : Work) (kind : ℕ) (job numerator denominator : Bytes) → Request
@@ -52,7 +53,8 @@ requested kind a b c =
     ∷ submit (priorityOf kind) (backgroundOf kind) a b (length c)  -- 18 SUBMIT_JOB_BG
     ∷ bad 9 ∷ bad 9
     ∷ submit (priorityOf kind) (backgroundOf kind) a b (length c)  -- 21 SUBMIT_JOB_HIGH
-    ∷ bad 9 ∷ bad 9 ∷ bad 9
+    ∷ identify a  -- 22 SET_CLIENT_ID
+    ∷ bad 9 ∷ bad 9
     ∷ work throws kind a [] []  -- 25 WORK_EXCEPTION
     ∷ option a  -- 26 OPTION_REQ
     ∷ bad 9

@@ -10,8 +10,8 @@ use Rattle.sets.specs.Sets.{has, isEmpty}
 use Rattle.server.specs.declared.Connection.{Connection}
 use Rattle.server.specs.declared.JobRow.{JobRow}
 use Rattle.lists.specs.Lists.{implies, any, all, pairwise, numbers}
-use Rattle.server.specs.Sizes.{nameSize, uniqueSize, numberSize}
-use Rattle.server.specs.Table.{Function, Job, Table, connectionAt, functionAt, rowsOf, ablesOf, live, queued, wanted, grabbable}
+use Rattle.server.specs.Sizes.{nameSize, uniqueSize, numberSize, idSize}
+use Rattle.server.specs.Table.{Function, Job, Table, connectionAt, idAt, functionAt, rowsOf, ablesOf, live, queued, wanted, grabbable}
 
 -- ---- serials: "serials distinct, from 1 and below the next, which is at most 4,294,967,296"
 
@@ -138,10 +138,22 @@ sleepersIdleFrom t c (x ∷ xs) = sleeperIdle t c x && sleepersIdleFrom t (suc c
 abbrev pub sleepersIdle : Table → Bool
 sleepersIdle t = sleepersIdleFrom t 0 (t .connections)
 
--- ---- the rules together, in the order of document 01; with the bytes being an image of the layout they are `Call: isSound`
+-- ---- client ids, 02, ask 1: "1 to 64 bytes, no zero byte", "close clears the id"
+
+abbrev pub idsWithin : Table → Bool
+idsWithin t = all (textWithin idSize) (t .ids)
+
+-- only an open connection has one
+abbrev pub idOpen : Table → ℕ → Bool
+idOpen t c = isOpen t c || same (idAt t c) []
+
+abbrev pub idsOpen : Table → Bool
+idsOpen t = all (idOpen t) (numbers 0 (length (t .connections)))
+
+-- ---- the rules together, in the order of document 01, those of 02 behind; with the bytes being an image of the layout they are `Call: isSound`
 
 unfoldable pub obeys : Table → Bool
 obeys t =
     nextSmall t && (serialsBelow t && (serialsDistinct t && (namesWithin t && (textsWithin t && (sizesWithin t && (rowsHaveMeaning t
     && (functionsDistinct t && (functionsAsDefined t && (abilitiesOpen t && (listenersOpen t && (holdersOpen t && (closedClear t
-    && (queuedAwaited t && (uniquesDistinct t && sleepersIdle t))))))))))))))
+    && (queuedAwaited t && (uniquesDistinct t && (sleepersIdle t && (idsWithin t && idsOpen t))))))))))))))))

@@ -11,7 +11,7 @@ functionCount = 16
 abbrev pub jobCount : ℕ
 jobCount = 32
 
--- places of texts: a function's name, a job's unique, each of its two stored numbers
+-- places of texts: a function's name, a job's unique, each of its two stored numbers, a connection's client id (02: "1 to 64 bytes")
 abbrev pub nameSize : ℕ
 nameSize = 32
 
@@ -20,6 +20,9 @@ uniqueSize = 64
 
 abbrev pub numberSize : ℕ
 numberSize = 10
+
+abbrev pub idSize : ℕ
+idSize = 64
 
 -- 01: "the workloads (at least 32,768 bytes, 32 places of 1,024)"
 abbrev pub workloadSize : ℕ

@@ -26,10 +26,11 @@ pub record Job : Type 0 where
   pub numerator : Bytes
   pub denominator : Bytes
 
--- the last serial given out (0: none yet), and the places
+-- the last serial given out (0: none yet), and the places; the client id of each connection, empty where it has none
 pub record Table : Type 0 where
   pub last : ℕ
   pub connections : List Connection
+  pub ids : List Bytes
   pub functions : List Function
   pub jobs : List Job
 
@@ -49,12 +50,15 @@ noJob = record { row = noRow; unique = []; numerator = []; denominator = [] }
 
 -- 01: "known functions 16; unfinished jobs 32"; n connections, all closed
 unfoldable pub fresh : ℕ → Table
-fresh n = record { last = 0; connections = replicate n closed; functions = replicate functionCount noFunction; jobs = replicate jobCount noJob }
+fresh n = record { last = 0; connections = replicate n closed; ids = replicate n []; functions = replicate functionCount noFunction; jobs = replicate jobCount noJob }
 
 -- ---- what stands at a place
 
 abbrev pub connectionAt : Table → ℕ → Connection
 connectionAt t c = getD (t .connections) c closed
+
+abbrev pub idAt : Table → ℕ → Bytes
+idAt t c = getD (t .ids) c []
 
 abbrev pub functionAt : Table → ℕ → Function
 functionAt t q = getD (t .functions) q noFunction
@@ -65,19 +69,25 @@ jobAt t p = getD (t .jobs) p noJob
 -- ---- parts put anew, the new part first: a new field is one line in each of these, and nowhere else is a row built from its fields
 
 abbrev pub withLastSerial : ℕ → Table → Table
-withLastSerial s t = record { last = s; connections = t .connections; functions = t .functions; jobs = t .jobs }
+withLastSerial s t = record { last = s; connections = t .connections; ids = t .ids; functions = t .functions; jobs = t .jobs }
 
 abbrev pub withConnections : List Connection → Table → Table
-withConnections cs t = record { last = t .last; connections = cs; functions = t .functions; jobs = t .jobs }
+withConnections cs t = record { last = t .last; connections = cs; ids = t .ids; functions = t .functions; jobs = t .jobs }
+
+abbrev pub withIds : List Bytes → Table → Table
+withIds is t = record { last = t .last; connections = t .connections; ids = is; functions = t .functions; jobs = t .jobs }
 
 abbrev pub withFunctions : List Function → Table → Table
-withFunctions fs t = record { last = t .last; connections = t .connections; functions = fs; jobs = t .jobs }
+withFunctions fs t = record { last = t .last; connections = t .connections; ids = t .ids; functions = fs; jobs = t .jobs }
 
 abbrev pub withJobs : List Job → Table → Table
-withJobs js t = record { last = t .last; connections = t .connections; functions = t .functions; jobs = js }
+withJobs js t = record { last = t .last; connections = t .connections; ids = t .ids; functions = t .functions; jobs = js }
 
 abbrev pub setConnection : Table → ℕ → Connection → Table
 setConnection t c x = withConnections (set (t .connections) c x) t
+
+abbrev pub setId : Table → ℕ → Bytes → Table
+setId t c i = withIds (set (t .ids) c i) t
 
 abbrev pub setFunction : Table → ℕ → Function → Table
 setFunction t q x = withFunctions (set (t .functions) q x) t

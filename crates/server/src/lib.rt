@@ -3,8 +3,8 @@
 
 ghost use Rattle.server.specs.Table as T;
 ghost use Rattle.server.specs.Table.{freshRow, inBackground, justOpened, noRow, withAsleep, withExceptions, withHolder, withListeners};
-ghost use Rattle.server.specs.Layout.{ableAt, asleepAt, backgroundsAt, denominatorsAt, exceptionsAt, functionsAt, holdersAt, lastAt, listenersAt, namesAt, numeratorsAt, openedAt, prioritiesAt, serialsAt, sizesAt, tableSize, uniquesAt};
-ghost use Rattle.server.specs.Sizes.{connectionCount, functionCount, jobCount, nameSize, numberSize, outputSize, uniqueSize, workloadSize, workloadsSize};
+ghost use Rattle.server.specs.Layout.{ableAt, asleepAt, backgroundsAt, denominatorsAt, exceptionsAt, functionsAt, holdersAt, idsAt, lastAt, listenersAt, namesAt, numeratorsAt, openedAt, prioritiesAt, serialsAt, sizesAt, tableSize, uniquesAt};
+ghost use Rattle.server.specs.Sizes.{connectionCount, functionCount, idSize, jobCount, nameSize, numberSize, outputSize, uniqueSize, workloadSize, workloadsSize};
 ghost use mathlib.Core.List.{[], _∷_};
 ghost use mathlib.Core.Path.{_≡_};
 
@@ -21,6 +21,8 @@ pub const NAME_SIZE: usize = 32;
 pub const UNIQUE_SIZE: usize = 64;
 
 pub const NUMBER_SIZE: usize = 10;
+
+pub const ID_SIZE: usize = 64;
 
 pub const WORKLOAD_SIZE: usize = 1024;
 
@@ -57,8 +59,10 @@ pub const ASLEEP_AT: usize = OPENED_AT + CONNECTIONS;
 
 pub const EXCEPTIONS_AT: usize = ASLEEP_AT + CONNECTIONS;
 
+pub const IDS_AT: usize = EXCEPTIONS_AT + CONNECTIONS;
+
 // What a host lends.
-pub const TABLE_SIZE: usize = EXCEPTIONS_AT + CONNECTIONS;
+pub const TABLE_SIZE: usize = IDS_AT + ID_SIZE * CONNECTIONS;
 
 pub const WORKLOADS_SIZE: usize = WORKLOAD_SIZE * JOBS;
 
@@ -184,11 +188,11 @@ pub fn with_holder(row: JobRow, holder: u16) -> JobRow
 // ---- the product's numbers
 
 // Every constant is the definitions' number.
-pub fn numbers() -> [usize; 26]
-    ensures { λ r. ⌜ r ≡ connectionCount ∷ functionCount ∷ jobCount ∷ nameSize ∷ uniqueSize ∷ numberSize ∷ workloadSize
+pub fn numbers() -> [usize; 28]
+    ensures { λ r. ⌜ r ≡ connectionCount ∷ functionCount ∷ jobCount ∷ nameSize ∷ uniqueSize ∷ numberSize ∷ idSize ∷ workloadSize
         ∷ lastAt ∷ ableAt ∷ serialsAt ∷ listenersAt connectionCount ∷ sizesAt ∷ holdersAt ∷ prioritiesAt ∷ backgroundsAt ∷ functionsAt
         ∷ namesAt ∷ uniquesAt ∷ numeratorsAt ∷ denominatorsAt ∷ openedAt connectionCount ∷ asleepAt connectionCount ∷ exceptionsAt connectionCount
-        ∷ tableSize connectionCount ∷ workloadsSize ∷ outputSize connectionCount ∷ [] ⌝ }
+        ∷ idsAt connectionCount ∷ tableSize connectionCount ∷ workloadsSize ∷ outputSize connectionCount ∷ [] ⌝ }
 {
     [
         CONNECTIONS,
@@ -197,6 +201,7 @@ pub fn numbers() -> [usize; 26]
         NAME_SIZE,
         UNIQUE_SIZE,
         NUMBER_SIZE,
+        ID_SIZE,
         WORKLOAD_SIZE,
         LAST_AT,
         ABLE_AT,
@@ -214,6 +219,7 @@ pub fn numbers() -> [usize; 26]
         OPENED_AT,
         ASLEEP_AT,
         EXCEPTIONS_AT,
+        IDS_AT,
         TABLE_SIZE,
         WORKLOADS_SIZE,
         OUTPUT_SIZE,

@@ -91,7 +91,7 @@ related-agree : {as′ bs : List Answer} → All2 Agree as′ bs → All2 (Relat
 related-agree All2.none = All2.none
 related-agree (All2.more a rest) = All2.more (record { number = a .number; sent = a .sent }) (related-agree rest)
 
-events-alike : {xs ys : List Call} → AlikeEvents xs ys → All2 Alike (events xs) (events ys)
+pub events-alike : {xs ys : List Call} → AlikeEvents xs ys → All2 Alike (events xs) (events ys)
 events-alike All2.none = All2.none
 events-alike (All2.more e rest) = All2.more e (events-alike rest)
 

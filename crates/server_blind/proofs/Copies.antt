@@ -16,7 +16,7 @@ use Rattle.server.specs.Events.{Send, plain, copy, assign, Decision, silence, r
 use Rattle.server.specs.Server.{Server, Sent, render, answer}
 use Rattle.server.specs.Refusals.{isTold}
 use Rattle.lists.proofs.Cases.{All, All2, cond-both, cond-cases, all-append, all-map, all-any}
-use Rattle.server_laws.proofs.Outcome.{Change, able, unknown, disabled, cleared, slept, noJobFor, grabbed, joins, accepts, worker, status, optioned, echoed, Served, refused, done, Outcome, silenced, opened, closed, serves, outcome}
+use Rattle.server_laws.proofs.Outcome.{Change, able, unknown, disabled, identified, cleared, slept, noJobFor, grabbed, joins, accepts, worker, status, optioned, echoed, Served, refused, done, Outcome, silenced, opened, closed, serves, outcome}
 use Rattle.server_blind.proofs.Alike.{Alike, Like, decided-alike, like-render}
 
 -- connection l listens to the job with this handle, which connection c holds
@@ -56,6 +56,7 @@ change-carries : {c : ℕ} {t : Table} {a : Request} {ss : List Send} {u : Table
 change-carries (able f q e) = All.none
 change-carries (unknown f e) = All.none
 change-carries (disabled f q e) = All.none
+change-carries (identified i) = All.none
 change-carries cleared = All.none
 change-carries slept = All.none
 change-carries (noJobFor uniq e) = All.more a-plain All.none

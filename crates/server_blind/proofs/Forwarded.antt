@@ -18,7 +18,7 @@ use Rattle.packet.specs.Opaque.{endsOpaque, hasZeros, past, hides, seen, visibl
 use Rattle.packet_laws.proofs.Packets.{requests-well, header-good, Got, read-got}
 use Rattle.packet_laws.proofs.Separators.{Heads, heads}
 use Rattle.packet_laws.proofs.Blindness.{read-masked, got-hides, opaque-none}
-use Rattle.server.specs.Requests.{Event, sends, Work, Request, reset, preSleep, echo, bad, canDo, cantDo, grab, submit, work, getStatus, option, requested, fromReading, requestIn}
+use Rattle.server.specs.Requests.{Event, sends, Work, Request, reset, preSleep, echo, bad, canDo, cantDo, identify, grab, submit, work, getStatus, option, requested, fromReading, requestIn}
 use Rattle.server.specs.Server.{shownBy, opaqueOf}
 use Rattle.server_calls.proofs.Packets.{data-short}
 
@@ -44,6 +44,7 @@ Passes kind s r preSleep = Unit {0}
 Passes kind s r (bad n) = Unit {0}
 Passes kind s r (canDo f) = Unit {0}
 Passes kind s r (cantDo f) = Unit {0}
+Passes kind s r (identify i) = Unit {0}
 Passes kind s r (grab uniq) = Unit {0}
 Passes kind s r (submit priority background f u size) = Unit {0}
 Passes kind s r (getStatus h) = Unit {0}

@@ -192,6 +192,7 @@ module _ (n : ℕ) (s : Server) (h : Running n s) where
     fits-change q (Change.able f k r) = All.none
     fits-change q (Change.unknown f r) = All.none
     fits-change q (Change.disabled f k r) = All.none
+    fits-change q (Change.identified i) = All.none
     fits-change q Change.cleared = All.none
     fits-change q Change.slept = All.none
     fits-change q (Change.noJobFor uniq r) = fits-one 10 [] (omega arith) refl

@@ -29,7 +29,7 @@ pub taken-running : (n : ℕ) (t w o : Bytes) → Taken n t w o → Running n (s
 unfolding serverIn tableOf
 taken-running n t w o k =
     record {
-      shaped = record { connections = length-places _ 0 n; functions = refl; jobs = refl; workloads = refl; whole = wide-places 1024 32 w (k .longWorkloads) 0 32 (omega arith) };
+      shaped = record { connections = length-places _ 0 n; ids = length-places _ 0 n; functions = refl; jobs = refl; workloads = refl; whole = wide-places 1024 32 w (k .longWorkloads) 0 32 (omega arith) };
       rules = k .rules;
     }
 

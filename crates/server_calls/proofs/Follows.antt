@@ -1,7 +1,7 @@
 -- A call on bytes that hold a server does what the server does: it answers the server's number and packets, and leaves bytes that
 -- hold the next server. The bytes beyond the layout, and beyond the 32 workloads, stay as they were. Assumes nothing.
 use Prim.Native.Nat.{ℕ, _*_, _≤_}
-use mathlib.Core.Path.{_≡_, ap, ap₂, _∙_}
+use mathlib.Core.Path.{_≡_, ap, ap₂, sym, _∙_}
 use mathlib.Core.Bool.{true, false}
 use mathlib.Core.List.{List}
 use native.Mathlib.Omega.{arith}
@@ -44,10 +44,10 @@ running-next n e s h = record { shaped = shaped-kept n e s (h .shaped); rules = 
 
 module _ (n : ℕ) (few : n ≤ 256) where
   pub fitting : (s : Server) → Running n s → Fitting (s .table)
-  fitting s h = obeys-fitting (s .table) (h .shaped .functions) (h .shaped .jobs) (omega (arith, h .shaped .connections)) (h .rules)
+  fitting s h = obeys-fitting (s .table) (h .shaped .functions) (h .shaped .jobs) (h .shaped .ids ∙ sym (h .shaped .connections)) (omega (arith, h .shaped .connections)) (h .rules)
 
   pub length-table : (s : Server) → Running n s → length (bytesOf (s .table)) ≡ tableSize n
-  length-table s h = length-bytes (s .table) (h .shaped .functions) (h .shaped .jobs) ∙ ap tableSize (h .shaped .connections)
+  length-table s h = length-bytes (s .table) (h .shaped .functions) (h .shaped .jobs) (h .shaped .ids ∙ sym (h .shaped .connections)) ∙ ap tableSize (h .shaped .connections)
 
   pub length-workloads : (s : Server) → Running n s → length (concat (s .workloads)) ≡ workloadsSize
   length-workloads s h = length-concat 1024 (s .workloads) (h .shaped .whole) ∙ ap (λ (m : ℕ). 1024 * m) (h .shaped .workloads)

@@ -179,6 +179,7 @@ module _ (n : ℕ) (few : n ≤ 256) (s : Server) (h : Running n s) where
   served-weight c b p q (Served.done a ss u (Change.able f k r)) = silent-weight n few (sends c b) s h _ q
   served-weight c b p q (Served.done a ss u (Change.unknown f r)) = silent-weight n few (sends c b) s h _ q
   served-weight c b p q (Served.done a ss u (Change.disabled f k r)) = silent-weight n few (sends c b) s h _ q
+  served-weight c b p q (Served.done a ss u (Change.identified i)) = silent-weight n few (sends c b) s h _ q
   served-weight c b p q (Served.done a ss u Change.cleared) = silent-weight n few (sends c b) s h _ q
   served-weight c b p q (Served.done a ss u Change.slept) = silent-weight n few (sends c b) s h _ q
   served-weight c b p q (Served.done a ss u (Change.noJobFor uniq r)) = one-weight n few (sends c b) s h _ _ q (rw (plain-weight (sends c b) s c 10 []) (omega arith))

@@ -1,6 +1,6 @@
 -- How many bytes the server's packets have: 13 and the data's. A packet that is passed on has at most 1,024 bytes of data, as has the
 -- handle of which a status is asked. Assumes nothing.
-use Prim.Native.Nat.{ℕ, zero, suc, _+_, _*_, _≤_}
+use Prim.Native.Nat.{ℕ, _+_, _*_, _≤_}
 use mathlib.Core.Path.{_≡_, refl, sym, ap, _∙_, subst}
 use mathlib.Core.Bool.{Bool, true, false}
 use mathlib.Core.List.{List, [], _∷_, _++_, map}
@@ -18,12 +18,12 @@ use Rattle.packet.specs.Opaque.{past, hides, seen, visible, opaque, masked}
 use Rattle.packet_laws.proofs.Packets.{Headed, header-good, Got, read-got}
 use Rattle.packet_laws.proofs.Splitting.{split-join}
 use Rattle.packet_laws.proofs.Blindness.{visible-opaque}
-use Rattle.server.specs.Requests.{Event, sends, Request, reset, preSleep, echo, bad, canDo, cantDo, grab, submit, work, getStatus, option, requested, fromReading, requestIn}
+use Rattle.server.specs.Requests.{Event, sends, Request, reset, preSleep, echo, bad, canDo, cantDo, identify, grab, submit, work, getStatus, option, requested, fromReading, requestIn}
 use Rattle.server.specs.Events.{Send, noop}
 use Rattle.server.specs.Server.{Server, Sent, addressed, shownBy, opaqueOf, render}
 use Rattle.server.specs.Call.{sentBytes}
 use Rattle.lists.proofs.Cases.{cond-both}
-use Rattle.lists.proofs.Rows.{clash}
+use Rattle.lists.proofs.Rows.{clash, replicate-default}
 
 -- ---- packets
 
@@ -88,6 +88,7 @@ isBad preSleep = false
 isBad echo = false
 isBad (canDo f) = false
 isBad (cantDo f) = false
+isBad (identify i) = false
 isBad (grab uniq) = false
 isBad (submit priority background f u size) = false
 isBad (work how kind h n d) = false
@@ -124,19 +125,15 @@ handleWithin preSleep = true
 handleWithin echo = true
 handleWithin (canDo f) = true
 handleWithin (cantDo f) = true
+handleWithin (identify i) = true
 handleWithin (grab uniq) = true
 handleWithin (submit priority background f u size) = true
 handleWithin (work how kind h n d) = true
 handleWithin (option name) = true
 
-true-at : (n i : ℕ) → getD (replicate n true) i true ≡ true
-true-at zero i = refl
-true-at (suc n) zero = refl
-true-at (suc n) (suc i) = true-at n i
-
 requested-within : (kind : ℕ) (a b c : Bytes) → leb (length a) 1024 ≡ true → handleWithin (requested kind a b c) ≡ true
 unfolding requested
-requested-within kind a b c e = rw (← (List·getD-map handleWithin), e) (true-at 35 kind)
+requested-within kind a b c e = rw (← (List·getD-map handleWithin), e) (replicate-default 35 kind true)
 
 reading-within : (s : Bytes) (r : Reading) → read requests s ≡ r → handleWithin (fromReading r) ≡ true
 reading-within s (refused n) e = refl

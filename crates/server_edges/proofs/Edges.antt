@@ -1,13 +1,15 @@
 -- Document 01, "Edges to try": each edge marked (P) is a row of one table, and one theorem says that every row holds. What the right
 -- server answers where one makes an error "that looks reasonable" stands beside the definitions, in server/proofs/. Assumes nothing.
 use Prim.Native.Nat.{ℕ, zero, suc}
+use mathlib.Core.Path.{_≡_, refl}
 use mathlib.Core.Bool.{Bool, true, _&&_}
-use mathlib.Core.List.{List, [], _∷_, _++_}
+use mathlib.Core.List.{List, [], _∷_, _++_, map}
 use lib.ListN.{replicate}
 use lib.Dec.{T}
 use Rattle.octets.specs.Bytes.{Bytes}
+use Rattle.server.specs.Table.{idAt}
 use Rattle.server.specs.Requests.{Event, opens, closes}
-use Rattle.server.proofs.Histories.{request, response}
+use Rattle.server.proofs.Histories.{request, response, tableAfter}
 use Rattle.server.proofs.Edge.{Edge, edge, holds}
 
 pub allHold : List Edge → Bool
@@ -119,3 +121,40 @@ second-tenants-hold = tt
 pub edges-hold : T (allHold edges)
 unfolding allHold edges
 edges-hold = tt
+
+-- ---- 02, ask 1: "SET_CLIENT_ID (type 22, 1 to 64 bytes, no zero byte, else 10) is served; close clears the id"
+
+pub clientIds : List Edge
+unfolding request response
+clientIds =
+    edge (opens 0 ∷ request 0 22 (letters 1 ∷ []) ∷ request 0 22 (letters 64 ∷ []) ∷ request 0 22 (letters 65 ∷ []) ∷ [])
+    (0 ∷ 0 ∷ 0 ∷ 10 ∷ [])
+    (response 0 19 ((49 ∷ 48 ∷ []) ∷ arguments′ ∷ []) ∷ [])
+    ∷ edge (opens 0 ∷ request 0 22 [] ∷ request 0 22 (u ∷ v ∷ []) ∷ [])
+    (0 ∷ 10 ∷ 10 ∷ [])
+    (response 0 19 ((49 ∷ 48 ∷ []) ∷ arguments′ ∷ []) ∷ [])
+    -- it sends nothing, and a sleeper sleeps on
+    ∷ edge (opens 0 ∷ request 0 1 (f ∷ []) ∷ request 0 4 [] ∷ request 0 22 (u ∷ []) ∷ []) (replicate 4 0) []
+    ∷ edge (opens 0 ∷ opens 1 ∷ request 1 1 (f ∷ []) ∷ request 1 4 [] ∷ request 1 22 (u ∷ []) ∷ request 0 18 (f ∷ [] ∷ w ∷ []) ∷ [])
+    (replicate 6 0)
+    (response 0 8 (handleOf 49 ∷ []) ∷ response 1 6 [] ∷ [])
+    ∷ []
+
+pub client-ids-hold : T (allHold clientIds)
+unfolding allHold clientIds
+client-ids-hold = tt
+
+-- the id of connection 1: the last one counts, RESET_ABILITIES keeps it, a refused one changes nothing, close clears it
+pub clientIdHistories : List (List Event)
+unfolding request
+clientIdHistories =
+    (opens 1 ∷ request 1 22 (u ∷ []) ∷ request 1 22 (v ∷ []) ∷ [])
+    ∷ (opens 1 ∷ request 1 1 (f ∷ []) ∷ request 1 22 (u ∷ []) ∷ request 1 3 [] ∷ [])
+    ∷ (opens 1 ∷ request 1 22 (u ∷ []) ∷ request 1 22 (letters 65 ∷ []) ∷ [])
+    ∷ (opens 1 ∷ request 1 22 (u ∷ []) ∷ closes 1 ∷ [])
+    ∷ (opens 1 ∷ request 1 22 (u ∷ []) ∷ closes 1 ∷ opens 1 ∷ [])
+    ∷ []
+
+pub client-ids-kept : map (λ (h : List Event). idAt (tableAfter h) 1) clientIdHistories ≡ v ∷ u ∷ u ∷ [] ∷ [] ∷ []
+unfolding tableAfter clientIdHistories
+client-ids-kept = refl

@@ -13,7 +13,7 @@ use Rattle.server.specs.Refusals.{refusalTexts, lastNumber, isTold}
 use Rattle.server.specs.Layout.{tableSize}
 
 -- 01: "the table (at most 8,192 bytes ..), the workloads (at least 32,768 bytes ..) and the output (at least 16,592)"
-pub lent-sizes : tableSize connectionCount ∷ workloadsSize ∷ outputSize connectionCount ∷ [] ≡ 3796 ∷ 32768 ∷ 16592 ∷ []
+pub lent-sizes : tableSize connectionCount ∷ workloadsSize ∷ outputSize connectionCount ∷ [] ≡ 4820 ∷ 32768 ∷ 16592 ∷ []
 lent-sizes = refl
 
 -- 01: "1 to 8 write nothing [..]. 9 to 15 write one ERROR packet to the sender"; 0 is done

@@ -3,22 +3,28 @@
 use Prim.Native.Nat.{ℕ, _<_}
 use mathlib.Core.Path.{_≡_, refl, ap, sym, _∙_}
 use mathlib.Core.Bool.{Bool, true, false}
-use mathlib.Core.List.{List}
+use mathlib.Core.List.{List, []}
+use native.Mathlib.Decide.{ℕ-discrete}
 use native.Mathlib.Omega.{arith}
-use lib.ListN.{length, length-set}
-use lib.Seq.{getD-set-same}
-use Rattle.octets.specs.Bytes.{Bytes}
+use lib.ListN.{length, set, length-set}
+use lib.Dec.{leb}
+use lib.Seq.{getD-set-same, getD-set-other}
+use Rattle.octets.specs.Bytes.{Bytes, zeroFree, within}
+use Rattle.octets.proofs.Strings.{and-left, and-right, and-both}
+use Rattle.packet.specs.Layout.{clientId}
+use Rattle.packet.specs.Arguments.{fits}
 use Rattle.server.specs.declared.Connection.{Connection}
-use Rattle.server.specs.Table.{Job, Table, closed, noFunction, noJob, connectionAt, functionAt, jobAt, withConnections, withJobs}
+use Rattle.server.specs.Table.{Job, Table, closed, noFunction, noJob, connectionAt, functionAt, jobAt, setId, withConnections, withJobs}
 use Rattle.server.specs.Requests.{sends, Request, requestIn}
 use Rattle.server.specs.Events.{Send, opening, ableTo, unable, unableToAll, sleeping}
-use Rattle.server.specs.Rules.{isOpen, onlyOpen}
+use Rattle.server.specs.Sizes.{idSize}
+use Rattle.server.specs.Rules.{textWithin, isOpen, onlyOpen, idOpen}
 use Rattle.lists.proofs.Cases.{all2-set, all2-map, all2-by}
 use Rattle.server_laws.proofs.Outcome.{Change, Stands}
-use Rattle.lists.proofs.Rows.{all-row}
+use Rattle.lists.proofs.Rows.{or-left, all-row, all-set}
 use Rattle.server_laws.proofs.Requests.{Good}
-use Rattle.server_laws.proofs.Openness.{none-open, open-insert}
-use Rattle.server_laws.proofs.Sound.{Sound}
+use Rattle.server_laws.proofs.Openness.{none-open, open-insert, bearers-by, bearer-at}
+use Rattle.server_laws.proofs.Sound.{Sound, sound-ids}
 use Rattle.server_laws.proofs.Jobs.{Goes, on, sound-jobs}
 use Rattle.server_laws.proofs.Functions.{Less, less-same, less-unable, sound-less, room, sound-name}
 use Rattle.server_laws.proofs.Going.{sound-connection, sound-sleeping, still-same, grabbed-live, joined-found, held-found, still-grabbed, still-submitted, goes-worked}
@@ -55,6 +61,21 @@ module _ (c : ℕ) (t : Table) (b : Bytes) (cs : List Connection) (inside : c < 
   sound-places : {a : Request} {ss : List Send} {u : Table} → Stands t c true → requestIn b ≡ a → Good a → Change c t a ss u → u .last ≡ t .last → Sound v → Sound (withJobs (u .jobs) v)
   sound-places {u = u} o q g m e h = sound-jobs v (all2-by (t .jobs) (u .jobs) noJob noJob (sym (long-change c t m .jobs)) (λ p. goes (rw q g) e (becomes o q m p))) h
 
+-- ---- client ids
+
+id-within : (i : Bytes) → fits clientId i ≡ true → textWithin idSize i ≡ true
+unfolding fits
+id-within i e = and-both (leb (length i) 64) (zeroFree i) (and-right (leb 1 (length i)) _ (and-left (within 1 64 (length i)) (zeroFree i) e)) (and-right (within 1 64 (length i)) (zeroFree i) e)
+
+-- an id of an open connection
+sound-identified : (c : ℕ) (t : Table) (i : Bytes) → isOpen t c ≡ true → fits clientId i ≡ true → Sound t → Sound (setId t c i)
+sound-identified c t i o g h =
+    sound-ids t (set (t .ids) c i) (all-set (textWithin idSize) (t .ids) c i (h .ids) (id-within i g)) (bearers-by (setId t c i) (λ x l. go x (ℕ-discrete x c) l)) h
+  where
+    go : (x : ℕ) → Dec (x ≡ c) → x < length (t .connections) → idOpen (setId t c i) x ≡ true
+    go x (yes q) l = or-left (isOpen t x) _ (rw q o)
+    go x (no n) l = rw (getD-set-other (t .ids) c x i [] n) (bearer-at t x (h .bearers) l)
+
 -- ---- every change
 
 pub sound-change : (c : ℕ) (t : Table) (b : Bytes) {a : Request} {ss : List Send} {u : Table} → Stands t c true → requestIn b ≡ a → Good a → Sound t → Change c t a ss u → Sound u
@@ -64,6 +85,7 @@ sound-change c t b o q g h (Change.able f i e) =
     (open-insert t (functionAt t i .able) c (o .inside) (o .state) (all-row (λ x. onlyOpen t (x .able)) (t .functions) i noFunction (h .abilities) (none-open t))) h
 sound-change c t b o q g h (Change.unknown f e) = h
 sound-change c t b o q g h (Change.disabled f i e) = sound-less t (all2-set (Less t) (less-same t) (t .functions) i noFunction (unable c (functionAt t i)) (less-unable t c (functionAt t i))) h
+sound-change c t b o q g h (Change.identified i) = sound-identified c t i (o .state) g h
 sound-change c t b o q g h Change.cleared = sound-less t (all2-map (Less t) (unable c) (less-unable t c) (t .functions)) h
 sound-change c t b o q g h Change.slept = sound-sleeping t c true (o .state) h
 sound-change c t b o q g h (Change.noJobFor uniq e) = sound-sleeping t c false (o .state) h

@@ -1,26 +1,28 @@
--- Closing a connection keeps a sound table sound: it leaves all listener sets, its jobs return to the queue, and its abilities are
--- cleared. Assumes nothing.
-use Prim.Native.Nat.{ℕ, zero, suc}
+-- Closing a connection keeps a sound table sound: it leaves all listener sets, its jobs return to the queue, and its abilities and its
+-- client id are cleared. Assumes nothing.
+use Prim.Native.Nat.{ℕ, zero, suc, _<_}
 use mathlib.Core.Path.{_≡_, refl, ap, sym, _∙_, subst}
 use mathlib.Core.Logic.{_≢_}
 use mathlib.Core.Bool.{Bool, true, false, _&&_}
 use mathlib.Core.List.{List, [], _∷_, map}
+use native.Mathlib.Decide.{ℕ-discrete}
 use native.Mathlib.Omega.{arith}
 use borrow.Author.Tests.{eq-eqb}
 use lib.ListN.{length, getD, set, length-set, List·getD-map}
 use lib.Seq.{getD-set-other}
-use Rattle.octets.specs.Bytes.{same, every}
+use Rattle.octets.specs.Bytes.{same, firstZero, every}
 use Rattle.octets.proofs.Strings.{and-left, and-right}
 use Rattle.sets.proofs.Laws.{zero-remove}
 use Rattle.server.specs.declared.Connection.{Connection}
-use Rattle.server.specs.Table.{Job, Table, closed, noJob, withRow, withTexts, withHolder, live, heldBy, withFunctions, withJobs, withListeners, noRow}
+use Rattle.server.specs.Table.{Job, Table, closed, noJob, withRow, withTexts, withHolder, live, heldBy, withIds, withFunctions, withJobs, withListeners, noRow}
 use Rattle.server.specs.Events.{closing, unable, deafTo, leftBy}
-use Rattle.server.specs.Rules.{isOpen, onlyOpen, holderOpen}
+use Rattle.server.specs.Sizes.{idSize}
+use Rattle.server.specs.Rules.{textWithin, isOpen, onlyOpen, holderOpen, idOpen, idsOpen}
 use Rattle.lists.proofs.Cases.{cond-cases, cond-both, all2-map}
-use Rattle.lists.proofs.Rows.{clash, all-both, all-map, all-set}
+use Rattle.lists.proofs.Rows.{clash, or-right, all-both, all-map, all-set, set-default}
 use Rattle.server.proofs.Rows.{range-holder}
-use Rattle.server_laws.proofs.Openness.{open-remove, open-without}
-use Rattle.server_laws.proofs.Sound.{Sound, rowMeans, free-none, sound-connections}
+use Rattle.server_laws.proofs.Openness.{open-remove, open-without, bearers-by, bearer-at}
+use Rattle.server_laws.proofs.Sound.{Sound, rowMeans, free-none, sound-connections, sound-ids}
 use Rattle.server_laws.proofs.Jobs.{storedBoth, Still, Goes, on, sound-jobs}
 use Rattle.server_laws.proofs.Functions.{Less, less-unable, sound-less}
 use Rattle.server_laws.proofs.Going.{live-means}
@@ -82,8 +84,17 @@ left-holder t u c others j e = cond-cases (λ (k : Job). holderOpen u (k .row .h
         let d : x ≢ c = λ i. clash (rw l (eq-eqb (j .row .holder) (suc c) (r ∙ ap suc i))) q in
         rw r (others x d ∙ (rw r at o))
 
+-- who else has a client id is open
+bearers-without : (t u : Table) (c : ℕ) → length (u .connections) ≡ length (t .connections) → u .ids ≡ set (t .ids) c [] → ((x : ℕ) → x ≢ c → isOpen u x ≡ isOpen t x) → idsOpen t ≡ true → idsOpen u ≡ true
+unfolding same
+bearers-without t u c long is others e = bearers-by u (λ x l. go x (ℕ-discrete x c) (rw long at l))
+  where
+    go : (x : ℕ) → Dec (x ≡ c) → x < length (t .connections) → idOpen u x ≡ true
+    go x (yes q) l = or-right (isOpen u x) _ (rw (is, q, set-default (t .ids) c []))
+    go x (no n) l = rw (is, getD-set-other (t .ids) c x [] [] n, others x n) (bearer-at t x e l)
+
 pub sound-closing : (c : ℕ) (t : Table) → Sound t → Sound (closing c t)
-unfolding closing
+unfolding closing firstZero
 sound-closing c t h =
     let u = closing c t in
     let long = length-set (t .connections) c closed in
@@ -92,11 +103,14 @@ sound-closing c t h =
     let h₁ : Sound t₁ = sound-jobs t (all2-map (Goes t) (leftBy c) (λ j. on (still-left t c j)) (t .jobs)) h in
     let t₂ = withFunctions (map (unable c) (t .functions)) t₁ in
     let h₂ : Sound t₂ = sound-less t₁ (all2-map (Less t₁) (unable c) (less-unable t₁ c) (t .functions)) h₁ in
-    sound-connections t₂ (set (t .connections) c closed) long
+    let t₃ = withIds (set (t .ids) c []) t₂ in
+    let h₃ : Sound t₃ = sound-ids t₂ (set (t .ids) c []) (all-set (textWithin idSize) (t .ids) c [] (h .ids) refl) (bearers-without t t₃ c refl refl (λ x d. refl) (h .bearers)) h₂ in
+    sound-connections t₃ (set (t .connections) c closed) long
     (all-map (λ x. onlyOpen t (x .able)) _ (unable c) (λ x e. open-without t u long c others (x .able) e) (t .functions) (h .abilities))
     (all-map (λ j. onlyOpen t (j .row .listeners)) _ (leftBy c)
     (λ j e. cond-both (λ (k : Job). onlyOpen u (k .row .listeners) ≡ true) (heldBy c (j .row)) (open-without t u long c others (j .row .listeners) e) (open-without t u long c others (j .row .listeners) e))
     (t .jobs) (h .listeners))
     (all-map (λ j. holderOpen t (j .row .holder) && rowMeans t j) _ (leftBy c) (left-holder t u c others) (t .jobs) (all-both _ _ (t .jobs) (h .holders) (h .rows)))
     (all-set _ (t .connections) c closed (h .clear) refl)
-    h₂
+    (bearers-without t u c long refl others (h .bearers))
+    h₃

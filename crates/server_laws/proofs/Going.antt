@@ -24,7 +24,7 @@ use Rattle.lists.proofs.Rows.{implies-by, all-imp, all-set}
 use Rattle.server.proofs.Rows.{range-holder}
 use Rattle.server_laws.proofs.Numbers.{row-at, rows-long}
 use Rattle.server_laws.proofs.Requests.{Told}
-use Rattle.server_laws.proofs.Openness.{open-more, holder-more, still-open}
+use Rattle.server_laws.proofs.Openness.{open-more, holder-more, still-open, bearers-more}
 use Rattle.server_laws.proofs.Sound.{Sound, rowMeans, sound-connections}
 use Rattle.server_laws.proofs.Jobs.{Still, Goes, over, on}
 use Rattle.server_laws.proofs.Accepting.{submitted-keeps, submitted-range, submitted-open}
@@ -42,6 +42,7 @@ sound-connection t c x o h =
     (all-imp _ _ (λ j e. open-more t u long more (j .row .listeners) e) (t .jobs) (h .listeners))
     (all-imp _ _ (λ j e. holder-more t u more (j .row .holder) e) (t .jobs) (h .holders))
     (all-set _ (t .connections) c x (h .clear) (implies-by (x .asleep || x .exceptions) (x .opened) (λ e. o)))
+    (bearers-more t u long more refl (h .bearers))
     h
 
 pub sound-sleeping : (t : Table) (c : ℕ) (b : Bool) → connectionAt t c .opened ≡ true → Sound t → Sound (sleeping b c t)

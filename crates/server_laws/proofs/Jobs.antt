@@ -105,6 +105,8 @@ sound-jobs t {ks} g h =
       holders = all-kept _ _ (λ j k s e. holder-more t (withJobs ks t) (λ c o. o) (k .row .holder) (holders-go t j k s e)) g (h .holders);
       clear = h .clear;
       uniques = pairwise-kept uniquesApart (uniques-go t) g (h .uniques);
+      ids = h .ids;
+      bearers = h .bearers;
       jobsKnown = all-kept _ _ (named-goes t) g (h .jobsKnown);
       ablesKnown = h .ablesKnown;
     }
@@ -176,6 +178,8 @@ sound-new t p j l n h =
           pairwise-set uniquesApart (t .jobs) p j (h .uniques)
           (all-by _ (t .jobs) noJob (λ i g. apart-by j (jobAt t i) (n .alone i g)))
           (all-by _ (t .jobs) noJob (λ i g. apart-by (jobAt t i) j (λ w. n .alone i g (turned w))));
+      ids = h .ids;
+      bearers = h .bearers;
       jobsKnown = all-set _ (t .jobs) p j (h .jobsKnown) (implies-by (live (j .row)) _ (λ e. n .named));
       ablesKnown = h .ablesKnown;
     }

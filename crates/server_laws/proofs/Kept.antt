@@ -12,13 +12,14 @@ use Rattle.octets.specs.Bytes.{Bytes, same, firstZero}
 use Rattle.server.specs.Table.{Table, closed, noFunction, noJob, fresh, withLastSerial}
 use Rattle.server.specs.Requests.{Event, requestIn}
 use Rattle.server.specs.Events.{Send, Decision, silence, refuse, settle, dropped, woken, forgot, opening, closing}
-use Rattle.server.specs.Rules.{onlyOpen, sleepersIdleFrom, queuedAwaited, obeys}
+use Rattle.server.specs.Sizes.{idSize}
+use Rattle.server.specs.Rules.{textWithin, isOpen, onlyOpen, sleepersIdleFrom, queuedAwaited, obeys}
 use Rattle.server.specs.Server.{Server, decided, next, start, after}
 use Rattle.lists.proofs.Cases.{All}
 use Rattle.server_laws.proofs.Outcome.{Stands, Served, Outcome, outcome}
-use Rattle.lists.proofs.Rows.{all-replicate}
+use Rattle.lists.proofs.Rows.{or-right, all-replicate, replicate-default}
 use Rattle.server_laws.proofs.Requests.{good-request}
-use Rattle.server_laws.proofs.Openness.{none-open}
+use Rattle.server_laws.proofs.Openness.{none-open, bearers-by}
 use Rattle.server_laws.proofs.Sound.{Sound}
 use Rattle.server_laws.proofs.Changes.{sound-opening, sound-change}
 use Rattle.server_laws.proofs.Closing.{sound-closing}
@@ -84,6 +85,8 @@ obeys-from n k small =
             holders = refl;
             clear = all-replicate _ n closed refl;
             uniques = refl;
+            ids = all-replicate (textWithin idSize) n [] refl;
+            bearers = bearers-by t (λ c l. or-right (isOpen t c) _ (rw (replicate-default {A = Bytes} n c [])));
             jobsKnown = refl;
             ablesKnown = refl;
           };
@@ -114,7 +117,7 @@ start-obeys n = obeys-fresh n
 
 start-shaped : (n : ℕ) → Shaped n (start n)
 unfolding start fresh
-start-shaped n = record { connections = length-replicate n closed; functions = refl; jobs = refl; workloads = refl; whole = whole-workloads 32 }
+start-shaped n = record { connections = length-replicate n closed; ids = length-replicate {A = Bytes} n []; functions = refl; jobs = refl; workloads = refl; whole = whole-workloads 32 }
   where
     whole-workloads : (k : ℕ) → All Whole (replicate k (replicate 1024 0))
     whole-workloads zero = All.none

@@ -1,12 +1,14 @@
--- No event changes how many connections, functions, jobs and workloads there are, nor a workload's 1,024 bytes. Assumes nothing.
+-- No event changes how many connections, client ids, functions, jobs and workloads there are, nor a workload's 1,024 bytes. Assumes nothing.
 use Prim.Native.Nat.{ℕ, suc}
 use mathlib.Core.Path.{_≡_, refl, ap, _∙_}
-use mathlib.Core.List.{List, [], _∷_}
+use mathlib.Core.Bool.{false}
+use mathlib.Core.List.{List, [], _∷_, map}
 use lib.ListN.{length, length-set, length-map, length-replicate}
 use lib.Dec.{eqb}
 use Rattle.octets.specs.Bytes.{Bytes}
+use Rattle.server.specs.declared.Connection.{Connection}
 use Rattle.server.specs.declared.JobRow.{JobRow}
-use Rattle.server.specs.Table.{Job, Table, closed, live}
+use Rattle.server.specs.Table.{Function, Job, Table, closed, functionAt, live, setConnection, setFunction, setId, setJob, withJobs, withLastSerial, withName}
 use Rattle.server.specs.Requests.{Event, Request}
 use Rattle.server.specs.Events.{Send, Decision, silence, refuse, settle, dropped, wokenIn, forgot, unlessLost, opening, closing, unable, leftBy, unableToAll, sleeping}
 use Rattle.server.specs.Server.{Server, reworked, rework, decided, next, opaqueOf}
@@ -18,44 +20,78 @@ use Rattle.lists.proofs.Rows.{length-mapFrom}
 -- u has as many places as t
 pub record AsLong (t u : Table) : Type 0 where
   pub connections : length (u .connections) ≡ length (t .connections)
+  pub ids : length (u .ids) ≡ length (t .ids)
   pub functions : length (u .functions) ≡ length (t .functions)
   pub jobs : length (u .jobs) ≡ length (t .jobs)
 
 long-then : {t u v : Table} → AsLong t u → AsLong u v → AsLong t v
-long-then a b = record { connections = b .connections ∙ a .connections; functions = b .functions ∙ a .functions; jobs = b .jobs ∙ a .jobs }
+long-then a b = record { connections = b .connections ∙ a .connections; ids = b .ids ∙ a .ids; functions = b .functions ∙ a .functions; jobs = b .jobs ∙ a .jobs }
+
+-- ---- one list anew
+
+module _ (t : Table) where
+  long-same : AsLong t t
+  long-same = record { connections = refl; ids = refl; functions = refl; jobs = refl }
+
+  long-connection : (c : ℕ) (x : Connection) → AsLong t (setConnection t c x)
+  long-connection c x = record { connections = length-set (t .connections) c x; ids = refl; functions = refl; jobs = refl }
+
+  long-id : (c : ℕ) (i : Bytes) → AsLong t (setId t c i)
+  long-id c i = record { connections = refl; ids = length-set (t .ids) c i; functions = refl; jobs = refl }
+
+  long-function : (q : ℕ) (x : Function) → AsLong t (setFunction t q x)
+  long-function q x = record { connections = refl; ids = refl; functions = length-set (t .functions) q x; jobs = refl }
+
+  long-job : (p : ℕ) (j : Job) → AsLong t (setJob t p j)
+  long-job p j = record { connections = refl; ids = refl; functions = refl; jobs = length-set (t .jobs) p j }
+
+  long-unable : (c : ℕ) → AsLong t (unableToAll c t)
+  unfolding unableToAll
+  long-unable c = record { connections = refl; ids = refl; functions = length-map (t .functions) (unable c); jobs = refl }
+
+  long-left : (c : ℕ) → AsLong t (withJobs (map (leftBy c) (t .jobs)) t)
+  long-left c = record { connections = refl; ids = refl; functions = refl; jobs = length-map (t .jobs) (leftBy c) }
+
+  long-last : {u : Table} {s : ℕ} → AsLong t u → AsLong t (withLastSerial s u)
+  long-last a = record { connections = a .connections; ids = a .ids; functions = a .functions; jobs = a .jobs }
 
 pub long-settle : (ss : List Send) (t : Table) → AsLong t (settle ss t .table)
 unfolding settle dropped wokenIn forgot
-long-settle ss t = record { connections = length-mapFrom _ 0 (t .connections); functions = length-mapFrom _ 0 (t .functions); jobs = length-map (t .jobs) unlessLost }
+long-settle ss t = record { connections = length-mapFrom _ 0 (t .connections); ids = refl; functions = length-mapFrom _ 0 (t .functions); jobs = length-map (t .jobs) unlessLost }
+
+-- ---- every event
 
 pub long-change : (c : ℕ) (t : Table) {a : Request} {ss : List Send} {u : Table} → Change c t a ss u → AsLong t u
-unfolding sleeping unableToAll
-long-change c t (Change.able f q e) = record { connections = refl; functions = length-set (t .functions) q _; jobs = refl }
-long-change c t (Change.unknown f e) = record { connections = refl; functions = refl; jobs = refl }
-long-change c t (Change.disabled f q e) = record { connections = refl; functions = length-set (t .functions) q _; jobs = refl }
-long-change c t Change.cleared = record { connections = refl; functions = length-map (t .functions) (unable c); jobs = refl }
-long-change c t Change.slept = record { connections = length-set (t .connections) c _; functions = refl; jobs = refl }
-long-change c t (Change.noJobFor uniq e) = record { connections = length-set (t .connections) c _; functions = refl; jobs = refl }
-long-change c t (Change.grabbed uniq p e) = record { connections = length-set (t .connections) c _; functions = refl; jobs = length-set (t .jobs) p _ }
-long-change c t (Change.joins priority background f v size p e) = record { connections = refl; functions = refl; jobs = length-set (t .jobs) p _ }
-long-change c t (Change.accepts priority background f v size q p e₁ e₂ e₃ l) = record { connections = refl; functions = length-set (t .functions) q _; jobs = length-set (t .jobs) p _ }
-long-change c t (Change.worker how kind h n d p e) = record { connections = refl; functions = refl; jobs = length-set (t .jobs) p _ }
-long-change c t (Change.status h o e) = record { connections = refl; functions = refl; jobs = refl }
-long-change c t (Change.optioned name e) = record { connections = length-set (t .connections) c _; functions = refl; jobs = refl }
-long-change c t Change.echoed = record { connections = refl; functions = refl; jobs = refl }
+unfolding sleeping
+long-change c t (Change.able f q e) = long-function t q _
+long-change c t (Change.unknown f e) = long-same t
+long-change c t (Change.disabled f q e) = long-function t q _
+long-change c t (Change.identified i) = long-id t c i
+long-change c t Change.cleared = long-unable t c
+long-change c t Change.slept = long-connection t c _
+long-change c t (Change.noJobFor uniq e) = long-connection t c _
+long-change c t (Change.grabbed uniq p e) = long-then (long-connection t c _) (long-job (sleeping false c t) p _)
+long-change c t (Change.joins priority background f v size p e) = long-job t p _
+long-change c t (Change.accepts priority background f v size q p e₁ e₂ e₃ l) = long-then (long-function t q (withName f (functionAt t q))) (long-last _ (long-job (setFunction t q (withName f (functionAt t q))) p _))
+long-change c t (Change.worker how kind h n d p e) = long-job t p _
+long-change c t (Change.status h o e) = long-same t
+long-change c t (Change.optioned name e) = long-connection t c _
+long-change c t Change.echoed = long-same t
 
 long-served : (c : ℕ) (t : Table) {a : Request} {d : Decision} → Served c t a d → AsLong t (d .table)
 unfolding refuse
-long-served c t (Served.refused a n r) = record { connections = refl; functions = refl; jobs = refl }
+long-served c t (Served.refused a n r) = long-same t
 long-served c t (Served.done a ss u m) = long-then (long-change c t m) (long-settle ss u)
 
 pub long-outcome : (t : Table) {e : Event} {d : Decision} → Outcome t e d → AsLong t (d .table)
-unfolding silence opening closing
-long-outcome t (Outcome.silenced e n r) = record { connections = refl; functions = refl; jobs = refl }
-long-outcome t (Outcome.opened c o) = long-then (record { connections = length-set (t .connections) c _; functions = refl; jobs = refl }) (long-settle [] (opening c t))
+unfolding silence opening closing unableToAll
+long-outcome t (Outcome.silenced e n r) = long-same t
+long-outcome t (Outcome.opened c o) = long-then (long-connection t c _) (long-settle [] (opening c t))
 long-outcome t (Outcome.closed c o) =
-    long-then (record { connections = length-set (t .connections) c closed; functions = length-map (t .functions) (unable c); jobs = length-map (t .jobs) (leftBy c) })
-    (long-settle [] (closing c t))
+    let t₁ = setId (setConnection t c closed) c [] in
+    let a : AsLong t t₁ = long-then (long-connection t c closed) (long-id (setConnection t c closed) c []) in
+    let b : AsLong t₁ (closing c t) = long-then (long-unable t₁ c) (long-left (unableToAll c t₁) c) in
+    long-then (long-then a b) (long-settle [] (closing c t))
 long-outcome t (Outcome.serves c b d o r) = long-served c t r
 
 pub long-decided : (e : Event) (s : Server) → AsLong (s .table) (decided e s .table)
@@ -87,6 +123,7 @@ length-rework (j ∷ js) (k ∷ ks) o (w ∷ ws) = ap suc (length-rework js ks o
 -- 01: "Connections 0 to 15; known functions 16; unfinished jobs 32", here for n connections; "32 places of 1,024"
 pub record Shaped (n : ℕ) (s : Server) : Type 0 where
   pub connections : length (s .table .connections) ≡ n
+  pub ids : length (s .table .ids) ≡ n
   pub functions : length (s .table .functions) ≡ 16
   pub jobs : length (s .table .jobs) ≡ 32
   pub workloads : length (s .workloads) ≡ 32
@@ -98,6 +135,7 @@ shaped-kept n e s h =
     let l = long-decided e s in
     record {
       connections = l .connections ∙ h .connections;
+      ids = l .ids ∙ h .ids;
       functions = l .functions ∙ h .functions;
       jobs = l .jobs ∙ h .jobs;
       workloads = length-rework (s .table .jobs) _ (opaqueOf e) (s .workloads) ∙ h .workloads;

@@ -12,7 +12,7 @@ use Rattle.sets.specs.Sets.{isEmpty}
 use Rattle.server.specs.declared.JobRow.{JobRow}
 use Rattle.server.specs.Table.{Function, Table, noFunction, noJob, functionAt, jobAt, rowsOf, live, wanted}
 use Rattle.lists.specs.Lists.{implies}
-use Rattle.server.specs.Rules.{nextSmall, serialsBelow, serialsDistinct, namesWithin, textsWithin, sizesWithin, rowsHaveMeaning, rowHasMeaning, isKnown, functionsDistinct, asDefined, functionsAsDefined, abilitiesOpen, listenersOpen, holdersOpen, closedClear, queuedAwaited, uniquesDistinct, sleepersIdle, obeys}
+use Rattle.server.specs.Rules.{nextSmall, serialsBelow, serialsDistinct, namesWithin, textsWithin, sizesWithin, rowsHaveMeaning, rowHasMeaning, isKnown, functionsDistinct, asDefined, functionsAsDefined, abilitiesOpen, listenersOpen, holdersOpen, closedClear, queuedAwaited, uniquesDistinct, sleepersIdle, idsWithin, idsOpen, obeys}
 use Rattle.lists.proofs.Rows.{clash, implies-by, or-left, all-at, all-by}
 use Rattle.server.proofs.Rows.{in-range}
 use Rattle.server_laws.proofs.Sound.{Sound, jobNamed, jobsNamed, ablesNamed, rowMeans}
@@ -32,7 +32,8 @@ obeys-by t h =
     (and-both (namesWithin t) _ (s .names) (and-both (textsWithin t) _ (s .texts) (and-both (sizesWithin t) _ (s .sizes)
     (and-both (rowsHaveMeaning t) _ (s .rows) (and-both (functionsDistinct t) _ (s .functions) (and-both (functionsAsDefined t) _ (h .defined)
     (and-both (abilitiesOpen t) _ (s .abilities) (and-both (listenersOpen t) _ (s .listeners) (and-both (holdersOpen t) _ (s .holders)
-    (and-both (closedClear t) _ (s .clear) (and-both (queuedAwaited t) _ (h .awaited) (and-both (uniquesDistinct t) _ (s .uniques) (h .idle)))))))))))))))
+    (and-both (closedClear t) _ (s .clear) (and-both (queuedAwaited t) _ (h .awaited) (and-both (uniquesDistinct t) _ (s .uniques)
+    (and-both (sleepersIdle t) _ (h .idle) (and-both (idsWithin t) _ (s .ids) (s .bearers)))))))))))))))))
 
 -- ---- functions as defined, by place
 
@@ -82,6 +83,8 @@ obeyed t e =
     let e13 = and-right (holdersOpen t) _ e12 in
     let e14 = and-right (closedClear t) _ e13 in
     let e15 = and-right (queuedAwaited t) _ e14 in
+    let e16 = and-right (uniquesDistinct t) _ e15 in
+    let e17 = and-right (sleepersIdle t) _ e16 in
     let r = and-left (rowsHaveMeaning t) _ e7 in
     let d = and-left (functionsAsDefined t) _ e9 in
     record {
@@ -100,10 +103,12 @@ obeyed t e =
             holders = and-left (holdersOpen t) _ e12;
             clear = and-left (closedClear t) _ e13;
             uniques = and-left (uniquesDistinct t) _ e15;
+            ids = and-left (idsWithin t) _ e17;
+            bearers = and-right (idsWithin t) _ e17;
             jobsKnown = jobs-named t d r;
             ablesKnown = ables-named t d;
           };
       defined = d;
       awaited = and-left (queuedAwaited t) _ e14;
-      idle = and-right (uniquesDistinct t) _ e15;
+      idle = and-left (sleepersIdle t) _ e16;
     }

@@ -1,23 +1,25 @@
--- Sets of connections of which all are open: what the rule's test says of each member, and how such a set stays one while sets and
--- connections change. Assumes nothing.
+-- Sets of connections of which all are open, and client ids of open connections alone: what the rule's test says of each, and how it
+-- stays so while sets and connections change. Assumes nothing.
 use Prim.Native.Nat.{ℕ, zero, suc, _^_, _<_}
 use mathlib.Core.Path.{_≡_, refl, sym, _∙_, subst}
 use mathlib.Core.Logic.{_≢_}
-use mathlib.Core.Bool.{Bool, true, false}
+use mathlib.Core.List.{[]}
+use mathlib.Core.Bool.{Bool, true, false, _||_}
 use native.Mathlib.Decide.{ℕ-discrete}
 use native.Mathlib.Omega.{arith}
 use borrow.Author.Tests.{lt-ltb, ltb-true, ltb-false}
 use lib.ListN.{length, set}
 use lib.Pow.{pow-pos}
 use lib.Dec.{ltb}
+use Rattle.octets.specs.Bytes.{same}
 use Rattle.octets.proofs.Strings.{and-left, and-right, and-both}
 use Rattle.sets.specs.Sets.{has, insert, remove}
 use Rattle.sets.proofs.Laws.{has-insert-other, has-remove-same, has-remove-other, has-above, insert-below, remove-le, zero-has}
 use Rattle.server.specs.declared.Connection.{Connection}
-use Rattle.server.specs.Table.{Table, closed, withConnections}
+use Rattle.server.specs.Table.{Table, closed, idAt, withConnections}
 use Rattle.lists.specs.Lists.{implies}
-use Rattle.server.specs.Rules.{isOpen, onlyOpen, holderOpen}
-use Rattle.lists.proofs.Rows.{clash, implies-by, implies-use, below-at, below-by, row-set}
+use Rattle.server.specs.Rules.{isOpen, onlyOpen, holderOpen, idOpen, idsOpen}
+use Rattle.lists.proofs.Rows.{clash, implies-by, implies-use, or-left, or-right, below-at, below-by, row-set}
 
 -- the set has only connections of the table, and they are open
 pub record Among (t : Table) (s : ℕ) : Type 0 where
@@ -92,3 +94,23 @@ module _ (t u : Table) (long : length (u .connections) ≡ length (t .connection
 -- a connection's row anew, if it is open afterwards
 pub still-open : (t : Table) (c : ℕ) (x : Connection) → x .opened ≡ true → (k : ℕ) → isOpen t k ≡ true → isOpen (withConnections (set (t .connections) c x) t) k ≡ true
 still-open t c x o k e = row-set (λ (y : Connection). y .opened ≡ true) (t .connections) c x k closed o e
+
+-- ---- client ids
+
+-- the connection has no client id
+abbrev noId : Table → ℕ → Bool
+noId t c = same (idAt t c) []
+
+pub bearers-by : (t : Table) → ((c : ℕ) → c < length (t .connections) → idOpen t c ≡ true) → idsOpen t ≡ true
+bearers-by t f = below-by (idOpen t) (length (t .connections)) f
+
+pub bearer-at : (t : Table) (c : ℕ) → idsOpen t ≡ true → c < length (t .connections) → idOpen t c ≡ true
+bearer-at t c e l = below-at (idOpen t) (length (t .connections)) c e l
+
+-- no connection was closed, and the ids are as they were
+pub bearers-more : (t u : Table) → length (u .connections) ≡ length (t .connections) → ((c : ℕ) → isOpen t c ≡ true → isOpen u c ≡ true) → u .ids ≡ t .ids → idsOpen t ≡ true → idsOpen u ≡ true
+bearers-more t u long more same e = bearers-by u (λ c l. go c (isOpen t c) refl (bearer-at t c e (rw long at l)))
+  where
+    go : (c : ℕ) (b : Bool) → isOpen t c ≡ b → b || noId t c ≡ true → idOpen u c ≡ true
+    go c true o q = or-left (isOpen u c) _ (more c o)
+    go c false o q = or-right (isOpen u c) _ (rw same q)

@@ -11,8 +11,8 @@ use borrow.Author.Tests.{ltb-true, lt-ltb}
 use Rattle.octets.specs.Bytes.{Bytes, same}
 use Rattle.lists.specs.Lists.{find, filter}
 use Rattle.lists.proofs.Cases.{cond-cases}
-use Rattle.server.specs.Table.{Table, connectionAt, functionAt, jobAt, setConnection, setFunction, setJob, withRow, withHolder, hasHandle, known, roomFor, best, freePlace, joined}
-use Rattle.server.specs.Requests.{Event, opens, closes, sends, Work, Request, reset, preSleep, echo, bad, canDo, cantDo, grab, submit, work, getStatus, option, requestIn}
+use Rattle.server.specs.Table.{Table, connectionAt, functionAt, jobAt, setConnection, setId, setFunction, setJob, withRow, withHolder, hasHandle, known, roomFor, best, freePlace, joined}
+use Rattle.server.specs.Requests.{Event, opens, closes, sends, Work, Request, reset, preSleep, echo, bad, canDo, cantDo, identify, grab, submit, work, getStatus, option, requestIn}
 use Rattle.server.specs.Events.{Send, plain, copy, assign, Decision, silence, refuse, settle, opening, closing, ableTo, unable, canDoAt, cantDoAt, unableToAll, sleeping, grabAt, submittedBy, created, newJob, accepted, submitNew, submitTo, holdsHandle, hears, worked, listenersOf, workAt, statusOf, statusAt, exceptionsName, catching, optionIf, served, isConnection, onlyIfOpen, onlyIfClosed}
 use Rattle.server.specs.Server.{Server, decided}
 
@@ -22,6 +22,7 @@ pub data Change (c : ℕ) (t : Table) : Request → List Send → Table → Type
   able : (f : Bytes) (q : ℕ) → roomFor (t .functions) f ≡ some q → Change c t (canDo f) [] (setFunction t q (ableTo c f (functionAt t q)))
   unknown : (f : Bytes) → known (t .functions) f ≡ none → Change c t (cantDo f) [] t
   disabled : (f : Bytes) (q : ℕ) → known (t .functions) f ≡ some q → Change c t (cantDo f) [] (setFunction t q (unable c (functionAt t q)))
+  identified : (i : Bytes) → Change c t (identify i) [] (setId t c i)
   cleared : Change c t reset [] (unableToAll c t)
   slept : Change c t preSleep [] (sleeping true c t)
   noJobFor : (uniq : Bool) → best t c ≡ none → Change c t (grab uniq) (plain c 10 [] ∷ []) (sleeping false c t)
@@ -136,6 +137,7 @@ module _ (c : ℕ) (t : Table) where
   served-by (bad n) = refused _ _ (unread n)
   served-by (canDo f) = o-canDo f (roomFor (t .functions) f) refl
   served-by (cantDo f) = o-cantDo f (known (t .functions) f) refl
+  served-by (identify i) = ok (identified i)
   served-by reset = ok cleared
   served-by preSleep = ok slept
   served-by (grab uniq) = o-grab uniq (best t c) refl

@@ -15,7 +15,7 @@ use Rattle.lists.proofs.Cases.{cond-cases}
 use Rattle.lists.proofs.Rows.{clash, each-set}
 use Rattle.lists.proofs.Searches.{found}
 use Rattle.server.specs.Table.{Job, Table, noJob, jobAt, withRow, withHolder, roomFor, best, freePlace, joined}
-use Rattle.server.specs.Requests.{Event, opens, closes, sends, Work, Request, reset, preSleep, echo, canDo, cantDo, grab, submit, work, getStatus, option, requestIn}
+use Rattle.server.specs.Requests.{Event, opens, closes, sends, Work, Request, reset, preSleep, echo, canDo, cantDo, identify, grab, submit, work, getStatus, option, requestIn}
 use Rattle.server.specs.Requests as R
 use Rattle.server.specs.Events.{Send, Decision, silence, refuse, settle, dropped, forgot, lost, unlessLost, opening, closing, leftBy, unableToAll, sleeping, submittedBy, newJob, holdsHandle, worked}
 use Rattle.server_laws.proofs.Outcome.{Change, Refuses, Served, Stands, by-open, by-close, by-packet, Silences, noConnection, closesNone, sendsClosed, opensTwice, Outcome}
@@ -42,6 +42,7 @@ placeChanged c t preSleep = none
 placeChanged c t echo = none
 placeChanged c t (canDo f) = none
 placeChanged c t (cantDo f) = none
+placeChanged c t (identify i) = none
 placeChanged c t (getStatus h) = none
 placeChanged c t (option name) = none
 
@@ -92,6 +93,7 @@ module _ {t : Table} {c : ℕ} {b : Bytes} where
   becomes o q (Change.able f i r) = none-becomes q refl
   becomes o q (Change.unknown f r) = none-becomes q refl
   becomes o q (Change.disabled f i r) = none-becomes q refl
+  becomes o q (Change.identified i) = none-becomes q refl
   becomes o q Change.cleared = none-becomes q refl
   becomes o q Change.slept = none-becomes q refl
   becomes o q (Change.noJobFor uniq r) = none-becomes q r

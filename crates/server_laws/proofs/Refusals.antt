@@ -1,12 +1,12 @@
 -- Demand 1, of the definitions: a refused event leaves table and workloads as they were; by a number without a text nothing is sent, by
 -- one with a text one ERROR packet to the sender, with the number's two digits and its text; and every number is 0 or 2 to the last.
 -- Assumes nothing.
-use Prim.Native.Nat.{ℕ, zero, suc, _+_, _/_, _%_, _≤_}
+use Prim.Native.Nat.{ℕ, _+_, _/_, _%_, _≤_}
 use native.Mathlib.Omega.{arith}
 use mathlib.Core.Path.{_≡_, refl, ap, subst}
 use mathlib.Core.Bool.{Bool, true, false, not}
 use mathlib.Core.List.{List, [], _∷_}
-use lib.ListN.{length, getD, replicate, List·getD-map}
+use lib.ListN.{length, List·getD-map}
 use lib.Dec.{ltb, leb, eqb}
 use borrow.Author.Tests.{eq-eqb, leb-true}
 use Rattle.octets.specs.Bytes.{Bytes, same, within, startsWith, numberAt}
@@ -17,9 +17,9 @@ use Rattle.packet.specs.Arguments.{Parts, bad, parts, split, join}
 use Rattle.packet.specs.Packet.{Reading, header, argued, body, afterHeader, read, requests}
 use Rattle.packet.specs.Opaque.{masked}
 use Rattle.lists.proofs.Cases.{cond-both}
-use Rattle.lists.proofs.Rows.{clash}
+use Rattle.lists.proofs.Rows.{clash, replicate-default}
 use Rattle.server.specs.Table.{Job, Table}
-use Rattle.server.specs.Requests.{Event, sends, Request, reset, preSleep, echo, canDo, cantDo, grab, submit, work, getStatus, option, requested, fromReading, requestIn}
+use Rattle.server.specs.Requests.{Event, sends, Request, reset, preSleep, echo, canDo, cantDo, identify, grab, submit, work, getStatus, option, requested, fromReading, requestIn}
 use Rattle.server.specs.Requests as R
 use Rattle.server.specs.Events.{Send, Decision, silence, refuse, settle}
 use Rattle.server.specs.Server.{Server, Sent, render, rework, decided, answer, next}
@@ -35,20 +35,16 @@ badWithin preSleep = true
 badWithin echo = true
 badWithin (canDo f) = true
 badWithin (cantDo f) = true
+badWithin (identify i) = true
 badWithin (grab uniq) = true
 badWithin (submit priority background f u size) = true
 badWithin (work how kind h n d) = true
 badWithin (getStatus h) = true
 badWithin (option name) = true
 
-true-at : (n i : ℕ) → getD (replicate n true) i true ≡ true
-true-at zero i = refl
-true-at (suc n) zero = refl
-true-at (suc n) (suc i) = true-at n i
-
 requested-within : (kind : ℕ) (a b c : Bytes) → badWithin (requested kind a b c) ≡ true
 unfolding requested
-requested-within kind a b c = rw (← (List·getD-map badWithin)) (true-at 35 kind)
+requested-within kind a b c = rw (← (List·getD-map badWithin)) (replicate-default 35 kind true)
 
 abbrev Reads : Reading → Type 0
 Reads r = badWithin (fromReading r) ≡ true

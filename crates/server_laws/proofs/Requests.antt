@@ -12,14 +12,14 @@ use Rattle.octets.proofs.Strings.{and-left, and-right}
 use Rattle.packet.specs.declared.Rule.{Rule}
 use Rattle.packet.specs.declared.Rule.the-variants.{Opaque, Absent}
 use Rattle.packet.specs.declared.Shape.{Shape}
-use Rattle.packet.specs.declared.Shape.the-variants.{Foreign, Function, Submission, WorkStatus}
-use Rattle.packet.specs.Layout.{function, unique, number, rulesOf, requestShape, oneOf, priorityOf, backgroundOf}
+use Rattle.packet.specs.declared.Shape.the-variants.{Foreign, Function, Submission, WorkStatus, ClientId}
+use Rattle.packet.specs.Layout.{function, unique, number, clientId, rulesOf, requestShape, oneOf, priorityOf, backgroundOf}
 use Rattle.packet.specs.Arguments.{fits, fitAll, join}
 use Rattle.packet.specs.Packet.{Reading, refused, got, read, requests}
 use Rattle.packet.specs.Opaque.{masked}
 use Rattle.packet_laws.proofs.Packets.{Headed, header-good, Got, read-got}
 use Rattle.packet_laws.proofs.Splitting.{split-join}
-use Rattle.server.specs.Requests.{Work, tells, reports, ends, throws, Request, reset, preSleep, echo, bad, canDo, cantDo, grab, submit, work, getStatus, option, requested, fromReading, requestIn}
+use Rattle.server.specs.Requests.{Work, tells, reports, ends, throws, Request, reset, preSleep, echo, bad, canDo, cantDo, identify, grab, submit, work, getStatus, option, requested, fromReading, requestIn}
 use Rattle.lists.proofs.Cases.{cond-both}
 use Rattle.lists.proofs.Rows.{clash}
 
@@ -49,6 +49,7 @@ Good echo = Unit {0}
 Good (bad n) = Unit {0}
 Good (canDo f) = fits function f ≡ true
 Good (cantDo f) = Unit {0}
+Good (identify i) = fits clientId i ≡ true
 Good (grab uniq) = Unit {0}
 Good (submit priority background f u size) = Submitted priority f u size
 Good (work how kind h n d) = Told how n d
@@ -112,6 +113,10 @@ module _ (kind : ℕ) (args : List Bytes) (small : length (join args) ≤ 1024) 
   unfolding rulesOf
   ability e = fits-at (function ∷ []) args 0 e (omega arith)
 
+  identity : Asks ClientId (identify (getD args 0 []))
+  unfolding rulesOf
+  identity e = fits-at (clientId ∷ []) args 0 e (omega arith)
+
   report : Asks WorkStatus (work reports kind (getD args 0 []) (getD args 1 []) (getD args 2 []))
   unfolding rulesOf
   report e = record { numerator = fits-at (rulesOf WorkStatus) args 1 e (omega arith); denominator = fits-at (rulesOf WorkStatus) args 2 e (omega arith) }
@@ -124,7 +129,7 @@ module _ (kind : ℕ) (args : List Bytes) (small : length (join args) ≤ 1024) 
       (line submission (line (λ e. tt) (line (λ e. tt) (line (λ e. tt) (line (λ e. tt)  -- 7 to 11
       (line report (line (λ e. tt) (line (λ e. tt) (line (λ e. tt) (line (λ e. tt) (line (λ e. tt)  -- 12 to 17
       (line submission (line (λ e. tt) (line (λ e. tt)  -- 18 to 20
-      (line submission (line (λ e. tt) (line (λ e. tt) (line (λ e. tt) (line (λ e. tt) (line (λ e. tt)  -- 21 to 26
+      (line submission (line identity (line (λ e. tt) (line (λ e. tt) (line (λ e. tt) (line (λ e. tt)  -- 21 to 26
       (line (λ e. tt) (line (λ e. tt) (line (λ e. tt) (line (λ e. tt) (line (λ e. tt)  -- 27 to 31
       (line submission (line submission (line {shapes = Foreign ∷ Foreign ∷ []} submission beyond)))))))))))))))))))))))))))))))))))
       kind

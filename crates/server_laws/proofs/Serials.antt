@@ -15,7 +15,7 @@ use Rattle.server.specs.Requests.{tells, reports, ends, throws, Event, sends, r
 use Rattle.server.specs.Events.{Send, Decision, unlessLost, silence, refuse, dropped, toWake, settle, opening, closing, unableToAll, sleeping, newJob, created, accepted, noop}
 use Rattle.server.specs.Server.{Server, next, decided, start, after}
 use Rattle.lists.proofs.Cases.{All2, all2-by, all2-at}
-use Rattle.server_laws.proofs.Outcome.{Change, able, unknown, disabled, cleared, slept, noJobFor, grabbed, accepts, worker, status, optioned, echoed, Served, refused, done, Stands, Outcome, silenced, opened, closed, serves, outcome}
+use Rattle.server_laws.proofs.Outcome.{Change, able, unknown, disabled, identified, cleared, slept, noJobFor, grabbed, accepts, worker, status, optioned, echoed, Served, refused, done, Stands, Outcome, silenced, opened, closed, serves, outcome}
 use Rattle.server_laws.proofs.Lengths.{long-outcome}
 use Rattle.server_laws.proofs.Going.{free-place}
 use Rattle.server_laws.proofs.Places.{stays, begins, joins, taken, told, left, drops, Settles, goes-on, is-lost, settles, settled-at, settled-last}
@@ -121,6 +121,7 @@ module _ {c : ℕ} {t : Table} (o : Stands t c true) (b : Bytes) where
   change-moves q (able f i e) = same-last q (able f i e) refl
   change-moves q (unknown f e) = same-last q (unknown f e) refl
   change-moves q (disabled f i e) = same-last q (disabled f i e) refl
+  change-moves q (identified i) = same-last q (identified i) refl
   change-moves q cleared = same-last q cleared refl
   change-moves q slept = same-last q slept refl
   change-moves q (noJobFor uniq e) = same-last q (noJobFor uniq e) refl

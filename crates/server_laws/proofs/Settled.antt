@@ -21,7 +21,7 @@ use Rattle.server.specs.Rules.{textWithin, isKnown, namesApart, asDefined, func
 use Rattle.lists.proofs.Cases.{cond-both, cond-cases, All2, all2-map, all2-at}
 use Rattle.lists.proofs.Rows.{clash, never, implies-by, implies-use, or-right, or-false, all-row, all-imp, all-made, all-kept, pairwise-kept, any-at, any-imp, any-where, length-mapFrom, mapFrom-at, all2-mapFrom}
 use Rattle.server_laws.proofs.Numbers.{row-at, able-at, rows-long}
-use Rattle.server_laws.proofs.Openness.{none-open, open-more, holder-more}
+use Rattle.server_laws.proofs.Openness.{none-open, open-more, holder-more, bearers-more}
 use Rattle.server_laws.proofs.Sound.{Sound, sound-connections, sound-functions}
 use Rattle.server_laws.proofs.Jobs.{Goes, over, on, sound-jobs, either}
 use Rattle.server_laws.proofs.Functions.{job-known}
@@ -73,6 +73,7 @@ sound-woken t h =
     (all-imp _ _ (λ j e. open-more t u long more (j .row .listeners) e) (t .jobs) (h .listeners))
     (all-imp _ _ (λ j e. holder-more t u more (j .row .holder) e) (t .jobs) (h .holders))
     (all-kept _ _ (λ x y r e. r .clear e) g (h .clear))
+    (bearers-more t u long more refl (h .bearers))
     h
 
 pub woken-at : (t : Table) (c : ℕ) → connectionAt (woken t) c ≡ rouse t c (connectionAt t c)

@@ -8,14 +8,14 @@ use native.Mathlib.Omega.{arith}
 use borrow.Author.Tests.{le-leb, leb-true}
 use lib.ListN.{length}
 use lib.Dec.{leb}
-use Rattle.octets.specs.Bytes.{same, firstZero}
+use Rattle.octets.specs.Bytes.{Bytes, same, firstZero}
 use Rattle.octets.proofs.Strings.{and-left, and-right, same-is}
 use Rattle.sets.specs.Sets.{isEmpty}
 use Rattle.server.specs.declared.Connection.{Connection}
 use Rattle.lists.specs.Lists.{all, implies}
 use Rattle.server.specs.Sizes.{nameSize}
-use Rattle.server.specs.Table.{Function, Job, Table, noFunction, noRow, noJob, functionAt, jobAt, live, withConnections, withFunctions}
-use Rattle.server.specs.Rules.{nextSmall, serialsBelow, serialsDistinct, textWithin, namesWithin, textsWithin, together, sizesWithin, numbersFree, rowIsFree, rowHasMeaning, rowsHaveMeaning, isKnown, functionsDistinct, abilitiesOpen, listenersOpen, holdersOpen, closedClear, uniquesDistinct}
+use Rattle.server.specs.Table.{Function, Job, Table, noFunction, noRow, noJob, functionAt, jobAt, live, withConnections, withIds, withFunctions}
+use Rattle.server.specs.Rules.{nextSmall, serialsBelow, serialsDistinct, textWithin, namesWithin, textsWithin, together, sizesWithin, numbersFree, rowIsFree, rowHasMeaning, rowsHaveMeaning, isKnown, functionsDistinct, abilitiesOpen, listenersOpen, holdersOpen, closedClear, uniquesDistinct, idsWithin, idsOpen}
 use Rattle.lists.proofs.Rows.{implies-by, implies-use, all-at, all-row, all-by, all-imp}
 use Rattle.server.proofs.Rows.{free-row}
 use Rattle.server_laws.proofs.Openness.{holder-more}
@@ -49,14 +49,16 @@ pub record Sound (t : Table) : Type 0 where
   pub holders : holdersOpen t ≡ true
   pub clear : closedClear t ≡ true
   pub uniques : uniquesDistinct t ≡ true
+  pub ids : idsWithin t ≡ true
+  pub bearers : idsOpen t ≡ true
   pub jobsKnown : jobsNamed t ≡ true
   pub ablesKnown : ablesNamed t ≡ true
 
 -- ---- connections anew
 
 pub sound-connections : (t : Table) (cs : List Connection) → let u = withConnections cs t in
-    length cs ≡ length (t .connections) → abilitiesOpen u ≡ true → listenersOpen u ≡ true → holdersOpen u ≡ true → closedClear u ≡ true → Sound t → Sound u
-sound-connections t cs long a l o c h =
+    length cs ≡ length (t .connections) → abilitiesOpen u ≡ true → listenersOpen u ≡ true → holdersOpen u ≡ true → closedClear u ≡ true → idsOpen u ≡ true → Sound t → Sound u
+sound-connections t cs long a l o c b h =
     record {
       small = h .small;
       below = h .below;
@@ -71,6 +73,32 @@ sound-connections t cs long a l o c h =
       holders = o;
       clear = c;
       uniques = h .uniques;
+      ids = h .ids;
+      bearers = b;
+      jobsKnown = h .jobsKnown;
+      ablesKnown = h .ablesKnown;
+    }
+
+-- ---- client ids anew
+
+pub sound-ids : (t : Table) (is : List Bytes) → let u = withIds is t in idsWithin u ≡ true → idsOpen u ≡ true → Sound t → Sound u
+sound-ids t is w b h =
+    record {
+      small = h .small;
+      below = h .below;
+      serials = h .serials;
+      names = h .names;
+      texts = h .texts;
+      sizes = h .sizes;
+      rows = h .rows;
+      functions = h .functions;
+      abilities = h .abilities;
+      listeners = h .listeners;
+      holders = all-imp _ _ (λ j e. holder-more t (withIds is t) (λ c o. o) (j .row .holder) e) (t .jobs) (h .holders);
+      clear = h .clear;
+      uniques = h .uniques;
+      ids = w;
+      bearers = b;
       jobsKnown = h .jobsKnown;
       ablesKnown = h .ablesKnown;
     }
@@ -133,6 +161,8 @@ module _ (t : Table) (fs : List Function) (long : length fs ≡ length (t .funct
         holders = all-imp _ _ (λ j e. holder-more t (withFunctions fs t) (λ c o. o) (j .row .holder) e) (t .jobs) (h .holders);
         clear = h .clear;
         uniques = h .uniques;
+        ids = h .ids;
+        bearers = h .bearers;
         jobsKnown = jobs-stay s h;
         ablesKnown = k;
       }

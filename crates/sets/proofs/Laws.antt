@@ -4,14 +4,17 @@ use Prim.Native.Nat.{ℕ, zero, suc, _+_, _-_, _*_, _/_, _%_, _^_, _<_, _≤_, m
 use mathlib.Core.Path.{_≡_, refl, ap, _∙_, sym}
 use mathlib.Core.Logic.{_≢_}
 use mathlib.Core.Bool.{Bool, true, false, cond, _||_}
+use mathlib.Core.List.{[], _∷_, _++_}
 use native.Mathlib.Nat.{div-eq-of-lt, one-mul, pow-suc}
 use native.Mathlib.Numerals.{one-add}
 use native.Mathlib.Omega.{arith}
 use borrow.Author.Tests.{ltb-true, ltb-false, eqb-true, eqb-false, eq-eqb, ne-eqb}
 use lib.Bits.{bitOr, or-shr, or-step}
+use lib.Count.{ones, ones-step}
+use lib.ListN.{length, length-append}
 use lib.Pow.{pow-pos, pow-mono, shl-exact, shr-shr}
 use lib.Dec.{eqb, ltb}
-use Rattle.sets.specs.Sets.{has, insert, remove, union, isEmpty}
+use Rattle.sets.specs.Sets.{has, insert, remove, union, isEmpty, members}
 
 -- ---- one bit
 
@@ -222,6 +225,31 @@ no-members (suc n) s h f =
     let p = pow-suc 2 n in
     let r : s / 2 ≡ 0 = no-members n (s / 2) (omega arith) (λ c l. bit-lacks _ c (sym (bit-next s c) ∙ no-bit s (suc c) (f (suc c) (omega arith)))) in
     last-bit s (no-bit s 0 (f 0 (omega arith))) r
+
+-- ---- how many belong to a set
+
+-- one more connection to ask
+counted : (n s : ℕ) → length (members (suc n) s) ≡ length (members n s) + bit s n
+unfolding members
+counted n s = go (has s n) refl
+  where
+    go : (b : Bool) → has s n ≡ b → length (members n s ++ cond b (n ∷ []) []) ≡ length (members n s) + bit s n
+    go true e = omega (arith, length-append (members n s) (n ∷ []), is-bit s n e)
+    go false e = omega (arith, length-append (members n s) [], no-bit s n e)
+
+-- the lowest connection apart from the others
+counted-low : (n s : ℕ) → length (members (suc n) s) ≡ bit s 0 + length (members n (s / 2))
+unfolding members
+counted-low zero s = omega (arith, counted 0 s)
+counted-low (suc n) s = omega (arith, counted (suc n) s, counted-low n s, counted n (s / 2), bit-next s n)
+
+-- 01: "its ones are counted for the status line"
+pub ones-members : (n s : ℕ) → s < 2 ^ n → ones s ≡ length (members n s)
+unfolding bit members ones
+ones-members zero s h = let z : s ≡ 0 = omega arith in rw z
+ones-members (suc n) s h =
+    let p = pow-suc 2 n in
+    omega (arith, ones-step s, ones-members n (s / 2) (omega arith), counted-low n s)
 
 -- ---- what the code's tests and shifts say
 

@@ -8,7 +8,7 @@ use native.Mathlib.Omega.{arith}
 use lib.ListN.{length, getD, drop}
 use Rattle.octets.specs.Bytes.{Bytes}
 use Rattle.packet.specs.declared.Shape.{Shape}
-use Rattle.packet.specs.declared.Shape.the-variants.{Foreign, Empty, Function, Submission, WorkStatus, WorkData, Handle, Echo, OptionName, Assignment, UniqueAssignment, Error, StatusAnswer}
+use Rattle.packet.specs.declared.Shape.the-variants.{Foreign, Empty, Function, Submission, WorkStatus, WorkData, Handle, Echo, OptionName, ClientId, Assignment, UniqueAssignment, Error, StatusAnswer}
 use Rattle.packet.specs.Layout.{rulesOf}
 use Rattle.packet.specs.Packet.{Direction, Reading, refused, got, read, requests, responses}
 use Rattle.packet.specs.Opaque.{endsOpaque, masked, opaque, visible, withLast, withOpaque}
@@ -42,6 +42,7 @@ handle-kept WorkData x args n = ap (serialOf lap) (first-kept x args (omega arit
 handle-kept Handle x args n = refl
 handle-kept Echo x args n = refl
 handle-kept OptionName x args n = refl
+handle-kept ClientId x args n = refl
 handle-kept Assignment x args n = ap (serialOf lap) (first-kept x args (omega arith))
 handle-kept UniqueAssignment x args n = ap (serialOf lap) (first-kept x args (omega arith))
 handle-kept Error x args n = refl

@@ -5,7 +5,7 @@ use mathlib.Core.List.{List, [], _∷_}
 use lib.ListN.{getD, drop}
 use Rattle.octets.specs.Bytes.{Bytes}
 use Rattle.packet.specs.declared.Shape.{Shape}
-use Rattle.packet.specs.declared.Shape.the-variants.{Foreign, Empty, Function, Submission, WorkStatus, WorkData, Handle, Echo, OptionName, Assignment, UniqueAssignment, Error, StatusAnswer}
+use Rattle.packet.specs.declared.Shape.the-variants.{Foreign, Empty, Function, Submission, WorkStatus, WorkData, Handle, Echo, OptionName, ClientId, Assignment, UniqueAssignment, Error, StatusAnswer}
 use Rattle.packet.specs.Packet.{Direction, Reading, refused, got, read, requests, responses}
 use Rattle.handle.specs.declared.Serial as S
 use Rattle.handle.specs.declared.Serial.the-variants as SV
@@ -22,6 +22,7 @@ namesJob WorkData = true
 namesJob Handle = true
 namesJob Echo = false
 namesJob OptionName = false
+namesJob ClientId = false
 namesJob Assignment = true
 namesJob UniqueAssignment = true
 namesJob Error = false

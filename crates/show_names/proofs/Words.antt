@@ -14,7 +14,7 @@ use Rattle.octets.specs.Bytes.{Bytes, same, firstZero, within}
 use Rattle.octets.specs.Put.{put}
 use Rattle.octets.proofs.Strings.{same-is}
 use Rattle.packet.specs.declared.Shape.{Shape}
-use Rattle.packet.specs.declared.Shape.the-variants.{Foreign, Empty, Function, Submission, WorkStatus, WorkData, Handle, Echo, OptionName, Assignment, UniqueAssignment, Error, StatusAnswer}
+use Rattle.packet.specs.declared.Shape.the-variants.{Foreign, Empty, Function, Submission, WorkStatus, WorkData, Handle, Echo, OptionName, ClientId, Assignment, UniqueAssignment, Error, StatusAnswer}
 use Rattle.handle.specs.Handle.{decimal, decimalIn, padded}
 use Rattle.handle.proofs.Decimal.{decimal-in-most, decimal-most}
 use Rattle.handle.proofs.Printing.{put-padded, take-padded}
@@ -69,6 +69,7 @@ labels-pass WorkData = tt
 labels-pass Handle = tt
 labels-pass Echo = tt
 labels-pass OptionName = tt
+labels-pass ClientId = tt
 labels-pass Assignment = tt
 labels-pass UniqueAssignment = tt
 labels-pass Error = tt

@@ -6,7 +6,7 @@ use mathlib.Core.List.{List, [], _∷_, _++_, map}
 use lib.ListN.{getD, take, replicate}
 use Rattle.octets.specs.Bytes.{Bytes, firstZero, within}
 use Rattle.packet.specs.declared.Shape.{Shape}
-use Rattle.packet.specs.declared.Shape.the-variants.{Foreign, Empty, Function, Submission, WorkStatus, WorkData, Handle, Echo, OptionName, Assignment, UniqueAssignment, Error, StatusAnswer}
+use Rattle.packet.specs.declared.Shape.the-variants.{Foreign, Empty, Function, Submission, WorkStatus, WorkData, Handle, Echo, OptionName, ClientId, Assignment, UniqueAssignment, Error, StatusAnswer}
 use Rattle.handle.specs.Handle.{decimal, padded}
 
 -- between two words
@@ -117,6 +117,9 @@ dataLabel = 100 ∷ 97 ∷ 116 ∷ 97 ∷ []  -- data
 abbrev pub optionLabel : Bytes
 optionLabel = 111 ∷ 112 ∷ 116 ∷ 105 ∷ 111 ∷ 110 ∷ []  -- option
 
+abbrev pub idLabel : Bytes
+idLabel = 105 ∷ 100 ∷ []  -- id
+
 abbrev pub knownLabel : Bytes
 knownLabel = 107 ∷ 110 ∷ 111 ∷ 119 ∷ 110 ∷ []  -- known
 
@@ -140,6 +143,7 @@ labelsOf WorkData = handleLabel ∷ dataLabel ∷ []
 labelsOf Handle = handleLabel ∷ []
 labelsOf Echo = dataLabel ∷ []
 labelsOf OptionName = optionLabel ∷ []
+labelsOf ClientId = idLabel ∷ []
 labelsOf Assignment = handleLabel ∷ functionLabel ∷ workloadLabel ∷ []
 labelsOf UniqueAssignment = handleLabel ∷ functionLabel ∷ uniqueLabel ∷ workloadLabel ∷ []
 labelsOf Error = numberLabel ∷ textLabel ∷ []

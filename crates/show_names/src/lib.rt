@@ -89,6 +89,8 @@ const DATA: [u8; 11] = *b"data\0\0\0\0\0\0\0";
 
 const OPTION: [u8; 11] = *b"option\0\0\0\0\0";
 
+const ID: [u8; 11] = *b"id\0\0\0\0\0\0\0\0\0";
+
 const KNOWN: [u8; 11] = *b"known\0\0\0\0\0\0";
 
 const RUNNING: [u8; 11] = *b"running\0\0\0\0";
@@ -175,6 +177,7 @@ fn labels(shape: Shape) -> [[u8; 11]; 5]
         Shape::Handle => [HANDLE, NONE, NONE, NONE, NONE],
         Shape::Echo => [DATA, NONE, NONE, NONE, NONE],
         Shape::OptionName => [OPTION, NONE, NONE, NONE, NONE],
+        Shape::ClientId => [ID, NONE, NONE, NONE, NONE],
         Shape::Assignment => [HANDLE, FUNCTION, WORKLOAD, NONE, NONE],
         Shape::UniqueAssignment => [HANDLE, FUNCTION, UNIQUE, WORKLOAD, NONE],
         Shape::Error => [NUMBER, TEXT, NONE, NONE, NONE],

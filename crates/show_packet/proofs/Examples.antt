@@ -61,7 +61,12 @@ unseen-bytes : requestLine 3 (0 ∷ 82 ∷ 69 ∷ 81 ∷ 0 ∷ 0 ∷ 0 ∷ 1 ∷
 unfolding compute
 unseen-bytes = refl
 
-not-served : requestLine 2 (0 ∷ 82 ∷ 69 ∷ 81 ∷ 0 ∷ 0 ∷ 0 ∷ 22 ∷ 0 ∷ 0 ∷ 0 ∷ 7 ∷ 98 ∷ 111 ∷ 97 ∷ 114 ∷ 100 ∷ 45 ∷ 55 ∷ []) ≡ text "2 -> SET_CLIENT_ID (unreadable: type)"
+set-client-id : requestLine 2 (0 ∷ 82 ∷ 69 ∷ 81 ∷ 0 ∷ 0 ∷ 0 ∷ 22 ∷ 0 ∷ 0 ∷ 0 ∷ 7 ∷ 98 ∷ 111 ∷ 97 ∷ 114 ∷ 100 ∷ 45 ∷ 55 ∷ [])
+    ≡ text "2 -> SET_CLIENT_ID board-7"
+unfolding compute
+set-client-id = refl
+
+not-served : requestLine 2 (0 ∷ 82 ∷ 69 ∷ 81 ∷ 0 ∷ 0 ∷ 0 ∷ 24 ∷ 0 ∷ 0 ∷ 0 ∷ 0 ∷ []) ≡ text "2 -> ALL_YOURS (unreadable: type)"
 unfolding compute
 not-served = refl
 

@@ -5,9 +5,9 @@ use native.Mathlib.Omega.{arith}
 use lib.ListN.{length, length-append}
 use Rattle.octets.specs.Bytes.{Bytes}
 use Rattle.lists.specs.Lists.{fit}
-use Rattle.server.specs.Sizes.{functionCount, jobCount, nameSize, uniqueSize, numberSize}
+use Rattle.server.specs.Sizes.{functionCount, jobCount, nameSize, uniqueSize, numberSize, idSize}
 use Rattle.server.specs.Table.{Table}
-use Rattle.server.specs.Layout.{little, flagByte, column, rowBytes, bytesOf, tableSize, setSize, lastAt, ableAt, serialsAt, listenersAt, namesAt, uniquesAt, numeratorsAt, denominatorsAt, openedAt, asleepAt, exceptionsAt}
+use Rattle.server.specs.Layout.{little, flagByte, column, rowBytes, bytesOf, tableSize, setSize, lastAt, ableAt, serialsAt, listenersAt, namesAt, uniquesAt, numeratorsAt, denominatorsAt, openedAt, asleepAt, exceptionsAt, idsAt}
 use Rattle.table_laws.proofs.Fields.{Lies, lies-left, length-little}
 use Rattle.table_laws.proofs.Columns.{numbers-long, flags-long, texts-long}
 use Rattle.table_laws.proofs.RowColumns.{rowsSize, rows-long, next-lies}
@@ -41,9 +41,12 @@ asleeps t = column (λ x. flagByte (x .asleep)) (t .connections)
 abbrev pub exceptionses : Table → Bytes
 exceptionses t = column (λ x. flagByte (x .exceptions)) (t .connections)
 
+abbrev pub ids : Table → Bytes
+ids t = column (λ x. fit idSize x) (t .ids)
+
 -- ---- how long a table is
 
-module _ (t : Table) (fs : length (t .functions) ≡ functionCount) (js : length (t .jobs) ≡ jobCount) where
+module _ (t : Table) (fs : length (t .functions) ≡ functionCount) (js : length (t .jobs) ≡ jobCount) (is : length (t .ids) ≡ length (t .connections)) where
   pub length-bytes : length (bytesOf t) ≡ tableSize (length (t .connections))
   unfolding bytesOf
   length-bytes =
@@ -61,6 +64,7 @@ module _ (t : Table) (fs : length (t .functions) ≡ functionCount) (js : length
         flags-long (λ x. x .opened) (t .connections) n refl,
         flags-long (λ x. x .asleep) (t .connections) n refl,
         flags-long (λ x. x .exceptions) (t .connections) n refl,
+        texts-long idSize (λ x. x) (t .ids) n is,
       )
       (omega arith)
 
@@ -78,6 +82,7 @@ pub record Laid (t : Table) (b : Bytes) : Type 0 where
   pub opened : Lies b (openedAt (length (t .connections))) (openeds t)
   pub asleep : Lies b (asleepAt (length (t .connections))) (asleeps t)
   pub exceptions : Lies b (exceptionsAt (length (t .connections))) (exceptionses t)
+  pub id : Lies b (idsAt (length (t .connections))) (ids t)
 
 pub laid : (t : Table) (b : Bytes) → length (t .functions) ≡ functionCount → length (t .jobs) ≡ jobCount → Lies b 0 (bytesOf t) → Laid t b
 unfolding bytesOf
@@ -93,6 +98,7 @@ laid t b fs js l0 =
     let l8 = next-lies (listeners t) (setSize n * jobCount) (openedAt n) l7 (numbers-long (setSize n) (λ j. j .row .listeners) (t .jobs) jobCount js) refl in
     let l9 = next-lies (openeds t) n (asleepAt n) l8 (flags-long (λ x. x .opened) (t .connections) n refl) refl in
     let l10 = next-lies (asleeps t) n (exceptionsAt n) l9 (flags-long (λ x. x .asleep) (t .connections) n refl) refl in
+    let l11 = next-lies (exceptionses t) n (idsAt n) l10 (flags-long (λ x. x .exceptions) (t .connections) n refl) refl in
     record {
       last = lies-left b _ _ _ l0;
       rows = lies-left b _ _ _ l1;
@@ -104,5 +110,6 @@ laid t b fs js l0 =
       listening = lies-left b _ _ _ l7;
       opened = lies-left b _ _ _ l8;
       asleep = lies-left b _ _ _ l9;
-      exceptions = l10;
+      exceptions = lies-left b _ _ _ l10;
+      id = l11;
     }

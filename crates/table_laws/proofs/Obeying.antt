@@ -13,10 +13,10 @@ use Rattle.octets.specs.Bytes.{Bytes, same, firstZero, zeroFree, within, every}
 use Rattle.octets.proofs.Strings.{and-left, and-right, same-is}
 use Rattle.packet.specs.Arguments.{digits}
 use Rattle.lists.specs.Lists.{all, implies}
-use Rattle.server.specs.Sizes.{functionCount, jobCount, nameSize, uniqueSize}
-use Rattle.server.specs.Table.{Job, Table, noFunction, noJob, functionAt, jobAt, live}
+use Rattle.server.specs.Sizes.{functionCount, jobCount, nameSize, uniqueSize, idSize}
+use Rattle.server.specs.Table.{Job, Table, noFunction, noJob, idAt, functionAt, jobAt, live}
 use Rattle.server.specs.Layout.{setSize}
-use Rattle.server.specs.Rules.{nextSmall, serialsBelow, serialsDistinct, textWithin, storedNumber, namesWithin, textsWithin, together, sizesWithin, numbersFree, rowIsFree, rowHasMeaning, rowsHaveMeaning, functionsDistinct, functionsAsDefined, onlyOpen, abilitiesOpen, listenersOpen, obeys}
+use Rattle.server.specs.Rules.{nextSmall, serialsBelow, serialsDistinct, textWithin, storedNumber, namesWithin, textsWithin, together, sizesWithin, numbersFree, rowIsFree, rowHasMeaning, rowsHaveMeaning, functionsDistinct, functionsAsDefined, onlyOpen, abilitiesOpen, listenersOpen, holdersOpen, closedClear, queuedAwaited, uniquesDistinct, sleepersIdle, idsWithin, obeys}
 use Rattle.server.proofs.Rows.{RangeFits, free-fits, free-row, range-fits}
 use Rattle.table_laws.proofs.Round.{TextFits, Fitting}
 
@@ -99,9 +99,9 @@ module _ (t : Table) (fs : length (t .functions) ≡ functionCount) (cs : length
 
 -- ---- the table
 
-pub obeys-fitting : (t : Table) → length (t .functions) ≡ functionCount → length (t .jobs) ≡ jobCount → length (t .connections) ≤ 256 → obeys t ≡ true → Fitting t
+pub obeys-fitting : (t : Table) → length (t .functions) ≡ functionCount → length (t .jobs) ≡ jobCount → length (t .ids) ≡ length (t .connections) → length (t .connections) ≤ 256 → obeys t ≡ true → Fitting t
 unfolding obeys
-obeys-fitting t fs js cs e =
+obeys-fitting t fs js is cs e =
     let e2 = and-right (nextSmall t) _ e in
     let e3 = and-right (serialsBelow t) _ e2 in
     let e4 = and-right (serialsDistinct t) _ e3 in
@@ -112,6 +112,12 @@ obeys-fitting t fs js cs e =
     let e9 = and-right (functionsDistinct t) _ e8 in
     let e10 = and-right (functionsAsDefined t) _ e9 in
     let e11 = and-right (abilitiesOpen t) _ e10 in
+    let e12 = and-right (listenersOpen t) _ e11 in
+    let e13 = and-right (holdersOpen t) _ e12 in
+    let e14 = and-right (closedClear t) _ e13 in
+    let e15 = and-right (queuedAwaited t) _ e14 in
+    let e16 = and-right (uniquesDistinct t) _ e15 in
+    let e17 = and-right (sleepersIdle t) _ e16 in
     let small : t .last < 4294967296 = ltb-true _ _ (and-left (nextSmall t) _ e) in
     let below = and-left (serialsBelow t) _ e2 in
     let names = and-left (namesWithin t) _ e4 in
@@ -120,10 +126,13 @@ obeys-fitting t fs js cs e =
     let rows = and-left (rowsHaveMeaning t) _ e7 in
     let abilities = and-left (abilitiesOpen t) _ e10 in
     let hearers = and-left (listenersOpen t) _ e11 in
+    let ids = and-left (idsWithin t) _ e17 in
     record {
       sixteen = fs;
       thirtyTwo = js;
+      oneEach = is;
       last = small;
+      ids = λ c h. text-fits idSize (idAt t c) (all-at (textWithin idSize) (t .ids) c [] ids (rw is h));
       functions = λ q h.
           let i : q < length (t .functions) = rw fs h in
           record {

@@ -1,5 +1,5 @@
--- One job, function, connection or the last serial laid over the bytes of a table: the bytes of the table with it. Each is the law of
--- one field, at every column of its kind. A table has 16 functions and 32 jobs, and any number of connections. Assumes nothing.
+-- One job, function, connection, client id or the last serial laid over the bytes of a table: the bytes of the table with it. Each is the law of
+-- one field, at every column of its kind. A table has 16 functions and 32 jobs, and any number of connections and ids. Assumes nothing.
 use Prim.Native.Nat.{ℕ, _+_, _*_, _<_}
 use mathlib.Core.Path.{_≡_, refl, sym, ap, _∙_}
 use mathlib.Core.Bool.{Bool}
@@ -11,9 +11,9 @@ use Rattle.octets.specs.Put.{put}
 use Rattle.server.specs.declared.Connection.{Connection}
 use Rattle.server.specs.declared.JobRow.{JobRow}
 use Rattle.lists.specs.Lists.{fit}
-use Rattle.server.specs.Sizes.{functionCount, jobCount, nameSize, uniqueSize, numberSize}
-use Rattle.server.specs.Table.{Function, Job, Table, closed, noJob, noFunction, connectionAt, jobAt, functionAt, setConnection, setFunction, setJob, withRow, withTexts, withLastSerial, withAsleep, withName, withAble}
-use Rattle.server.specs.Layout.{little, flagByte, column, rowBytes, bytesOf, setSize, ableAt, listenersAt, namesAt, uniquesAt, numeratorsAt, denominatorsAt, openedAt, asleepAt, exceptionsAt}
+use Rattle.server.specs.Sizes.{functionCount, jobCount, nameSize, uniqueSize, numberSize, idSize}
+use Rattle.server.specs.Table.{Function, Job, Table, closed, noJob, noFunction, connectionAt, jobAt, functionAt, setConnection, setId, setFunction, setJob, withRow, withTexts, withLastSerial, withAsleep, withName, withAble}
+use Rattle.server.specs.Layout.{little, flagByte, column, rowBytes, bytesOf, setSize, ableAt, listenersAt, namesAt, uniquesAt, numeratorsAt, denominatorsAt, openedAt, asleepAt, exceptionsAt, idsAt}
 use Rattle.lists.proofs.Lists.{length-fit}
 use Rattle.table_laws.proofs.Fields.{length-little}
 use Rattle.table_laws.proofs.Columns.{numbers-long, flags-long, texts-long}
@@ -28,9 +28,9 @@ pub record Sized (t : Table) : Type 0 where
 
 -- ---- the columns of a table
 
--- n connections; the numbers of js, the uniques of us, the stored texts of ns, the names of fs and the sets of xs
-abbrev pub segmentsOf : ℕ → ℕ → List Job → List Job → List Job → List Function → List Function → List Connection → List Bytes
-segmentsOf n last js us ns fs xs cs =
+-- n connections; the numbers of js, the uniques of us, the stored texts of ns, the names of fs, the sets of xs, the flags of cs and the ids is
+abbrev pub segmentsOf : ℕ → ℕ → List Job → List Job → List Job → List Function → List Function → List Connection → List Bytes → List Bytes
+segmentsOf n last js us ns fs xs cs is =
     little 4 last
     ∷ rowBytes js
     ∷ column (λ x. fit nameSize (x .name)) fs
@@ -42,15 +42,17 @@ segmentsOf n last js us ns fs xs cs =
     ∷ column (λ x. flagByte (x .opened)) cs
     ∷ column (λ x. flagByte (x .asleep)) cs
     ∷ column (λ x. flagByte (x .exceptions)) cs
+    ∷ column (fit idSize) is
     ∷ []
 
 abbrev pub segments : Table → List Bytes
-segments t = segmentsOf (length (t .connections)) (t .last) (t .jobs) (t .jobs) (t .jobs) (t .functions) (t .functions) (t .connections)
+segments t = segmentsOf (length (t .connections)) (t .last) (t .jobs) (t .jobs) (t .jobs) (t .functions) (t .functions) (t .connections) (t .ids)
 
-abbrev pub widthsFor : ℕ → List ℕ
-widthsFor n =
+-- n connections and m ids
+abbrev pub widthsFor : ℕ → ℕ → List ℕ
+widthsFor n m =
     4 ∷ rowsSize ∷ nameSize * functionCount ∷ uniqueSize * jobCount
-    ∷ numberSize * jobCount ∷ numberSize * jobCount ∷ setSize n * functionCount ∷ setSize n * jobCount ∷ n ∷ n ∷ n ∷ []
+    ∷ numberSize * jobCount ∷ numberSize * jobCount ∷ setSize n * functionCount ∷ setSize n * jobCount ∷ n ∷ n ∷ n ∷ idSize * m ∷ []
 
 pub bytes-laid : (t : Table) → bytesOf t ≡ laid (segments t)
 unfolding bytesOf
@@ -60,7 +62,10 @@ module _ (t : Table) (z : Sized t) where
   abbrev n : ℕ
   n = length (t .connections)
 
-  pub widths : map length (segments t) ≡ widthsFor n
+  abbrev m : ℕ
+  m = length (t .ids)
+
+  pub widths : map length (segments t) ≡ widthsFor n m
   widths =
       rw (
         length-little 4 (t .last),
@@ -74,12 +79,13 @@ module _ (t : Table) (z : Sized t) where
         flags-long (λ x. x .opened) (t .connections) n refl,
         flags-long (λ x. x .asleep) (t .connections) n refl,
         flags-long (λ x. x .exceptions) (t .connections) n refl,
+        texts-long idSize (λ x. x) (t .ids) m refl,
       )
 
-  start : (b : Bytes) → Over b (widthsFor n) (put 0 (bytesOf t) b) (segments t)
+  start : (b : Bytes) → Over b (widthsFor n m) (put 0 (bytesOf t) b) (segments t)
   start b = record { is = ap (λ (s : Bytes). put 0 s b) (bytes-laid t); widths = widths }
 
-  finish : (b x : Bytes) (u : Table) → Over b (widthsFor n) x (segments u) → x ≡ put 0 (bytesOf u) b
+  finish : (b x : Bytes) (u : Table) → Over b (widthsFor n m) x (segments u) → x ≡ put 0 (bytesOf u) b
   finish b x u o = o .is ∙ ap (λ (s : Bytes). put 0 s b) (sym (bytes-laid u))
 
   -- ---- one job
@@ -96,7 +102,7 @@ module _ (t : Table) (z : Sized t) where
     abbrev pub textPuts : Job → Bytes → Bytes
     textPuts j x = put (denominatorsAt + numberSize * p) (fit numberSize (j .denominator)) (put (numeratorsAt + numberSize * p) (fit numberSize (j .numerator)) (put (uniquesAt + uniqueSize * p) (fit uniqueSize (j .unique)) x))
 
-    row-over : (j : Job) → Over b (widthsFor n) (rowPuts (j .row) (put 0 (bytesOf t) b)) (segmentsOf n (t .last) (set (t .jobs) p j) (t .jobs) (t .jobs) (t .functions) (t .functions) (t .connections))
+    row-over : (j : Job) → Over b (widthsFor n m) (rowPuts (j .row) (put 0 (bytesOf t) b)) (segmentsOf n (t .last) (set (t .jobs) p j) (t .jobs) (t .jobs) (t .functions) (t .functions) (t .connections) (t .ids))
     row-over j =
         let o1 = next (start b) (λ (j : Job). little (setSize n) (j .row .listeners)) (setSize n) (λ j. length-little (setSize n) (j .row .listeners)) 7 (listenersAt n) (t .jobs) p j refl (omega arith) (omega arith) inside in
         next-row (t .jobs) (z .jobs) p h j (length-little 4 (t .last)) o1
@@ -123,7 +129,7 @@ module _ (t : Table) (z : Sized t) where
 
     -- a job that keeps its row
     texts-over : (j : Job) → j .row ≡ jobAt t p .row → (us : List Job) → column (λ j. fit uniqueSize (j .unique)) us ≡ column (λ j. fit uniqueSize (j .unique)) (set (t .jobs) p j)
-        → laid (segmentsOf n (t .last) (t .jobs) us (set (t .jobs) p j) (t .functions) (t .functions) (t .connections)) ≡ bytesOf (setJob t p j)
+        → laid (segmentsOf n (t .last) (t .jobs) us (set (t .jobs) p j) (t .functions) (t .functions) (t .connections) (t .ids)) ≡ bytesOf (setJob t p j)
     texts-over j e us u =
         sym (bytes-laid (setJob t p j)
         ∙ rw (
@@ -178,9 +184,9 @@ module _ (t : Table) (z : Sized t) where
 
   module _ (b : Bytes) (c : ℕ) (h : c < length (t .connections)) where
     -- other flags, but as many connections
-    as-many : (x : Connection) → laid (segmentsOf n (t .last) (t .jobs) (t .jobs) (t .jobs) (t .functions) (t .functions) (set (t .connections) c x)) ≡ bytesOf (setConnection t c x)
+    as-many : (x : Connection) → laid (segmentsOf n (t .last) (t .jobs) (t .jobs) (t .jobs) (t .functions) (t .functions) (set (t .connections) c x) (t .ids)) ≡ bytesOf (setConnection t c x)
     as-many x =
-        ap (λ (m : ℕ). laid (segmentsOf m (t .last) (t .jobs) (t .jobs) (t .jobs) (t .functions) (t .functions) (set (t .connections) c x))) (sym (length-set (t .connections) c x))
+        ap (λ (m : ℕ). laid (segmentsOf m (t .last) (t .jobs) (t .jobs) (t .jobs) (t .functions) (t .functions) (set (t .connections) c x) (t .ids))) (sym (length-set (t .connections) c x))
         ∙ sym (bytes-laid (setConnection t c x))
 
     pub put-connection : (x : Connection)
@@ -204,6 +210,11 @@ module _ (t : Table) (z : Sized t) where
           column-same (λ (x : Connection). flagByte (x .opened)) (t .connections) c x closed refl,
           column-same (λ (x : Connection). flagByte (x .exceptions)) (t .connections) c x closed refl,
         )))
+
+  -- ---- one client id
+
+  pub put-id : (b : Bytes) (c : ℕ) → c < length (t .ids) → (i : Bytes) → put (idsAt n + idSize * c) (fit idSize i) (put 0 (bytesOf t) b) ≡ put 0 (bytesOf (setId t c i)) b
+  put-id b c h i = finish b _ (setId t c i) (next (start b) (fit idSize) idSize (length-fit idSize) 11 (idsAt n) (t .ids) c i refl (omega arith) (omega arith) h)
 
 -- ---- the last serial
 

@@ -11,9 +11,9 @@ use Rattle.octets.specs.Put.{put}
 use Rattle.octets.proofs.Laying.{put-start}
 use Rattle.server.specs.declared.Connection.{Connection}
 use Rattle.server.specs.declared.JobRow.{JobRow}
-use Rattle.server.specs.Sizes.{functionCount, jobCount}
-use Rattle.server.specs.Table.{Function, Job, Table, closed, noFunction, noJob, connectionAt, functionAt, jobAt}
-use Rattle.server.specs.Layout.{bytesOf, tableOf, tableSize, setSize, connectionIn, functionIn, rowIn, jobIn}
+use Rattle.server.specs.Sizes.{functionCount, jobCount, nameSize, uniqueSize, numberSize, idSize}
+use Rattle.server.specs.Table.{Function, Job, Table, closed, noFunction, noJob, connectionAt, idAt, functionAt, jobAt}
+use Rattle.server.specs.Layout.{bytesOf, tableOf, tableSize, setSize, connectionIn, idIn, functionIn, rowIn, jobIn}
 use Rattle.table_laws.proofs.Fields.{little-lies}
 use Rattle.table_laws.proofs.Columns.{places-are, number-at, flag-at, text-at}
 use Rattle.table_laws.proofs.RowColumns.{RowFits, rows-laid, row-back}
@@ -36,11 +36,13 @@ pub record JobFits (n : ℕ) (j : Job) : Type 0 where
   pub numerator : TextFits 10 (j .numerator)
   pub denominator : TextFits 10 (j .denominator)
 
--- "known functions 16; unfinished jobs 32", and every field fits its place
+-- "known functions 16; unfinished jobs 32", a client id for each connection, and every field fits its place
 pub record Fitting (t : Table) : Type 0 where
   pub sixteen : length (t .functions) ≡ functionCount
   pub thirtyTwo : length (t .jobs) ≡ jobCount
+  pub oneEach : length (t .ids) ≡ length (t .connections)
   pub last : t .last < 2 ^ 32
+  pub ids : (c : ℕ) → c < length (t .connections) → TextFits idSize (idAt t c)
   pub functions : (q : ℕ) → q < functionCount → FunctionFits (length (t .connections)) (functionAt t q)
   pub jobs : (p : ℕ) → p < jobCount → JobFits (length (t .connections)) (jobAt t p)
 
@@ -57,9 +59,9 @@ job-is : (j : Job) {r : JobRow} {u n d : Bytes} → r ≡ j .row → u ≡ j .un
     → _≡_ {A = Job} (record { row = r; unique = u; numerator = n; denominator = d }) j
 job-is j p q r s = rw (p, q, r, s)
 
-table-is : (t : Table) {l : ℕ} {cs : List Connection} {fs : List Function} {js : List Job} → l ≡ t .last → cs ≡ t .connections → fs ≡ t .functions → js ≡ t .jobs
-    → _≡_ {A = Table} (record { last = l; connections = cs; functions = fs; jobs = js }) t
-table-is t p q r s = rw (p, q, r, s)
+table-is : (t : Table) {l : ℕ} {cs : List Connection} {is : List Bytes} {fs : List Function} {js : List Job} → l ≡ t .last → cs ≡ t .connections → is ≡ t .ids → fs ≡ t .functions → js ≡ t .jobs
+    → _≡_ {A = Table} (record { last = l; connections = cs; ids = is; functions = fs; jobs = js }) t
+table-is t p q i r s = rw (p, q, i, r, s)
 
 -- ---- the round trip
 
@@ -70,6 +72,11 @@ module _ (t : Table) (b : Bytes) (ok : Fitting t) (l : Laid t b) where
       (flag-at b _ (t .connections) c closed h (λ x. x .opened) (l .opened))
       (flag-at b _ (t .connections) c closed h (λ x. x .asleep) (l .asleep))
       (flag-at b _ (t .connections) c closed h (λ x. x .exceptions) (l .exceptions))
+
+  ids-back : (c : ℕ) → c < length (t .connections) → idIn (length (t .connections)) b c ≡ idAt t c
+  ids-back c h =
+      let f = ok .ids c h in
+      text-at b _ (t .ids) c [] (rw (ok .oneEach) h) idSize (λ x. x) (l .id) (f .within) (f .clean)
 
   functions-back : (q : ℕ) → q < functionCount → functionIn (length (t .connections)) b q ≡ functionAt t q
   functions-back q h =
@@ -96,6 +103,7 @@ module _ (t : Table) (b : Bytes) (ok : Fitting t) (l : Laid t b) where
   laid-back =
       table-is t (little-lies 4 (t .last) b 0 (ok .last) (l .last))
       (places-are (connectionIn (length (t .connections)) b) closed (length (t .connections)) (t .connections) refl connections-back)
+      (places-are (idIn (length (t .connections)) b) [] (length (t .connections)) (t .ids) (ok .oneEach) ids-back)
       (places-are (functionIn (length (t .connections)) b) noFunction functionCount (t .functions) (ok .sixteen) functions-back)
       (places-are (jobIn (length (t .connections)) b) noJob jobCount (t .jobs) (ok .thirtyTwo) jobs-back)
 
@@ -105,7 +113,7 @@ table-back t r ok = laid-back t (bytesOf t ++ r) ok (laid t (bytesOf t ++ r) (ok
 
 pub table-put : (n : ℕ) (t : Table) (b : Bytes) → Fitting t → length (t .connections) ≡ n → tableSize n ≤ length b → tableOf n (put 0 (bytesOf t) b) ≡ t
 table-put n t b ok e h =
-    let s : length (bytesOf t) ≤ length b = omega (arith, length-bytes t (ok .sixteen) (ok .thirtyTwo)) in
+    let s : length (bytesOf t) ≤ length b = omega (arith, length-bytes t (ok .sixteen) (ok .thirtyTwo) (ok .oneEach)) in
     rw (put-start (bytesOf t) b s, ← e) (table-back t (drop (length (bytesOf t)) b) ok)
 
 -- each table has one byte image, and each image one table

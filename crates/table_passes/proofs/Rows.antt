@@ -1,4 +1,4 @@
--- Tests of the rows, functions and connections of a table that bytes hold, place by place. Assumes nothing.
+-- Tests of the rows, functions, connections and client ids of a table that bytes hold, place by place. Assumes nothing.
 use Prim.Native.Nat.{ℕ, zero, suc, _+_, _*_, _<_, _≤_}
 use mathlib.Core.Path.{_≡_, refl, ap, ap₂, _∙_}
 use mathlib.Core.Bool.{Bool, true, false, not, cond, _&&_, _||_}
@@ -15,8 +15,8 @@ use Rattle.server.specs.declared.JobRow.{JobRow}
 use Rattle.lists.specs.Lists.{any, all, pairwise, numbers}
 use Rattle.lists.proofs.Maps.{any-map}
 use Rattle.server.specs.Sizes.{connectionCount, functionCount, jobCount}
-use Rattle.server.specs.Table.{Function, Job, closed, noFunction, connectionAt, functionAt, rowsOf, ablesOf, live, wanted}
-use Rattle.server.specs.Layout.{littleAt, connectionIn, functionIn, rowIn, jobIn, tableOf, serialsAt}
+use Rattle.server.specs.Table.{Function, Job, closed, noFunction, connectionAt, idAt, functionAt, rowsOf, ablesOf, live, wanted}
+use Rattle.server.specs.Layout.{littleAt, connectionIn, idIn, functionIn, rowIn, jobIn, tableOf, serialsAt}
 use Rattle.server.specs.Rules.{isKnown, asDefined, functionsAsDefined, sleeperIdle, sleepersIdleFrom, sleepersIdle}
 use Rattle.table_laws.proofs.Columns.{length-places, places-at}
 use Rattle.table_passes.proofs.Tests.{below-at}
@@ -85,6 +85,10 @@ module _ (n : ℕ) (b : Bytes) where
   unfolding tableOf
   connections-all p = all-read (connectionIn n b) p (numbers 0 n)
 
+  pub ids-all : (p : Bytes → Bool) → all p (tableOf n b .ids) ≡ all (λ c. p (idIn n b c)) (numbers 0 n)
+  unfolding tableOf
+  ids-all p = all-read (idIn n b) p (numbers 0 n)
+
   -- ---- one place
 
   pub connections-length : length (tableOf n b .connections) ≡ n
@@ -98,6 +102,10 @@ module _ (n : ℕ) (b : Bytes) where
   pub connection-at : (c : ℕ) → c < n → connectionAt (tableOf n b) c ≡ connectionIn n b c
   unfolding tableOf
   connection-at c h = places-at (connectionIn n b) closed n c h
+
+  pub id-at : (c : ℕ) → c < n → idAt (tableOf n b) c ≡ idIn n b c
+  unfolding tableOf
+  id-at c h = places-at (idIn n b) [] n c h
 
   pub function-at : (q : ℕ) → q < functionCount → functionAt (tableOf n b) q ≡ functionIn n b q
   unfolding tableOf

@@ -1,4 +1,4 @@
-// The texts of the table in the lent bytes: names, uniques and stored texts, each at the start of a place of fixed width and followed
+// The texts of the table in the lent bytes: names, uniques, stored texts and client ids, each at the start of a place of fixed width and followed
 // by zeros. An inner crate: every function asks its callers that the place lies inside the bytes, and refuses nothing.
 ghost use mathlib.Core.Path.{_≡_};
 ghost use Prim.Native.Nat.{_+_, _*_, _≤_, _<_};
@@ -6,12 +6,15 @@ ghost use mathlib.Core.List.{[]};
 ghost use lib.ListN.{length, getD, take, drop};
 ghost use Rattle.octets.specs.Put.{put};
 ghost use Rattle.lists.specs.Lists.{fit};
-ghost use Rattle.server.specs.Sizes.{functionCount, nameSize, uniqueSize};
-ghost use Rattle.server.specs.Layout.{textAt, uniquesAt};
+ghost use Rattle.server.specs.Sizes.{connectionCount, functionCount, nameSize, uniqueSize};
+ghost use Rattle.server.specs.Table.{idAt};
+ghost use Rattle.server.specs.Layout.{tableOf, tableSize, textAt, uniquesAt};
 ghost use Rattle.lists.specs.Places.{placed};
 ghost use Rattle.table_texts.specs.Places.{agree, namesIn, placeOf, zeros};
 use lists::Place;
 use server::FUNCTIONS;
+use server::ID_SIZE;
+use server::IDS_AT;
 use server::NAME_SIZE;
 use server::NAMES_AT;
 use server::UNIQUE_SIZE;
@@ -24,6 +27,14 @@ pub fn text(table: &[u8], at: usize, width: usize) -> &[u8]
     let place = &table[at..at + width];
     let end = octets::first_zero(place);
     &place[..end]
+}
+
+// The client id of connection `c`; empty where it has none.
+pub fn id_at(table: &[u8], c: usize) -> &[u8]
+    requires { ⌜ (tableSize connectionCount ≤ length (now table)) × (c < connectionCount) ⌝ }
+    ensures { λ r. ⌜ now r ≡ idAt (tableOf connectionCount (now (table .entry))) c ⌝ }
+{
+    text(table, IDS_AT + ID_SIZE * c, ID_SIZE)
 }
 
 // Lays `n` zeros over `b` from `at` on.

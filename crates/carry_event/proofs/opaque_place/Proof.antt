@@ -28,15 +28,15 @@ returns-2 c = shape-arm numbers opaquePlace (c .before .before .args .shape) (5 
 
 returns-3 : tie.Need-returns-3
 unfolding opaquePlace rulesOf
-returns-3 c = shape-arm numbers opaquePlace (c .before .args .shape) (3 ∷ 9 ∷ []) tt (c .match .keys3)
+returns-3 c = shape-arm numbers opaquePlace (c .before .args .shape) (3 ∷ 10 ∷ []) tt (c .match .keys3)
 
 returns-4 : tie.Need-returns-4
 unfolding opaquePlace rulesOf
-returns-4 c = shape-arm numbers opaquePlace (c .before .before .args .shape) (10 ∷ []) tt (c .before .match .keys4)
+returns-4 c = shape-arm numbers opaquePlace (c .before .before .args .shape) (11 ∷ []) tt (c .before .match .keys4)
 
 returns-5 : tie.Need-returns-5
 unfolding opaquePlace rulesOf
-returns-5 c = shape-arm numbers opaquePlace (c .before .args .shape) (0 ∷ 1 ∷ 2 ∷ 4 ∷ 6 ∷ 8 ∷ 11 ∷ 12 ∷ []) tt (c .match .keys5)
+returns-5 c = shape-arm numbers opaquePlace (c .before .args .shape) (0 ∷ 1 ∷ 2 ∷ 4 ∷ 6 ∷ 8 ∷ 9 ∷ 12 ∷ 13 ∷ []) tt (c .match .keys5)
 
 pub opaque-place-spec : {M : Type 1} → statement M
 opaque-place-spec =

@@ -1,7 +1,7 @@
 -- `carry_whole::change_texts` meets its contract, by the cases of the change and the law of each. Assumes nothing.
 use mathlib.Core.Path.{_∙_}
 use borrow.Author.Needs.{needs}
-use Rattle.carry_whole.proofs.Laid.{nothing-laid, name-laid, job-laid, texts-laid, left-laid}
+use Rattle.carry_whole.proofs.Laid.{nothing-laid, name-laid, job-laid, texts-laid, id-laid, left-laid}
 use Rattle.carry_whole.proofs.change_texts.Statement.{statement}
 use Rattle.carry_whole.proofs.change_texts.Tie as tie
 
@@ -38,10 +38,19 @@ put-numbers-requires c κs =
 enum-known-change-4 : tie.Need-enum-known-change-4
 enum-known-change-4 c = search needs
 
-reset-held-requires : tie.Need-reset-held-requires
-reset-held-requires c κs =
+put-id-requires : tie.Need-put-id-requires
+put-id-requires c κs =
     let p = c .before .before .before .before .before .before .before .before .pre in
     let f = rw (c .before .before .change4 .given .1) at (p .2) in
+    search (needs, p .1, f .0, f .1)
+
+enum-known-change-5 : tie.Need-enum-known-change-5
+enum-known-change-5 c = search needs
+
+put-left-requires : tie.Need-put-left-requires
+put-left-requires c κs =
+    let p = c .before .before .before .before .before .before .before .before .pre in
+    let f = rw (c .before .before .change5 .given .1) at (p .2) in
     search (needs, p .1, f)
 
 returns : tie.Need-returns
@@ -83,7 +92,19 @@ same-length-4 c = search needs
 returns-5 : tie.Need-returns-5
 returns-5 c =
     let p = c .before .before .before .before .before .before .before .before .before .before .before .pre in
-    c .before .before .reset-held .ensures ∙ left-laid _ (p .0) _ _ _ _ _ (c .before .before .before .before .before .change4 .given .1)
+    let e = c .before .before .before .before .before .change4 .given .1 in
+    let f = rw e at (p .2) in
+    c .before .before .put-id .ensures ∙ id-laid _ (p .0) _ _ _ _ _ e (f .0)
+
+same-length-5 : tie.Need-same-length-5
+same-length-5 c = search needs
+
+returns-6 : tie.Need-returns-6
+returns-6 c =
+    let p = c .before .before .before .before .before .before .before .before .before .before .before .pre in
+    let e = c .before .before .before .before .before .change5 .given .1 in
+    let f = rw e at (p .2) in
+    c .before .before .put-left .ensures ∙ left-laid _ (p .0) _ _ _ _ _ e f
 
 pub change-texts-spec : {M : Type 1} → statement M
 change-texts-spec =
@@ -97,7 +118,9 @@ change-texts-spec =
     enum-known-change-3
     put-numbers-requires
     enum-known-change-4
-    reset-held-requires
+    put-id-requires
+    enum-known-change-5
+    put-left-requires
     returns
     same-length
     returns-2
@@ -106,4 +129,6 @@ change-texts-spec =
     same-length-3
     returns-4
     same-length-4
-    returns-5)
+    returns-5
+    same-length-5
+    returns-6)

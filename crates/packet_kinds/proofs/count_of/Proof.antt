@@ -20,23 +20,23 @@ returns c = (count-arm (c .before .args .shape) (0 ∷ 1 ∷ []) tt (c .match .k
 
 returns-2 : tie.Need-returns-2
 unfolding rulesOf
-returns-2 c = (count-arm (c .before .args .shape) (2 ∷ 6 ∷ 7 ∷ 8 ∷ []) tt (c .match .keys2), lit≤ tt)
+returns-2 c = (count-arm (c .before .args .shape) (2 ∷ 6 ∷ 7 ∷ 8 ∷ 9 ∷ []) tt (c .match .keys2), lit≤ tt)
 
 returns-3 : tie.Need-returns-3
 unfolding rulesOf
-returns-3 c = (count-arm (c .before .args .shape) (5 ∷ 11 ∷ []) tt (c .match .keys3), lit≤ tt)
+returns-3 c = (count-arm (c .before .args .shape) (5 ∷ 12 ∷ []) tt (c .match .keys3), lit≤ tt)
 
 returns-4 : tie.Need-returns-4
 unfolding rulesOf
-returns-4 c = (count-arm (c .before .args .shape) (3 ∷ 4 ∷ 9 ∷ []) tt (c .match .keys4), lit≤ tt)
+returns-4 c = (count-arm (c .before .args .shape) (3 ∷ 4 ∷ 10 ∷ []) tt (c .match .keys4), lit≤ tt)
 
 returns-5 : tie.Need-returns-5
 unfolding rulesOf
-returns-5 c = (count-arm (c .before .before .args .shape) (10 ∷ []) tt (c .before .match .keys5), lit≤ tt)
+returns-5 c = (count-arm (c .before .before .args .shape) (11 ∷ []) tt (c .before .match .keys5), lit≤ tt)
 
 returns-6 : tie.Need-returns-6
 unfolding rulesOf
-returns-6 c = (count-arm (c .before .before .args .shape) (12 ∷ []) tt (c .before .match .keys6), lit≤ tt)
+returns-6 c = (count-arm (c .before .before .args .shape) (13 ∷ []) tt (c .before .match .keys6), lit≤ tt)
 
 pub count-of-spec : {M : Type 1} → statement M
 count-of-spec =

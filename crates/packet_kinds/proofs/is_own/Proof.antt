@@ -14,7 +14,7 @@ returns : tie.Need-returns
 returns c = search needs
 
 returns-2 : tie.Need-returns-2
-returns-2 c = shape-arm bools isOwn (c .before .args .shape) (1 ∷ 2 ∷ 3 ∷ 4 ∷ 5 ∷ 6 ∷ 7 ∷ 8 ∷ 9 ∷ 10 ∷ 11 ∷ 12 ∷ []) tt (c .match .keys2)
+returns-2 c = shape-arm bools isOwn (c .before .args .shape) (1 ∷ 2 ∷ 3 ∷ 4 ∷ 5 ∷ 6 ∷ 7 ∷ 8 ∷ 9 ∷ 10 ∷ 11 ∷ 12 ∷ 13 ∷ []) tt (c .match .keys2)
 
 pub is-own-spec : {M : Type 1} → statement M
 is-own-spec = tie.close (tie.spec enum-told returns returns-2)

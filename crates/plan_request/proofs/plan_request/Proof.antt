@@ -9,14 +9,14 @@ use Rattle.packet.specs.declared.Shape.the-variants.{Foreign}
 use Rattle.packet.specs.Layout.{requestShape, served}
 use Rattle.packet_kinds.proofs.Tests.{range-arm, last-arm}
 use Rattle.packet_kinds.proofs.Shapes.{shapes}
-use Rattle.plan_request.proofs.Planned.{text-short, text-free, can-do-name, cant-do-name, submits-one, submits-run, plan-foreign, plan-can-do, plan-cant-do, plan-reset, plan-pre-sleep, plan-grab, plan-grab-uniq, plan-echo, plan-option, plan-status, plan-reports, plan-ends, plan-throws, plan-tells}
+use Rattle.plan_request.proofs.Planned.{text-short, text-free, can-do-name, cant-do-name, submits-one, submits-run, plan-foreign, plan-can-do, plan-cant-do, plan-reset, plan-identify, plan-pre-sleep, plan-grab, plan-grab-uniq, plan-echo, plan-option, plan-status, plan-reports, plan-ends, plan-throws, plan-tells}
 use Rattle.plan_request.proofs.plan_request.Statement.{statement}
 use Rattle.plan_request.proofs.plan_request.Tie as tie
 
 -- the arms' single numbers, the last arm first
 abbrev keys : List (List ℕ)
 keys =
-    (30 ∷ []) ∷ (26 ∷ []) ∷ (25 ∷ []) ∷ (16 ∷ []) ∷ (15 ∷ []) ∷ (12 ∷ []) ∷ (9 ∷ []) ∷ (7 ∷ 18 ∷ 21 ∷ []) ∷ (4 ∷ []) ∷ (3 ∷ []) ∷ (2 ∷ []) ∷ (1 ∷ []) ∷ []
+    (30 ∷ []) ∷ (26 ∷ []) ∷ (25 ∷ []) ∷ (22 ∷ []) ∷ (16 ∷ []) ∷ (15 ∷ []) ∷ (12 ∷ []) ∷ (9 ∷ []) ∷ (7 ∷ 18 ∷ 21 ∷ []) ∷ (4 ∷ []) ∷ (3 ∷ []) ∷ (2 ∷ []) ∷ (1 ∷ []) ∷ []
 
 argument-requires : tie.Need-argument-requires
 argument-requires c κs = search needs
@@ -56,6 +56,9 @@ status-requires c κs = search needs
 
 done-requires : tie.Need-done-requires
 done-requires c κs = search needs
+
+identify-requires : tie.Need-identify-requires
+identify-requires c κs = search needs
 
 held-requires-2 : tie.Need-held-requires-2
 held-requires-2 c κs = search needs
@@ -121,23 +124,26 @@ returns-8 : tie.Need-returns-8
 returns-8 c = search (needs, plan-echo)
 
 returns-9 : tie.Need-returns-9
-returns-9 c = search (needs, plan-throws)
+returns-9 c = search (needs, plan-identify)
 
 returns-10 : tie.Need-returns-10
-returns-10 c = search (needs, plan-option)
+returns-10 c = search (needs, plan-throws)
 
 returns-11 : tie.Need-returns-11
-returns-11 c = search (needs, plan-grab-uniq)
+returns-11 c = search (needs, plan-option)
 
 returns-12 : tie.Need-returns-12
-returns-12 c = search (needs, plan-ends)
+returns-12 c = search (needs, plan-grab-uniq)
 
 returns-13 : tie.Need-returns-13
-returns-13 c = search (needs, plan-tells)
+returns-13 c = search (needs, plan-ends)
 
 returns-14 : tie.Need-returns-14
+returns-14 c = search (needs, plan-tells)
+
+returns-15 : tie.Need-returns-15
 unfolding requestShape
-returns-14 c =
+returns-15 c =
     let s = c .before .before .before .before .before .before in
     let rest = c .before .before .match .rest in
     plan-foreign (now (s .args .table)) (now (s .args .packet)) _ _ _ (s .pre .3) _
@@ -150,8 +156,8 @@ returns-14 c =
     (λ a. last-arm shapes served Foreign keys 35 tt _ rest (a .5 .left))))
     (c .before .if1 .came))
 
-returns-15 : tie.Need-returns-15
-returns-15 c = search needs
+returns-16 : tie.Need-returns-16
+returns-16 c = search needs
 
 pub plan-request-spec : {M : Type 1} → statement M
 plan-request-spec =
@@ -170,6 +176,7 @@ plan-request-spec =
     found-requires
     status-requires
     done-requires
+    identify-requires
     held-requires-2
     worked-requires-2
     slice-aggregate-equal
@@ -196,4 +203,5 @@ plan-request-spec =
     returns-12
     returns-13
     returns-14
-    returns-15)
+    returns-15
+    returns-16)

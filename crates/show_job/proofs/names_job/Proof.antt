@@ -8,10 +8,10 @@ use Rattle.show_job.proofs.names_job.Statement.{statement}
 use Rattle.show_job.proofs.names_job.Tie as tie
 
 returns : tie.Need-returns
-returns c = shape-arm bools namesJob (c .before .args .shape) (4 ∷ 5 ∷ 6 ∷ 9 ∷ 10 ∷ 12 ∷ []) tt (c .match .keys1)
+returns c = shape-arm bools namesJob (c .before .args .shape) (4 ∷ 5 ∷ 6 ∷ 10 ∷ 11 ∷ 13 ∷ []) tt (c .match .keys1)
 
 returns-2 : tie.Need-returns-2
-returns-2 c = shape-arm bools namesJob (c .before .args .shape) (0 ∷ 1 ∷ 2 ∷ 3 ∷ 7 ∷ 8 ∷ 11 ∷ []) tt (c .match .keys2)
+returns-2 c = shape-arm bools namesJob (c .before .args .shape) (0 ∷ 1 ∷ 2 ∷ 3 ∷ 7 ∷ 8 ∷ 9 ∷ 12 ∷ []) tt (c .match .keys2)
 
 pub names-job-spec : {M : Type 1} → statement M
 names-job-spec = tie.close (tie.spec returns returns-2)

@@ -1,0 +1,3 @@
+pub mod Names
+pub mod Hand
+pub mod Listed
