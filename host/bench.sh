@@ -18,7 +18,7 @@ if [ -n "$older" ]; then
   export LAP_ARCHIVE_BEFORE_DIR=$PWD/target/before
   mkdir -p "$LAP_ARCHIVE_BEFORE_DIR"
   objcopy --redefine-sym lap_fresh=before_fresh --redefine-sym lap_open=before_open --redefine-sym lap_close=before_close \
-    --redefine-sym lap_packet=before_packet "$older/liblap.a" "$LAP_ARCHIVE_BEFORE_DIR/liblap_before.a"
+    --redefine-sym lap_packet=before_packet --redefine-sym lap_text=before_text "$older/liblap.a" "$LAP_ARCHIVE_BEFORE_DIR/liblap_before.a"
   features=before
 fi
 export CARGO_TARGET_DIR=$PWD/target/peer

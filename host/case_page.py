@@ -34,7 +34,7 @@ def sections():
             found[-1][1].append(Case(words))
         elif field in ONCE and not getattr(found[-1][1][-1], field):
             setattr(found[-1][1][-1], field, words)
-        elif field in ("01", "000"):
+        elif field in ("01", "02", "000"):
             found[-1][1][-1].quotes.append((field, words))
         else:
             raise ValueError(f"host/cases/cases.txt: '{row[:40]}' is no field, or the second of its kind")
@@ -59,8 +59,8 @@ def entry_faults(names):
             yield f"host/cases/cases.txt: captures/ has no case {name}"
     for case in cases():
         documents = {document for document, _ in case.quotes}
-        if not case.title or not case.shows or documents != {"01", "000"}:
-            yield f"host/cases/cases.txt: the case {case.name} lacks its title, what it shows, or a sentence of 01 or 000"
+        if not case.title or not case.shows or "000" not in documents or not documents & {"01", "02"}:
+            yield f"host/cases/cases.txt: the case {case.name} lacks its title, what it shows, or a sentence of 01 or 02, and of 000"
 
 
 def wrapped(text, first="", later=""):

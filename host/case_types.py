@@ -1,4 +1,4 @@
-"""The packet types, and a packet taken apart as document 000 does. Names are document 000's, arguments document 01's."""
+"""The packet types, and a packet taken apart as document 000 does. Names are document 000's, arguments document 01's and 02's."""
 from case_files import lines_of
 
 # Number, name, arguments of the request, arguments of the response; `-` where it has no data, nothing where there is no such packet.
@@ -24,7 +24,7 @@ TYPES = """
 19 ERROR||number, text
 20 STATUS_RES||handle, known, running, numerator, denominator
 21 SUBMIT_JOB_HIGH|function, unique, workload|
-22 SET_CLIENT_ID||
+22 SET_CLIENT_ID|id|
 23 CAN_DO_TIMEOUT||
 24 ALL_YOURS||
 25 WORK_EXCEPTION|handle, data|handle, data

@@ -125,6 +125,16 @@ class Client:
         expect(f"{self.name}: magic", bytes(rest[:4]), b"\0RES")
         return int.from_bytes(rest[4:8], "big"), bytes(rest[HEADER:end])
 
+    def text(self, line, end):
+        """Sends a line and returns the text of its answer, whose last line is `end`. It is taken out of what came: no replay has it."""
+        self.send(line)
+        while not self.came[self.at:].endswith(end):
+            if not self.more("a text"):
+                raise Fault(f"{self.name}: a text was waited for, and the hub has closed the connection")
+        said = bytes(self.came[self.at:])
+        del self.came[self.at:]
+        return said
+
     def reads(self, kind, *arguments):
         expect(self.name, self.read(), (kind, b"\0".join(arguments)))
 

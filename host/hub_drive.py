@@ -16,6 +16,7 @@ import time
 from hub_client import (CAN_DO, ECHO_REQ, ECHO_RES, ERROR, FUNCTION, GRAB_JOB, GRAB_JOB_ALL, JOB_ASSIGN_UNIQ, NO_JOB, NOOP, PRE_SLEEP,
                         SET_CLIENT_ID, SUBMIT_JOB, SUBMIT_JOB_BG, WORK_COMPLETE, WORK_DATA, Client, Fault, Hub, asleep, compare, expect,
                         grab, header, lives, request, serial_in, submit, worker_of)
+from hub_streams import bad_streams, technician
 
 LIMIT = 180
 
@@ -69,29 +70,6 @@ def pieces(board, workers):
     board.reads(ECHO_RES, b"cut")
     for worker in workers:
         asleep(worker)
-
-
-def bad_streams(hub):
-    """What is no stream of requests is closed, at once and by what came so far; what stood before it is answered."""
-    for name, text, number in (("size 1,025", header(ECHO_REQ, 1025), 7), ("greatest size", header(ECHO_REQ, 2**32 - 1), 7),
-                               ("oversize", header(ECHO_REQ, 5000) + b"x" * 5000, 7), ("text line", b"status\n", 5),
-                               ("long line", b"x" * 3000, 6), ("one byte", b"\n", 5), ("nearly", b"\0RE\0", 5),
-                               ("response", header(ECHO_RES, 0, b"\0RES"), 6), ("garbage", bytes(range(0, 256, 3)) * 9, 6)):
-        client = hub.client(name)
-        client.refused = [number]
-        client.send(text)
-        client.closed()
-    client = hub.client("a packet and a line")
-    client.refused = [5]
-    client.send(request(ECHO_REQ, b"before"), b"status\n")
-    client.reads(ECHO_RES, b"before")
-    client.closed()
-    client = hub.client("foreign types")
-    for kind in (SET_CLIENT_ID, GRAB_JOB_ALL):
-        expect("a type that is not served", client.ask(request(kind, b""), ERROR), b"09\0type")
-    client.refused = [9, 9]
-    hub.client("gone in the middle of a packet").socket.sendall(request(ECHO_REQ, b"half")[:14])
-    hub.clients[-1].kill()
 
 
 def killed_worker(board, workers):
@@ -153,6 +131,7 @@ def first_life(start, replay, serial):
     hub = start("first", serial)
     workers, boards = two_workers_three_boards(hub)
     pieces(boards[0], workers)
+    technician(hub, workers)
     bad_streams(hub)
     killed_worker(boards[1], workers)
     slow_reader(hub, boards[2], workers[1])
@@ -220,7 +199,7 @@ def without_the_serial(start, serial, late):
 
 
 def unmodified_workers(start, replay, serial):
-    """-w: type 39 is answered as 30, type 22 is dropped; the capture has what was handed over. Serials go on after 70."""
+    """-w: type 39 is answered as 30, and the capture has what was handed over. Serials go on after 70."""
     with open(serial, "w", encoding="ascii") as file:
         file.write("0000000070\n")
     hub = start("unmodified", serial, "-w")

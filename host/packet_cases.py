@@ -1,6 +1,7 @@
 #!/usr/bin/env python3
-"""The packet layer's cases, and what is expected of them, written from document 01 alone ("Packet layout", "Refusal numbers")
-and document 000's example. It shares no code with the packet layer and reads nothing of it.
+"""The packet layer's cases, and what is expected of them, written from the texts alone: document 01 ("Packet layout", "Refusal
+numbers"), document 02, ask 1 (SET_CLIENT_ID), and document 000's example. It shares no code with the packet layer and reads nothing of
+it.
 
 usage: packet_cases.py stdin|stdout [packet_print|packet_cases]      (packet_print, where no program is named)
 
@@ -32,6 +33,7 @@ FUNCTION = Rule(1, 32, None)
 UNIQUE = Rule(0, 64, None)
 HANDLE = Rule(1, 63, None)
 NUMBER = Rule(1, 10, b"0123456789")  # numerator, denominator
+CLIENT_ID = Rule(1, 64, None)
 CODE = Rule(2, 2, b"0123456789")  # the two digits of ERROR
 FLAG = Rule(1, 1, b"01")  # known, running
 ANY_TEXT = Rule(0, ANY, None)  # option name, ERROR text
@@ -49,6 +51,7 @@ SERVED = {
     13: WORK, 25: WORK, 28: WORK, 29: WORK,
     14: [HANDLE], 15: [HANDLE],
     16: [OPAQUE],
+    22: [CLIENT_ID],
     26: [ANY_TEXT],
 }
 SENT = {
@@ -224,6 +227,8 @@ def split_cases():
         yield packet(way, 26, b"exceptions")
         yield packet(way, 26, b"exc\0ptions")
         yield packet(way, 27, b"exc\0ptions")
+    for data in (b"board-7", b"board 7\xff", b"board\x007", b"\0board", b"board\0"):
+        yield packet(REQUEST, 22, data)
     for data in (b"h\0f\0u\0", b"h\0f\0u\0w\0w", b"h\0f\0u", b"h\0f\0" + b"u" * 65 + b"\0w", b"h\0f\0\0" + every):
         yield packet(RESPONSE, 31, data)
     for data in (b"09\0type", b"9\0type", b"009\0type", b"0x\0type", b"09type", b"09\0ty\0pe", b"09\0"):

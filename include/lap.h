@@ -5,7 +5,7 @@
  * takes no memory, reads no clock and makes no system call. What it needs beside the lent memory is stack:
  * docs/SPEED.md says how much.
  *
- * The promise of each of the four functions is one proved equation over all lent bytes, for every input
+ * The promise of each of the five functions is one proved equation over all lent bytes, for every input
  * (crates/lap/src/lib.rt); document 01 is the paper that these promises follow. The small functions that stand here
  * with their bodies are plain C. Link with liblap.a, x86-64 code for Linux, which `rt staticlib lap` writes to
  * target/staticlib/; it needs memcpy and memset from the C library and nothing else.
@@ -13,7 +13,7 @@
  * WHAT THE HOST HAS TO SEE TO. Nothing else is asked of it: whatever the bytes are, a call answers by a number.
  *  - Each pointer leads to as many bytes as the length beside it says; no pointer is null, not even with a length of 0.
  *    Any alignment will do.
- *  - table, workloads, output, packet and *length do not overlap. No one else touches them during the call.
+ *  - table, workloads, output, packet or line, and *length do not overlap. No one else touches them during the call.
  *
  * TWO WARNINGS, because the core cannot see to these. docs/HOST.md says more, and host/hub/hub.c shows how.
  *  - RESTART. A fresh table gives the handles from H:lap:1 on again, and a worker's late result from before the restart
@@ -35,9 +35,9 @@ extern "C" {
 
 /* The least lengths of the lent buffers. Longer ones are never refused, and what lies beyond is never written. */
 enum {
-    LAP_TABLE_BYTES = 3796,      /* the table: docs/TABLE.md has its layout */
+    LAP_TABLE_BYTES = 4820,      /* the table: docs/TABLE.md has its layout */
     LAP_WORKLOADS_BYTES = 32768, /* 32 places of 1,024 bytes, one for each unfinished job */
-    LAP_OUTPUT_BYTES = 16592     /* the packets that one call sends */
+    LAP_OUTPUT_BYTES = 16592     /* the packets that one call sends, or one text */
 };
 
 /* Connections are numbered from 0 to 15. At most so many functions are known, and so many jobs unfinished. */
@@ -56,7 +56,7 @@ enum lap_number {
     LAP_DONE = 0,
     LAP_LENT = 1,          /* a lent buffer is too short, or the table breaks a table rule */
     LAP_NO_CONNECTION = 2, /* connection above 15 */
-    LAP_NOT_OPEN = 3,      /* packet or close, connection not open */
+    LAP_NOT_OPEN = 3,      /* packet, text line or close, connection not open */
     LAP_ALREADY_OPEN = 4,  /* open, already open */
     LAP_SHORT_PACKET = 5,  /* packet under 12 bytes */
     LAP_MAGIC = 6,         /* magic is not the request's */
@@ -100,8 +100,8 @@ enum {
     LAP_RESPONSE_BYTES = 1100       /* the longest response, header and data */
 };
 
-/* The most bytes of each argument. A function and a handle have at least 1, a numerator and a denominator 1 digit. */
-enum { LAP_FUNCTION_BYTES = 32, LAP_UNIQUE_BYTES = 64, LAP_HANDLE_BYTES = 63, LAP_DIGITS = 10 };
+/* The most bytes of each argument. A function, a handle and a client id have at least 1, a number at least 1 digit. */
+enum { LAP_FUNCTION_BYTES = 32, LAP_UNIQUE_BYTES = 64, LAP_HANDLE_BYTES = 63, LAP_DIGITS = 10, LAP_ID_BYTES = 64 };
 
 /* The types that are served or sent, and their arguments. LAP_TYPE refuses a request of every other type. */
 enum lap_type {
@@ -125,6 +125,7 @@ enum lap_type {
     LAP_TYPE_ERROR = 19,              /* response: number, text */
     LAP_TYPE_STATUS_RES = 20,         /* response: handle, known, running, numerator, denominator */
     LAP_TYPE_SUBMIT_JOB_HIGH = 21,    /* request: as SUBMIT_JOB */
+    LAP_TYPE_SET_CLIENT_ID = 22,      /* request: client id */
     LAP_TYPE_WORK_EXCEPTION = 25,     /* request: handle, data; response: the same data */
     LAP_TYPE_OPTION_REQ = 26,         /* request: option name */
     LAP_TYPE_OPTION_RES = 27,         /* response: option name */
@@ -171,9 +172,9 @@ uint32_t lap_open(uint8_t *table, size_t table_len, uint8_t *workloads, size_t w
 
 /*
  * Closes a connection. It leaves all listener sets; queued jobs and jobs that it held are dropped if they have no
- * listener then and are not background; the other jobs that it held return to the queue; its abilities, option and
- * sleep are cleared; sleepers with a job that they can grab are woken. Answers LAP_DONE, LAP_LENT, LAP_NO_CONNECTION
- * or LAP_NOT_OPEN. *length is set on every call to how many bytes of the output were written.
+ * listener then and are not background; the other jobs that it held return to the queue; its abilities, option, sleep
+ * and client id are cleared; sleepers with a job that they can grab are woken. Answers LAP_DONE, LAP_LENT,
+ * LAP_NO_CONNECTION or LAP_NOT_OPEN. *length is set on every call to how many bytes of the output were written.
  */
 uint32_t lap_close(uint8_t *table, size_t table_len, uint8_t *workloads, size_t workloads_len,
                    uint8_t *output, size_t output_len, uint32_t connection, uint32_t *length);
@@ -186,6 +187,18 @@ uint32_t lap_close(uint8_t *table, size_t table_len, uint8_t *workloads, size_t 
 uint32_t lap_packet(uint8_t *table, size_t table_len, uint8_t *workloads, size_t workloads_len,
                     uint8_t *output, size_t output_len, uint32_t connection, const uint8_t *packet, size_t packet_len,
                     uint32_t *length);
+
+/*
+ * Answers one line of a technician on an open connection: "status", "workers" or "version" with a line feed behind it,
+ * and a carriage return before that or none. Every other line is answered "ERR unknown", with LAP_DONE; a host that
+ * collects lines needs LAP_TEXT_LINE_BYTES of them at most. Table and workloads are only read. The output is no
+ * addressed packet: it is one byte, the connection, and then *length - 1 bytes of text, whose lines end with a line
+ * feed. Answers LAP_DONE, LAP_LENT, LAP_NO_CONNECTION or LAP_NOT_OPEN. docs/HOST.md shows the texts.
+ */
+enum { LAP_TEXT_LINE_BYTES = 128 };
+uint32_t lap_text(const uint8_t *table, size_t table_len, const uint8_t *workloads, size_t workloads_len,
+                  uint8_t *output, size_t output_len, uint32_t connection, const uint8_t *line, size_t line_len,
+                  uint32_t *length);
 
 #ifdef __cplusplus
 }

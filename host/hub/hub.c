@@ -1,13 +1,15 @@
 /*
- * hub.c: a small host over liblap.a, to start from. It owns sockets and memory, keeps the last serial over restarts and
- * writes a capture (system.c); what packets mean is the core's business. It is no part of the core: nothing here is
- * proved, host/tests/hub.sh tries it. docs/HOST.md says why each thing is done as it is.
+ * hub.c: a small host over liblap.a, to start from. It owns sockets and memory, keeps the last serial over restarts,
+ * writes a capture (system.c) and cuts what comes into packets and lines (stream.c); what these mean is the core's
+ * business. It is no part of the core: nothing here is proved, host/tests/hub.sh tries it. docs/HOST.md says why each
+ * thing is done as it is.
  *
  * usage: hub [-a ADDRESS] [-p PORT] [-c CAPTURE] [-w] SERIAL_FILE
  *   -a   the IPv4 address to listen at (127.0.0.1)
  *   -p   the port (4730); 0 takes one that the system chooses. Address and port are printed.
  *   -c   a new file that gets every event as a line, for replay and show. It holds all workloads.
- *   -w   unmodified workers: hand type 39 on as 30, drop type 22 (docs/CLIENTS.md)
+ *   -w   unmodified workers: hand type 39 on as 30 (docs/CLIENTS.md)
+ * Packets and the text lines of a technician come on one port: what does not begin with a zero byte is a line.
  */
 #define _GNU_SOURCE
 #include <errno.h>
@@ -21,10 +23,8 @@
 #include <unistd.h>
 
 #include "lap.h"
+#include "stream.h"
 #include "system.h"
-
-/* Types that document 01 does not serve and that workers open with: SET_CLIENT_ID, and GRAB_JOB_ALL of libgearman. */
-enum { SET_CLIENT_ID = 22, GRAB_JOB_ALL = 39 };
 
 /* More than one round can bring to a connection: only a client that does not read fills it (docs/HOST.md). */
 enum { QUEUE_BYTES = 65536 };
@@ -41,7 +41,6 @@ static struct connection {
 static uint8_t table[LAP_TABLE_BYTES], workloads[LAP_WORKLOADS_BYTES], output[LAP_OUTPUT_BYTES];
 #define LENT table, sizeof table, workloads, sizeof workloads, output, sizeof output
 
-static const uint8_t magic[] = {0, 'R', 'E', 'Q'};
 static bool unmodified_workers;
 
 static void lose(unsigned c, const char *why) {
@@ -49,20 +48,24 @@ static void lose(unsigned c, const char *why) {
     connections[c].lost = true;
 }
 
+/* Copies bytes to the queue of a connection. */
+static void queue(unsigned c, const uint8_t *bytes, size_t count) {
+    struct connection *to = &connections[c];
+    if (!to->lost && count > sizeof to->out - to->queued) {
+        lose(c, "its queue is full");
+    }
+    if (!to->lost) {
+        memcpy(to->out + to->queued, bytes, count);
+        to->queued += count;
+    }
+}
+
 /* Copies the call's packets to the queues of their connections. None is closed here: a close would overwrite them. */
 static void queue_packets(size_t length) {
     for (size_t at = 0; at < length;) {
-        unsigned c = output[at];
-        struct connection *to = &connections[c];
         const uint8_t *packet = output + at + 1;
         size_t bytes = LAP_HEADER_BYTES + lap_size_of(packet);
-        if (!to->lost && bytes > sizeof to->out - to->queued) {
-            lose(c, "its queue is full");
-        }
-        if (!to->lost) {
-            memcpy(to->out + to->queued, packet, bytes);
-            to->queued += bytes;
-        }
+        queue(output[at], packet, bytes);
         at += 1 + bytes;
     }
 }
@@ -86,47 +89,45 @@ static uint32_t event(enum kind kind, unsigned c, const uint8_t *packet, size_t 
     return number;
 }
 
-/* -w: what unmodified workers need. Answers whether the packet is to be handed over; what is no packet always is. */
-static bool adapt(uint8_t *packet, size_t bytes) {
-    if (bytes < LAP_HEADER_BYTES || bytes != LAP_HEADER_BYTES + lap_size_of(packet)
-        || memcmp(packet, magic, sizeof magic) != 0) {
-        return true;
+/* A technician's line. It changes nothing, so that it is no event and not in the capture. */
+static void answer_line(unsigned c, const uint8_t *line, size_t count) {
+    uint32_t length, number = lap_text(LENT, c, line, count, &length);
+    if (number != LAP_DONE) {
+        fail("a fault of this program", lap_number_text(number));
     }
-    if (lap_type_of(packet) == GRAB_JOB_ALL) {
-        packet[LAP_TYPE_AT + 3] = LAP_TYPE_GRAB_JOB_UNIQ;
+    queue(c, output + 1, length - 1);
+    if (line[count - 1] != '\n') {
+        lose(c, "a line above 128 bytes");
     }
-    return lap_type_of(packet) != SET_CLIENT_ID;
 }
 
-/* How many of these bytes to hand over: a whole packet, or those that show that there is none; 0: wait for more. */
-static size_t ready(const uint8_t *in, size_t received) {
-    if (memcmp(in, magic, received < sizeof magic ? received : sizeof magic) != 0) {
-        return received < LAP_HEADER_BYTES ? received : LAP_HEADER_BYTES;
+/* One packet, or what shows that there is none. 5 to 8: the stream is out of step, and the connection is closed. */
+static void take_packet(unsigned c, uint8_t *packet, size_t bytes) {
+    if (unmodified_workers) {
+        adapt(packet, bytes);
     }
-    if (received < LAP_HEADER_BYTES) {
-        return 0;
+    uint32_t number = event(PACKET, c, packet, bytes);
+    if (number >= LAP_SHORT_PACKET && number <= LAP_PACKET_LENGTH) {
+        lose(c, lap_number_text(number));
     }
-    size_t bytes = LAP_HEADER_BYTES + (size_t)lap_size_of(in);
-    if (bytes > LAP_PACKET_BYTES) {
-        return LAP_HEADER_BYTES;
-    }
-    return received < bytes ? 0 : bytes;
 }
 
-/* Hands over what is ready. 5 to 8: the stream is out of step, and the connection is closed. */
-static void take_packets(unsigned c) {
+/* Hands over what is ready, packets and lines as they come. */
+static void take(unsigned c) {
     struct connection *from = &connections[c];
-    size_t at = 0, bytes;
-    while (!from->lost && (bytes = ready(from->in + at, from->received - at)) > 0) {
-        uint8_t *packet = from->in + at;
+    size_t at = 0;
+    while (!from->lost && at < from->received) {
+        uint8_t *in = from->in + at;
+        size_t bytes = ready(in, from->received - at);
+        if (bytes == 0) {
+            break;
+        }
+        if (is_line(in)) {
+            answer_line(c, in, bytes);
+        } else {
+            take_packet(c, in, bytes);
+        }
         at += bytes;
-        if (unmodified_workers && !adapt(packet, bytes)) {
-            continue;
-        }
-        uint32_t number = event(PACKET, c, packet, bytes);
-        if (number >= LAP_SHORT_PACKET && number <= LAP_PACKET_LENGTH) {
-            lose(c, lap_number_text(number));
-        }
     }
     memmove(from->in, from->in + at, from->received - at);
     from->received -= at;
@@ -137,7 +138,7 @@ static void receive(unsigned c) {
     ssize_t n = recv(from->socket, from->in + from->received, sizeof from->in - from->received, MSG_DONTWAIT);
     if (n > 0) {
         from->received += (size_t)n;
-        take_packets(c);
+        take(c);
     } else if (n == 0 || (errno != EAGAIN && errno != EINTR)) {
         from->lost = true;
     }

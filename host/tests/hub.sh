@@ -10,7 +10,7 @@ bash host/archive.sh
 build=target/hub
 mkdir -p "$build"
 strict=(-std=c11 -O2 -Wall -Wextra -Werror -pedantic -Iinclude)
-"${tools}gcc" "${strict[@]}" host/hub/hub.c host/hub/system.c target/staticlib/liblap.a -o "$build/hub"
+"${tools}gcc" "${strict[@]}" host/hub/hub.c host/hub/stream.c host/hub/system.c target/staticlib/liblap.a -o "$build/hub"
 replay=${REPLAY:-target/bin/replay}
 if [ ! -x "$replay" ]; then
   replay=$build/replay

@@ -1,9 +1,10 @@
 #!/usr/bin/env bash
 # usage: peer.sh [--events N] [--seed N]. Both go on to the long comparison: N random events instead of 300,000, from another seed than 1.
 # The archive does what an ordinary job server in Rust does, written from the documents alone: the same number, length, output, table and
-# workloads, byte for byte, in fixed and random histories, on damaged tables and on buffers that are too short. The ordinary server passes
-# its own tests first. The program show prints what the ordinary server's show prints, on random captures; SHOW names it, or else it is
-# target/bin/show. Last, the comparing program must find each of the twelve faults of host/peer/tests/faults.c.
+# workloads, byte for byte, in fixed, random and twin histories, on damaged tables and on buffers that are too short; lines for the text
+# entry are asked between the events. The ordinary server passes its own tests first. The program show prints what the ordinary server's
+# show prints, on random captures; SHOW names it, or else it is target/bin/show. Last, the comparing program must find each of the 22
+# faults of host/peer/tests/faults.c.
 set -euo pipefail
 cd "$(dirname "$0")/../.."
 bash host/archive.sh
@@ -40,14 +41,14 @@ echo "same: 20000 lines of random captures in words"
 mkdir -p "$faulty"
 rm -f "$faulty/liblap.a"
 "${tools}objcopy" --redefine-sym lap_fresh=core_fresh --redefine-sym lap_open=core_open --redefine-sym lap_close=core_close \
-  --redefine-sym lap_packet=core_packet "$archive/liblap.a" "$faulty/liblap.a"
+  --redefine-sym lap_packet=core_packet --redefine-sym lap_text=core_text "$archive/liblap.a" "$faulty/liblap.a"
 "${tools}gcc" -std=c11 -O2 -Wall -Wextra -Werror -Iinclude -c host/peer/tests/faults.c -o "$faulty/faults.o"
 "${tools}ar" r "$faulty/liblap.a" "$faulty/faults.o"
 export CARGO_TARGET_DIR=$faulty/cargo
 LAP_ARCHIVE_DIR=$faulty "${cross[@]}" cargo build --release "${options[@]}" --features archive --bin compare
 compare=$CARGO_TARGET_DIR/$programs_of/compare
 LAP_FAULT=0 "${run[@]}" "$compare" --events 2000 > "$faulty/printed"
-for fault in $(seq 1 12); do
+for fault in $(seq 1 22); do
   status=0
   LAP_FAULT=$fault "${run[@]}" "$compare" --events 60000 > "$faulty/printed" || status=$?
   if [ "$status" != 1 ]; then
@@ -55,7 +56,7 @@ for fault in $(seq 1 12); do
     exit 1
   fi
 done
-echo "12 faults found, 0 missed"
+echo "22 faults found, 0 missed"
 
 status=0
 wait "$comparing" || status=$?

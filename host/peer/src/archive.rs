@@ -1,4 +1,4 @@
-//! The core's archive liblap.a: its four C functions, each behind a safe function over slices.
+//! The core's archive liblap.a: its five C functions, each behind a safe function over slices.
 //! This is the one module with unsafe code; it hands each buffer over with its own length and nothing else.
 
 use crate::event::Event;
@@ -9,7 +9,7 @@ type Quiet = unsafe extern "C" fn(*mut u8, usize, *mut u8, usize, *mut u8, usize
 type Packet =
     unsafe extern "C" fn(*mut u8, usize, *mut u8, usize, *mut u8, usize, u32, *const u8, usize, *mut u32) -> u32;
 
-/// The four functions of one archive.
+/// The functions of one archive that take events; an older archive has these alone.
 pub struct Calls {
     fresh: Fresh,
     open: Quiet,
@@ -70,6 +70,21 @@ pub static ARCHIVE: Calls = calls!("lap_fresh", "lap_open", "lap_close", "lap_pa
 #[cfg(feature = "before")]
 pub static BEFORE: Calls = calls!("before_fresh", "before_open", "before_close", "before_packet");
 
+extern "C" {
+    fn lap_text(
+        table: *const u8,
+        table_len: usize,
+        workloads: *const u8,
+        workloads_len: usize,
+        output: *mut u8,
+        output_len: usize,
+        connection: u32,
+        line: *const u8,
+        line_len: usize,
+        length: *mut u32,
+    ) -> u32;
+}
+
 /// What stands in the length before a call, so that a call which leaves it alone is seen.
 pub const NO_LENGTH: u32 = 0xdead_beef;
 
@@ -125,6 +140,27 @@ impl Calls {
             Event::Packet(connection, bytes) => self.packet(table, workloads, output, *connection, bytes),
         }
     }
+}
+
+/// The text entry of the archive that is compared.
+pub fn text(table: &[u8], workloads: &[u8], output: &mut [u8], connection: u32, line: &[u8]) -> Report {
+    let mut length = NO_LENGTH;
+    // Safe: as above; table, workloads and line are only read.
+    let number = unsafe {
+        lap_text(
+            table.as_ptr(),
+            table.len(),
+            workloads.as_ptr(),
+            workloads.len(),
+            output.as_mut_ptr(),
+            output.len(),
+            connection,
+            line.as_ptr(),
+            line.len(),
+            &mut length,
+        )
+    };
+    (number, length)
 }
 
 /// A call without a packet.

@@ -3,6 +3,7 @@
 
 use crate::event::Event;
 use crate::outbox::Outbox;
+use crate::questions::COMMANDS;
 
 /// The protocol's types run from 1 to 36.
 const TYPES: usize = 37;
@@ -31,6 +32,11 @@ pub struct Counts {
     pub made: Tables,
     pub short: u64,
     pub fresh: u64,
+    /// Events of twin histories.
+    pub twins: u64,
+    /// Lines that were asked, and the texts among the answers: those of each command, then those for any other line.
+    pub asked: u64,
+    pub texts: [u64; 4],
 }
 
 impl Default for Counts {
@@ -45,6 +51,9 @@ impl Default for Counts {
             made: Tables::default(),
             short: 0,
             fresh: 0,
+            twins: 0,
+            asked: 0,
+            texts: [0; 4],
         }
     }
 }
@@ -60,6 +69,19 @@ impl Counts {
             self.sent[packet[8] as usize] += 1;
         }
     }
+
+    /// A line with its answer.
+    pub fn add_text(&mut self, line: &[u8], number: u32) {
+        self.asked += 1;
+        self.numbers[number as usize] += 1;
+        if number == 0 {
+            let command = COMMANDS.iter().position(|command| {
+                let rest = line.strip_prefix(*command);
+                rest == Some(b"\n") || rest == Some(b"\r\n")
+            });
+            self.texts[command.unwrap_or(COMMANDS.len())] += 1;
+        }
+    }
 }
 
 impl std::fmt::Display for Counts {
@@ -71,7 +93,8 @@ impl std::fmt::Display for Counts {
         write!(
             f,
             "{} random and {} fixed events, {} damaged tables ({} still obey), {} made tables ({} obey), \
-             {} calls on shortest or short buffers, {} fresh tables; numbers {}; \
+             {} calls on shortest or short buffers, {} fresh tables, {} events of twin histories; \
+             {} lines asked (status {}, workers {}, version {}, unknown {}); numbers {}; \
              requests done by type {}; packets sent by type {}",
             self.events,
             self.fixed,
@@ -81,6 +104,12 @@ impl std::fmt::Display for Counts {
             self.made.obeying,
             self.short,
             self.fresh,
+            self.twins,
+            self.asked,
+            self.texts[0],
+            self.texts[1],
+            self.texts[2],
+            self.texts[3],
             list(&self.numbers),
             list(&self.done),
             list(&self.sent),

@@ -21,7 +21,7 @@ pub fn field(table: &mut [u8], random: &mut Random) {
     let other = job(table, random);
     let q = random.below(FUNCTIONS);
     let c = random.below(CONNECTIONS);
-    match random.below(26) {
+    match random.below(30) {
         0 => {
             let place = random.below(TABLE);
             table[place] ^= 1 << random.below(8);
@@ -84,7 +84,24 @@ pub fn field(table: &mut [u8], random: &mut Random) {
         }
         23 => table[OPEN + c] = *random.pick(&[0, 1, 2]),
         24 => table[ASLEEP + c] = *random.pick(&[0, 1, 1, 2]),
-        _ => table[EXCEPTIONS + c] = *random.pick(&[0, 1, 2]),
+        25 => table[EXCEPTIONS + c] = *random.pick(&[0, 1, 2]),
+        26 => {
+            let length = *random.pick(&[0, 1, 63, 64]);
+            set(table, IDS + 64 * c, &[0; 64]);
+            set(table, IDS + 64 * c, &vec![*random.pick(b"i\x01\xff"); length]);
+        }
+        27 => copy(table, IDS + 64 * random.below(CONNECTIONS), IDS + 64 * c, 64),
+        28 => {
+            let place = IDS + 64 * c + random.below(64);
+            table[place] = *random.pick(&[0, b'i']);
+        }
+        _ => {
+            // A connection that leaves, its id with it or not.
+            table[OPEN + c] = 0;
+            if random.chance(50) {
+                set(table, IDS + 64 * c, &[0; 64]);
+            }
+        }
     }
 }
 

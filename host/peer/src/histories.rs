@@ -47,10 +47,10 @@ pub const SUBMISSIONS: [u32; 6] = [7, 18, 21, 32, 33, 34];
 const MANY_HIGH: [u32; 8] = [7, 18, 21, 21, 32, 32, 33, 34];
 const ENDINGS: [u32; 3] = [13, 14, 25];
 const WORKER_PACKETS: [u32; 6] = [12, 13, 14, 25, 28, 29];
-const SERVED: [u32; 21] = [1, 2, 3, 4, 7, 9, 12, 13, 14, 15, 16, 18, 21, 25, 26, 28, 29, 30, 32, 33, 34];
+const SERVED: [u32; 22] = [1, 2, 3, 4, 7, 9, 12, 13, 14, 15, 16, 18, 21, 22, 25, 26, 28, 29, 30, 32, 33, 34];
 /// Types that no connection may send, some of them with the low byte or the low half of a served type.
 const NOT_SERVED: [u32; 20] =
-    [0, 5, 6, 8, 10, 11, 17, 19, 20, 22, 23, 24, 27, 31, 35, 36, 37, 0x107, 0x0100_0007, u32::MAX];
+    [0, 5, 6, 8, 10, 11, 17, 19, 20, 23, 24, 27, 31, 35, 36, 37, 0x107, 0x116, 0x0100_0007, u32::MAX];
 /// How many events at the end of a stretch of grabs empty the queue.
 const EMPTYING: usize = 80;
 const BEYOND: [u32; 7] = [16, 17, 255, 256, 65_536, 0x8000_0000, u32::MAX];
@@ -192,7 +192,9 @@ impl History {
         let suited: Vec<usize> = match kind {
             9 | 30 => (0..CONNECTIONS).filter(|&c| server.grabbable(c).is_some()).collect(),
             _ if WORKER_PACKETS.contains(&kind) => server.jobs.iter().flatten().filter_map(|job| job.holder).collect(),
-            1 | 26 if self.mood == Mood::Idle => (0..CONNECTIONS).filter(|&c| server.connections[c].asleep).collect(),
+            1 | 22 | 26 if self.mood == Mood::Idle => {
+                (0..CONNECTIONS).filter(|&c| server.connections[c].asleep).collect()
+            }
             2 => (0..CONNECTIONS).filter(|&c| !abilities(server, c).is_empty()).collect(),
             4 if self.mood == Mood::Idle => (0..CONNECTIONS)
                 .filter(|&c| !abilities(server, c).is_empty() && server.grabbable(c).is_none())
@@ -231,7 +233,7 @@ impl History {
             (Mood::Learning, 50..=54) => *self.random.pick(&[2, 3]),
             (_, 70..=79) => *self.random.pick(&SUBMISSIONS),
             (_, 80..=89) => *self.random.pick(&WORKER_PACKETS),
-            (_, 90..=94) => *self.random.pick(&[1, 4, 9, 30]),
+            (_, 90..=94) => *self.random.pick(&[1, 4, 9, 22, 30]),
             // RESET_ABILITIES would keep the server poor if it came as often as the others.
             _ => match *self.random.pick(&SERVED) {
                 3 if self.random.chance(70) => 1,
@@ -251,7 +253,7 @@ impl History {
             10..=13 => 1,
             14..=17 => *self.random.pick(&SUBMISSIONS),
             18 => 2,
-            _ => 26,
+            _ => *self.random.pick(&[22, 26]),
         }
     }
 

@@ -7,14 +7,14 @@ use crate::rules::{text, Table};
 use crate::server::{Connection, Function, Job, Server, Set, CONNECTIONS, FUNCTIONS, JOBS, WORKLOADS};
 use crate::text::Text;
 
-/// The table's 3,796 bytes.
+/// The table's 4,820 bytes.
 pub fn image(server: &Server) -> Vec<u8> {
     let mut table = vec![0; TABLE];
     write(server, &mut table);
     table
 }
 
-/// The table's 3,796 bytes, written over the first ones of a buffer; the rest of the buffer stays.
+/// The table's 4,820 bytes, written over the first ones of a buffer; the rest of the buffer stays.
 pub fn write(server: &Server, table: &mut [u8]) {
     let mut put = |at: usize, bytes: &[u8]| table[at..at + bytes.len()].copy_from_slice(bytes);
     put(0, &[0; TABLE]);
@@ -41,6 +41,7 @@ pub fn write(server: &Server, table: &mut [u8]) {
         put(OPEN + c, &[u8::from(connection.open)]);
         put(ASLEEP + c, &[u8::from(connection.asleep)]);
         put(EXCEPTIONS + c, &[u8::from(connection.exceptions)]);
+        put(IDS + ID_BYTES * c, connection.id.bytes());
     }
 }
 
@@ -51,8 +52,12 @@ pub fn read(table: &[u8], workloads: &[u8]) -> Server {
     server.last_serial = table.last_serial();
     server.workloads.copy_from_slice(&workloads[..WORKLOADS]);
     for c in 0..CONNECTIONS {
-        server.connections[c] =
-            Connection { open: table.open(c) != 0, asleep: table.asleep(c) != 0, exceptions: table.exceptions(c) != 0 };
+        server.connections[c] = Connection {
+            open: table.open(c) != 0,
+            asleep: table.asleep(c) != 0,
+            exceptions: table.exceptions(c) != 0,
+            id: Text::new(text(table.id_place(c))),
+        };
     }
     for q in 0..FUNCTIONS {
         let name = text(table.name_place(q));

@@ -6,6 +6,7 @@ use crate::server::{CONNECTIONS, FUNCTIONS, JOBS};
 pub const NAME_BYTES: usize = 32;
 pub const UNIQUE_BYTES: usize = 64;
 pub const DIGITS_BYTES: usize = 10;
+pub const ID_BYTES: usize = 64;
 
 // Each column begins where the one before it ends.
 pub const LAST_SERIAL: usize = 0;
@@ -24,7 +25,8 @@ pub const LISTENERS: usize = ABLE + 4 * FUNCTIONS;
 pub const OPEN: usize = LISTENERS + 4 * JOBS;
 pub const ASLEEP: usize = OPEN + CONNECTIONS;
 pub const EXCEPTIONS: usize = ASLEEP + CONNECTIONS;
+pub const IDS: usize = EXCEPTIONS + CONNECTIONS;
 /// The layout ends here: the least length of a lent table.
-pub const TABLE: usize = EXCEPTIONS + CONNECTIONS;
+pub const TABLE: usize = IDS + ID_BYTES * CONNECTIONS;
 /// The least length of a lent output: one copy of the largest request to each of 16 listeners.
 pub const OUTPUT: usize = 16_592;

@@ -1,10 +1,11 @@
 //! The buffers that the archive is lent, each beside what it must hold, with guard bytes before and after.
 #![forbid(unsafe_code)]
 
-use crate::archive::ARCHIVE;
+use crate::archive::{self, ARCHIVE};
 use crate::event::Event;
 use crate::image;
 use crate::layout::{OUTPUT, TABLE};
+use crate::questions::Question;
 use crate::random::Random;
 use crate::server::{Server, WORKLOADS};
 
@@ -27,6 +28,11 @@ impl Buffer {
 
     fn lend(&mut self) -> &mut [u8] {
         &mut self.actual[self.start..self.start + self.length]
+    }
+
+    /// The lent part where it is only to be read. It is compared all the same.
+    fn lend_to_read(&self) -> &[u8] {
+        &self.actual[self.start..self.start + self.length]
     }
 
     /// The first bytes of the lent part must be these after the call.
@@ -129,12 +135,24 @@ impl Host {
         self.run(event, crate::server::BAD_LENT, &[], |_| {})
     }
 
-    fn run(&mut self, event: &Event, number: u32, packets: &[u8], expect: impl Fn(&mut Host)) -> Result<(), String> {
-        // The pattern changes from call to call, so that no byte is written with the value that it has by chance.
+    /// The archive answers a line with this number and these bytes, or refuses it; table and workloads stay.
+    pub fn asked(&mut self, question: &Question, number: u32, text: &[u8]) -> Result<(), String> {
+        self.fill_output(text);
+        let (table, workloads) = (self.table.lend_to_read(), self.workloads.lend_to_read());
+        let report = archive::text(table, workloads, self.output.lend(), question.connection, &question.line);
+        self.compare(report, (number, text.len() as u32))
+    }
+
+    /// The pattern changes from call to call, so that no byte is written with the value that it has by chance.
+    fn fill_output(&mut self, written: &[u8]) {
         self.calls += 1;
         self.output.fill([0xa5, 0x5a, 0x00, 0xff][(self.calls % 4) as usize]);
+        self.output.expect(written);
+    }
+
+    fn run(&mut self, event: &Event, number: u32, packets: &[u8], expect: impl Fn(&mut Host)) -> Result<(), String> {
+        self.fill_output(packets);
         expect(self);
-        self.output.expect(packets);
         let report = ARCHIVE.event(self.table.lend(), self.workloads.lend(), self.output.lend(), event);
         self.compare(report, (number, packets.len() as u32))
     }

@@ -1,4 +1,5 @@
-//! An ordinary job server with the limits of document 01, written from the documents alone, to compare the core with.
+//! An ordinary job server with the limits of document 01 and the text commands of document 02, request 1, written from
+//! the documents alone, to compare the core with.
 //! It shares no code with the core. Only the module `archive` holds unsafe code: it calls the core's archive.
 #![deny(unsafe_code)]
 #![cfg_attr(not(feature = "archive"), forbid(unsafe_code))]
@@ -7,6 +8,7 @@
 #[allow(unsafe_code)]
 pub mod archive;
 pub mod captures;
+pub mod commands;
 pub mod counts;
 pub mod damage;
 pub mod edge_tables;
@@ -23,6 +25,7 @@ pub mod load;
 pub mod options;
 pub mod outbox;
 pub mod packet;
+pub mod questions;
 pub mod random;
 pub mod replay;
 pub mod rules;
@@ -35,4 +38,5 @@ pub mod state;
 pub mod text;
 #[cfg(feature = "archive")]
 pub mod trials;
+pub mod twins;
 pub mod words;

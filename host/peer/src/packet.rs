@@ -1,4 +1,5 @@
-//! The packet layer of document 01: requests and responses read and written, with refusals 5 to 10 in order.
+//! The packet layer of document 01, with document 02's SET_CLIENT_ID: requests and responses read and written, with
+//! refusals 5 to 10 in order.
 #![forbid(unsafe_code)]
 
 pub const HEADER: usize = 12;
@@ -37,7 +38,7 @@ impl Side {
     }
 }
 
-/// The kinds of arguments; document 01 gives each its sizes.
+/// The kinds of arguments; document 01 gives each its sizes, document 02 that of a client id.
 #[derive(Clone, Copy, PartialEq, Eq, Debug)]
 pub enum Part {
     Function,
@@ -47,6 +48,7 @@ pub enum Part {
     Flag,
     Code,
     Text,
+    Id,
     Opaque,
 }
 
@@ -64,6 +66,7 @@ impl Part {
             Part::Flag => bytes == b"0" || bytes == b"1",
             Part::Code => digits(2, 2),
             Part::Text => !bytes.contains(&0),
+            Part::Id => plain(1, 64),
             Part::Opaque => true,
         }
     }
@@ -78,6 +81,7 @@ pub fn shape(side: Side, kind: u32) -> Option<&'static [Part]> {
         (Side::Request, 7 | 18 | 21 | 32 | 33 | 34) => &[Function, Unique, Opaque],
         (Side::Request, 15) => &[Handle],
         (Side::Request, 16) => &[Opaque],
+        (Side::Request, 22) => &[Id],
         (Side::Request, 26) => &[Text],
         (Side::Response, 6 | 10) => &[],
         (Side::Response, 8) => &[Handle],

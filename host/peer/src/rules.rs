@@ -1,11 +1,12 @@
-//! The table rules of document 01, word by word, over any bytes of the layout's length.
+//! The table rules of document 01, word by word, and those of document 02's client ids, over any bytes of the layout's
+//! length.
 //! Each rule is one function named after it; none takes for granted that another one holds.
 #![forbid(unsafe_code)]
 
 use crate::layout::*;
 use crate::server::{CONNECTIONS, FUNCTIONS, JOBS};
 
-/// Whether the first 3,796 bytes obey every table rule.
+/// Whether the first 4,820 bytes obey every table rule.
 pub fn obeys(bytes: &[u8]) -> bool {
     RULES.iter().all(|(_, rule)| rule(Table(&bytes[..TABLE])))
 }
@@ -17,7 +18,7 @@ pub fn broken(bytes: &[u8]) -> Vec<&'static str> {
 
 type Rule = fn(Table) -> bool;
 
-pub const RULES: [(&str, Rule); 15] = [
+pub const RULES: [(&str, Rule); 16] = [
     ("serials distinct", serials_distinct),
     ("serials from 1 and below the next", serials_below_the_next),
     ("names within sizes", names_within_sizes),
@@ -30,6 +31,7 @@ pub const RULES: [(&str, Rule); 15] = [
     ("known functions distinct", known_functions_distinct),
     ("known functions as defined", known_functions_as_defined),
     ("abilities, listeners, holders, options and sleep only on open connections", only_on_open_connections),
+    ("client ids only on open connections", ids_only_on_open_connections),
     ("a queued job is background or has a listener", queued_is_background_or_has_a_listener),
     ("no two jobs share function and non-empty unique", no_shared_unique),
     ("no sleeper has a grabbable job", no_sleeper_has_a_grabbable_job),
@@ -95,6 +97,10 @@ impl<'a> Table<'a> {
     pub fn exceptions(self, c: usize) -> u8 {
         self.0[EXCEPTIONS + c]
     }
+    /// The whole place of a client id.
+    pub fn id_place(self, c: usize) -> &'a [u8] {
+        &self.0[IDS + ID_BYTES * c..][..ID_BYTES]
+    }
     pub fn is_job(self, p: usize) -> bool {
         self.serial(p) != 0
     }
@@ -134,12 +140,14 @@ fn serials_below_the_next(table: Table) -> bool {
     jobs(table).all(|p| (1..next).contains(&u64::from(table.serial(p))))
 }
 
-/// A name has 1 to 32 bytes where a function is known, a unique 0 to 64; no place holds more. That a free function
-/// place has no name is the meaning of an empty one, so only the sizes are left, and the places bound them.
+/// A name has 1 to 32 bytes where a function is known, a unique 0 to 64, a client id 1 to 64 where one was set; no
+/// place holds more. That a free function place has no name, and a connection without an id an empty one, is the
+/// meaning of an empty text, so only the sizes are left, and the places bound them.
 fn names_within_sizes(table: Table) -> bool {
     let names = (0..FUNCTIONS).all(|q| text(table.name_place(q)).len() <= 32);
     let uniques = jobs(table).all(|p| text(table.unique_place(p)).len() <= 64);
-    names && uniques
+    let ids = (0..CONNECTIONS).all(|c| text(table.id_place(c)).len() <= 64);
+    names && uniques && ids
 }
 
 fn stored_texts_within_sizes(table: Table) -> bool {
@@ -168,7 +176,8 @@ fn zeros_after_texts(table: Table) -> bool {
     let names = (0..FUNCTIONS).all(|q| clean(table.name_place(q)));
     let rows = (0..JOBS)
         .all(|p| clean(table.unique_place(p)) && clean(table.numerator_place(p)) && clean(table.denominator_place(p)));
-    names && rows
+    let ids = (0..CONNECTIONS).all(|c| clean(table.id_place(c)));
+    names && rows && ids
 }
 
 fn free_places_are_zero(table: Table) -> bool {
@@ -213,6 +222,11 @@ fn only_on_open_connections(table: Table) -> bool {
     let holders = (0..JOBS).all(|p| table.holder(p) == 0 || table.is_open(usize::from(table.holder(p)) - 1));
     let flags = (0..CONNECTIONS).all(|c| (table.asleep(c) == 0 && table.exceptions(c) == 0) || table.is_open(c));
     abilities && listeners && holders && flags
+}
+
+/// Close clears the id, and only an open connection sets one.
+fn ids_only_on_open_connections(table: Table) -> bool {
+    (0..CONNECTIONS).all(|c| text(table.id_place(c)).is_empty() || table.is_open(c))
 }
 
 fn queued_is_background_or_has_a_listener(table: Table) -> bool {

@@ -1,4 +1,5 @@
-//! What the ordinary job server does with each event: the rules of document 01 over the plain structs of `state`.
+//! What the ordinary job server does with each event: the rules of document 01, and document 02's SET_CLIENT_ID, over
+//! the plain structs of `state`.
 //! Job places, function places and workload places are kept as document 01 says, since the table's bytes show them.
 #![forbid(unsafe_code)]
 
@@ -111,7 +112,7 @@ impl Server {
     }
 
     /// Refusals 2 and 3.
-    fn opened(&self, connection: u32) -> Result<usize, u32> {
+    pub fn opened(&self, connection: u32) -> Result<usize, u32> {
         match self.connections.get(connection as usize) {
             None => Err(NO_CONNECTION),
             Some(state) if !state.open => Err(NOT_OPEN),
@@ -158,6 +159,10 @@ impl Server {
             }
             16 => {
                 out.send(sender, ECHO_RES, &[first]);
+                Ok(())
+            }
+            22 => {
+                self.connections[sender].id = Text::new(first);
                 Ok(())
             }
             26 => {

@@ -1,4 +1,5 @@
-//! What an ordinary job server remembers, with the limits of document 01, and how it is searched.
+//! What an ordinary job server remembers, with the limits of document 01 and the client ids of document 02, and how it
+//! is searched.
 #![forbid(unsafe_code)]
 
 use crate::handle;
@@ -41,6 +42,8 @@ pub struct Connection {
     pub open: bool,
     pub asleep: bool,
     pub exceptions: bool,
+    /// The client id; empty: none was set.
+    pub id: Text<64>,
 }
 
 /// A known function: who can do it, and how many unfinished jobs name it. It is forgotten when both come to nothing.

@@ -1,4 +1,4 @@
-//! A text of at most N bytes, kept in place: function names, uniques, stored digits and handles.
+//! A text of at most N bytes, kept in place: function names, uniques, stored digits, handles and client ids.
 #![forbid(unsafe_code)]
 
 #[derive(Clone, Copy, PartialEq, Eq)]
@@ -24,8 +24,20 @@ impl<const N: usize> Text<N> {
     }
 }
 
+/// The empty text.
+impl<const N: usize> Default for Text<N> {
+    fn default() -> Self {
+        Text::new(b"")
+    }
+}
+
 impl<const N: usize> std::fmt::Debug for Text<N> {
     fn fmt(&self, f: &mut std::fmt::Formatter<'_>) -> std::fmt::Result {
         write!(f, "\"{}\"", self.bytes().escape_ascii())
     }
+}
+
+/// A text as it is printed: a byte outside 33 to 126 as `?`.
+pub fn printed(bytes: &[u8]) -> String {
+    bytes.iter().map(|&byte| if (33..=126).contains(&byte) { char::from(byte) } else { '?' }).collect()
 }

@@ -7,9 +7,10 @@ use crate::histories::History;
 use crate::image;
 use crate::lent::Host;
 use crate::outbox::Outbox;
+use crate::questions::Question;
 use crate::random::Random;
 use crate::rules;
-use crate::server::Server;
+use crate::server::{Server, BAD_LENT};
 
 pub struct Trial<'a> {
     server: &'a Server,
@@ -37,24 +38,35 @@ impl<'a> Trial<'a> {
         &self.table
     }
 
-    /// The archive must refuse by 1 exactly if a rule is broken; otherwise it must go on from what the bytes say. The
-    /// event is a random one, or the chosen one. Gives back whether the table obeys.
+    /// The archive must refuse by 1 exactly if a rule is broken; otherwise it must go on from what the bytes say. A
+    /// random line is asked, then comes an event, a random one or the chosen one. Gives back whether the table obeys.
     pub fn compare(&mut self, bytes: &[u8], choose: Option<Choose>, counts: &mut Counts) -> Result<bool, String> {
         self.host.set(bytes, &[]);
         let obeys = image::obeys(bytes);
         if obeys {
             self.goes_on(bytes, choose, counts)?;
         } else {
-            let event = self.history.next(self.server);
-            counts.numbers[1] += 1;
-            self.host.refused(&event).map_err(|text| format!("broken: {:?}\n{event}\n{text}", rules::broken(bytes)))?;
+            self.is_refused(counts).map_err(|text| format!("broken: {:?}\n{text}", rules::broken(bytes)))?;
         }
         self.host.set(&self.table, &[]);
         Ok(obeys)
     }
 
+    fn is_refused(&mut self, counts: &mut Counts) -> Result<(), String> {
+        let question = Question::random(self.server, &mut self.random);
+        counts.add_text(&question.line, BAD_LENT);
+        self.host.asked(&question, BAD_LENT, &[]).map_err(|text| format!("{question}\n{text}"))?;
+        let event = self.history.next(self.server);
+        counts.numbers[BAD_LENT as usize] += 1;
+        self.host.refused(&event).map_err(|text| format!("{event}\n{text}"))
+    }
+
     fn goes_on(&mut self, bytes: &[u8], choose: Option<Choose>, counts: &mut Counts) -> Result<(), String> {
         let mut server = image::read(bytes, &self.server.workloads);
+        let question = Question::random(&server, &mut self.random);
+        let (number, text) = question.run(&server);
+        counts.add_text(&question.line, number);
+        self.host.asked(&question, number, &text).map_err(|text| format!("no rule is broken\n{question}\n{text}"))?;
         let event = match choose {
             Some(choose) => choose(&server, &mut self.random),
             None => self.history.next(&server),

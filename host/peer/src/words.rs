@@ -3,6 +3,7 @@
 
 use crate::packet::{self, Packet, Part, Side};
 use crate::server::error_text;
+use crate::text::printed;
 
 /// Document 000's names of the types 1 to 36.
 const NAMES: [&str; 36] = [
@@ -50,7 +51,7 @@ pub fn name(kind: u32) -> String {
     NAMES.get(place).map_or_else(|| format!("type {kind}"), |name| (*name).to_string())
 }
 
-/// Document 01's words for the arguments of a type, in their order. A type goes by one shape on either side.
+/// The documents' words for the arguments of a type, in their order. A type goes by one shape on either side.
 pub fn labels(kind: u32) -> &'static [&'static str] {
     match kind {
         1 | 2 => &["function"],
@@ -62,6 +63,7 @@ pub fn labels(kind: u32) -> &'static [&'static str] {
         16 | 17 => &["data"],
         19 => &["number", "text"],
         20 => &["handle", "known", "running", "numerator", "denominator"],
+        22 => &["id"],
         26 | 27 => &["option"],
         31 => &["handle", "function", "unique", "workload"],
         _ => &[],
@@ -133,6 +135,6 @@ fn seen(part: Part, bytes: &[u8]) -> String {
         Part::Opaque if bytes.len() == 1 => "1 byte".to_string(),
         Part::Opaque => format!("{} bytes", bytes.len()),
         _ if bytes.is_empty() => "\"\"".to_string(),
-        _ => bytes.iter().map(|&byte| if (33..=126).contains(&byte) { char::from(byte) } else { '?' }).collect(),
+        _ => printed(bytes),
     }
 }

@@ -72,7 +72,7 @@ fn type_5_is_not_served() {
     let (number, packets) = server.packet(2, &request(5, &[]));
     assert_eq!(number, 9);
     assert_eq!(packets, [(2, peer::hex::read(b"00524553000000130000000730390074797065").unwrap())]);
-    for kind in [0, 5, 6, 8, 10, 11, 17, 19, 20, 22, 23, 24, 27, 31, 35, 36, 37, 0x107, u32::MAX] {
+    for kind in [0, 5, 6, 8, 10, 11, 17, 19, 20, 23, 24, 27, 31, 35, 36, 37, 0x107, 0x116, u32::MAX] {
         refused(&mut server, 2, kind, &[b"anything"], 9);
     }
 }

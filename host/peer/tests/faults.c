@@ -19,21 +19,37 @@ enum fault {
     WORKLOAD_OF_AN_ENDED_JOB_KEPT,
     FRESH_KEEPS_THE_LAST_WORKLOAD,
     GRAB_STOPS_AT_THE_FIRST_HIGH_JOB,
-    GRAB_STOPS_AT_THE_FIRST_JOB
+    GRAB_STOPS_AT_THE_FIRST_JOB,
+    RESET_CLEARS_THE_ID,
+    CLOSE_KEEPS_THE_ID,
+    REST_OF_A_LONGER_ID_KEPT,
+    ID_OF_A_CLOSED_CONNECTION_ALLOWED,
+    ALL_CARRIAGE_RETURNS_DROPPED,
+    NO_LINE_FEED_NEEDED,
+    UNKNOWN_LINE_BEFORE_THE_TABLE,
+    SPACE_AFTER_THE_COLON,
+    FUNCTIONS_ORDERED_AS_PRINTED,
+    TEXT_DEPENDS_ON_A_WORKLOAD
 };
 
 #define LENT \
     uint8_t *table, size_t table_len, uint8_t *workloads, size_t workloads_len, uint8_t *output, size_t output_len
 #define PASSED table, table_len, workloads, workloads_len, output, output_len
+#define LENT_TO_READ \
+    const uint8_t *table, size_t table_len, const uint8_t *workloads, size_t workloads_len, uint8_t *output, \
+        size_t output_len
 
 uint32_t core_fresh(uint8_t *table, size_t table_len, uint8_t *workloads, size_t workloads_len);
 uint32_t core_open(LENT, uint32_t connection, uint32_t *length);
 uint32_t core_close(LENT, uint32_t connection, uint32_t *length);
 uint32_t core_packet(LENT, uint32_t connection, const uint8_t *packet, size_t packet_len, uint32_t *length);
+uint32_t core_text(LENT_TO_READ, uint32_t connection, const uint8_t *line, size_t line_len, uint32_t *length);
 
 /* Where the table holds what the faults look at: docs/TABLE.md. */
-enum { SERIALS = 4, HOLDERS = 196, PRIORITIES = 260, FUNCTIONS = 324, ABLE = 3556, ASLEEP = 3764 };
-enum { JOBS = 32, PLACE = 1024, HIGH = 2 };
+enum { SERIALS = 4, HOLDERS = 196, PRIORITIES = 260, FUNCTIONS = 324 };
+enum { ABLE = 3556, OPEN = 3748, ASLEEP = 3764, IDS = 3796 };
+enum { JOBS = 32, PLACE = 1024, HIGH = 2, ID = 64, SET_CLIENT_ID = 22 };
+_Static_assert(LAP_TABLE_BYTES == IDS + ID * LAP_CONNECTIONS, "the client ids stand last");
 
 /* Table, workloads and length as they were before the call. */
 static uint8_t old_table[LAP_TABLE_BYTES];
@@ -115,6 +131,96 @@ static uint32_t stopping_grab(LENT, uint32_t connection, const uint8_t *packet, 
     return number;
 }
 
+/* The packet's type is this one; it has a whole header. */
+static int is_type(const uint8_t *packet, size_t packet_len, uint32_t type) {
+    return packet_len >= LAP_HEADER_BYTES && lap_type_of(packet) == type;
+}
+
+/* The fault in the sender's id after a packet that was done. */
+static void spoil_id(uint8_t *table, uint32_t connection, const uint8_t *packet, size_t packet_len) {
+    uint8_t *id = table + IDS + ID * connection;
+    const uint8_t *old = old_table + IDS + ID * connection;
+    if (fault() == RESET_CLEARS_THE_ID && is_type(packet, packet_len, LAP_TYPE_RESET_ABILITIES)) {
+        memset(id, 0, ID);
+    }
+    if (fault() == REST_OF_A_LONGER_ID_KEPT && is_type(packet, packet_len, SET_CLIENT_ID)) {
+        size_t length = packet_len - LAP_HEADER_BYTES;
+        memcpy(id + length, old + length, ID - length);
+    }
+}
+
+/* As long as the call lasts, closed connections have no ids. */
+static uint32_t unchecked_ids(LENT, uint32_t connection, const uint8_t *packet, size_t packet_len, uint32_t *length) {
+    for (int c = 0; c < LAP_CONNECTIONS && table_len >= LAP_TABLE_BYTES; c++) {
+        if (table[OPEN + c] == 0) {
+            memset(table + IDS + ID * c, 0, ID);
+        }
+    }
+    uint32_t number = core_packet(PASSED, connection, packet, packet_len, length);
+    for (int c = 0; c < LAP_CONNECTIONS && table_len >= LAP_TABLE_BYTES; c++) {
+        if (table[OPEN + c] == 0) {
+            memcpy(table + IDS + ID * c, old_table + IDS + ID * c, ID);
+        }
+    }
+    return number;
+}
+
+/* The line as a faulty reader takes it. */
+static size_t line_taken(const uint8_t *line, size_t line_len, uint8_t *taken) {
+    memcpy(taken, line, line_len);
+    if (fault() == NO_LINE_FEED_NEEDED && (line_len == 0 || taken[line_len - 1] != '\n')) {
+        taken[line_len++] = '\n';
+    }
+    while (fault() == ALL_CARRIAGE_RETURNS_DROPPED && line_len > 1 && taken[line_len - 1] == '\n' &&
+           taken[line_len - 2] == '\r') {
+        taken[--line_len - 1] = '\n';
+    }
+    return line_len;
+}
+
+/* A space at the end of each line without functions. */
+static void put_spaces(uint8_t *output, uint32_t *length) {
+    for (uint32_t at = 1; at + 1 < *length; at++) {
+        if (output[at - 1] == ' ' && output[at] == ':' && output[at + 1] == '\n') {
+            memmove(output + at + 2, output + at + 1, *length - at - 1);
+            output[at + 1] = ' ';
+            *length += 1;
+        }
+    }
+}
+
+/* The first of two lines comes after the second, as they are printed. */
+static int comes_after(const uint8_t *first, const uint8_t *second) {
+    while (*first == *second && *first != '\n') {
+        first++, second++;
+    }
+    return *first > *second;
+}
+
+/* The lines of a status in the order of what is printed: neighbours change places until none comes after the next. */
+static void order_lines(uint8_t *output, uint32_t length) {
+    static uint8_t line[LAP_OUTPUT_BYTES];
+    for (int round = 0; round < LAP_MOST_FUNCTIONS; round++) {
+        uint8_t *first = output + 1;
+        for (;;) {
+            uint8_t *second = memchr(first, '\n', output + length - first);
+            if (!second || ++second >= output + length - 2) {
+                break;
+            }
+            uint8_t *end = memchr(second, '\n', output + length - second);
+            size_t firsts = second - first, seconds = end + 1 - second;
+            if (comes_after(first, second)) {
+                memcpy(line, first, firsts);
+                memmove(first, second, seconds);
+                memcpy(first + seconds, line, firsts);
+                first += seconds;
+            } else {
+                first = second;
+            }
+        }
+    }
+}
+
 /* The fault in what the call has left. */
 static uint32_t spoil(LENT, uint32_t number, uint32_t *length) {
     (void)workloads_len;
@@ -179,7 +285,11 @@ uint32_t lap_open(LENT, uint32_t connection, uint32_t *length) {
 
 uint32_t lap_close(LENT, uint32_t connection, uint32_t *length) {
     remember(PASSED, length);
-    return spoil(PASSED, core_close(PASSED, connection_taken(connection), length), length);
+    uint32_t number = spoil(PASSED, core_close(PASSED, connection_taken(connection), length), length);
+    if (fault() == CLOSE_KEEPS_THE_ID && number == LAP_DONE) {
+        memcpy(table + IDS + ID * connection, old_table + IDS + ID * connection, ID);
+    }
+    return number;
 }
 
 uint32_t lap_packet(LENT, uint32_t connection, const uint8_t *packet, size_t packet_len, uint32_t *length) {
@@ -188,5 +298,36 @@ uint32_t lap_packet(LENT, uint32_t connection, const uint8_t *packet, size_t pac
     if (stops && is_grab(PASSED, connection, packet, packet_len)) {
         return stopping_grab(PASSED, connection, packet, packet_len, length);
     }
-    return spoil(PASSED, core_packet(PASSED, connection_taken(connection), packet, packet_len, length), length);
+    if (fault() == ID_OF_A_CLOSED_CONNECTION_ALLOWED) {
+        return unchecked_ids(PASSED, connection, packet, packet_len, length);
+    }
+    uint32_t number = core_packet(PASSED, connection_taken(connection), packet, packet_len, length);
+    if (number == LAP_DONE && connection < LAP_CONNECTIONS) {
+        spoil_id(table, connection, packet, packet_len);
+    }
+    return spoil(PASSED, number, length);
+}
+
+uint32_t lap_text(LENT_TO_READ, uint32_t connection, const uint8_t *line, size_t line_len, uint32_t *length) {
+    static const char unknown[] = "ERR unknown\n";
+    static uint8_t taken[32768];
+    int whole = table_len >= LAP_TABLE_BYTES && workloads_len >= LAP_WORKLOADS_BYTES && output_len >= LAP_OUTPUT_BYTES;
+    size_t taken_len = line_taken(line, line_len, taken);
+    uint32_t number = core_text(PASSED, connection_taken(connection), taken, taken_len, length);
+    if (fault() == UNKNOWN_LINE_BEFORE_THE_TABLE && number == LAP_LENT && whole && line_len == 0) {
+        output[0] = connection;
+        memcpy(output + 1, unknown, sizeof unknown - 1);
+        *length = sizeof unknown;
+        return LAP_DONE;
+    }
+    if (fault() == SPACE_AFTER_THE_COLON) {
+        put_spaces(output, length);
+    }
+    if (fault() == FUNCTIONS_ORDERED_AS_PRINTED && *length > 1 && memchr(output + 1, '\t', *length - 1)) {
+        order_lines(output, *length);
+    }
+    if (fault() == TEXT_DEPENDS_ON_A_WORKLOAD && *length > 1 && workloads[0] % 2 == 1) {
+        output[1] ^= 1;
+    }
+    return number;
 }

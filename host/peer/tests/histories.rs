@@ -1,5 +1,5 @@
-//! The random histories reach what they are for: every number, every request done, every type sent, joins, sleep and
-//! grabs among many jobs.
+//! The random histories reach what they are for: every number, every request done, every type sent, joins, sleep, grabs
+//! among many jobs, and client ids.
 mod common;
 use common::grab::Grab;
 use peer::event::Event;
@@ -40,7 +40,7 @@ fn histories_reach_everything() {
     for number in [0, 2, 3, 4, 5, 6, 7, 8, 9, 10, 11, 12, 13, 14, 15] {
         assert!(numbers[number] >= 20, "number {number}: {numbers:?}");
     }
-    for kind in [1, 2, 3, 4, 7, 9, 12, 13, 14, 15, 16, 18, 21, 25, 26, 28, 29, 30, 32, 33, 34] {
+    for kind in [1, 2, 3, 4, 7, 9, 12, 13, 14, 15, 16, 18, 21, 22, 25, 26, 28, 29, 30, 32, 33, 34] {
         assert!(done[kind] >= 100, "type {kind}: {done:?}");
     }
     for kind in [6, 8, 10, 11, 12, 13, 14, 17, 19, 20, 25, 27, 28, 29, 31] {
@@ -115,6 +115,30 @@ fn telling_grab(event: &Event, before: &Server, after: &Server, _: &Outbox) -> V
     found.into_iter().filter(|(holds, _)| *holds).map(|(_, what)| what).collect()
 }
 
+/// What an event did with a client id, or to a connection that has one.
+fn telling_id(event: &Event, before: &Server, after: &Server, _: &Outbox) -> Vec<&'static str> {
+    let (connection, kind) = match event {
+        Event::Open(_) => return vec![],
+        Event::Close(connection) => (*connection as usize, 0),
+        Event::Packet(connection, packet) => (*connection as usize, packet[7]),
+    };
+    let [old, new] = [before, after].map(|server| server.connections[connection]);
+    let shared = (0..16).any(|other| other != connection && after.connections[other].id == new.id);
+    let odd = new.id.bytes().iter().any(|byte| !(33..=126).contains(byte));
+    let found = [
+        (kind == 22 && old.asleep && new.asleep, "an id of a sleeper"),
+        (kind == 22 && !old.id.is_empty() && old.id != new.id, "another id"),
+        (kind == 22 && new.id.bytes().len() < old.id.bytes().len(), "a shorter id"),
+        (kind == 22 && new.id.bytes().len() == 1, "an id of one byte"),
+        (kind == 22 && new.id.bytes().len() == 64, "an id of 64 bytes"),
+        (kind == 22 && odd, "an id with bytes that print as question marks"),
+        (kind == 22 && shared, "an id that another connection has"),
+        (kind == 3 && !new.id.is_empty(), "RESET_ABILITIES keeps an id"),
+        (kind == 0 && !old.id.is_empty(), "close clears an id"),
+    ];
+    found.into_iter().filter(|(holds, _)| *holds).map(|(_, what)| what).collect()
+}
+
 /// Over 30 histories the events that are done show so many different things to `look`, each at least 40 times.
 fn rich_in(kinds: usize, look: fn(&Event, &Server, &Server, &Outbox) -> Vec<&'static str>) {
     let mut out = Outbox::default();
@@ -145,6 +169,35 @@ fn histories_are_rich_in_sleepers() {
 #[test]
 fn histories_are_rich_in_telling_grabs() {
     rich_in(9, telling_grab);
+}
+
+#[test]
+fn histories_are_rich_in_client_ids() {
+    rich_in(9, telling_id);
+}
+
+/// Ids of every length that is refused, and with a zero byte inside.
+#[test]
+fn histories_have_ids_that_are_refused() {
+    let mut out = Outbox::default();
+    let (mut empty, mut long, mut zeros) = (0, 0, 0);
+    for seed in 1..=30 {
+        let mut history = History::new(seed);
+        let mut server = history.start();
+        for _ in 0..2_000 {
+            let event = history.next(&server);
+            let number = event.run(&mut server, &mut out);
+            if let (Event::Packet(_, packet), 10) = (event, number) {
+                let id = &packet[12..];
+                if packet[7] == 22 {
+                    empty += usize::from(id.is_empty());
+                    long += usize::from(id.len() == 65 && !id.contains(&0));
+                    zeros += usize::from((1..=64).contains(&id.len()));
+                }
+            }
+        }
+    }
+    assert!(empty >= 40 && long >= 40 && zeros >= 40, "{empty} {long} {zeros}");
 }
 
 #[test]

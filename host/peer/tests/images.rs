@@ -29,7 +29,9 @@ fn the_offsets_of_the_table_page() {
     assert_eq!([LAST_SERIAL, SERIAL, SIZE, HOLDER], [0, 4, 132, 196]);
     assert_eq!([PRIORITY, BACKGROUND, FUNCTION, NAME], [260, 292, 324, 356]);
     assert_eq!([UNIQUE, NUMERATOR, DENOMINATOR, ABLE], [868, 2_916, 3_236, 3_556]);
-    assert_eq!([LISTENERS, OPEN, ASLEEP, EXCEPTIONS, TABLE], [3_620, 3_748, 3_764, 3_780, 3_796]);
+    assert_eq!([LISTENERS, OPEN, ASLEEP, EXCEPTIONS], [3_620, 3_748, 3_764, 3_780]);
+    // Request 1: 16 client ids of 64 bytes behind the flags.
+    assert_eq!([IDS, TABLE], [3_796, 4_820]);
 }
 
 #[test]
@@ -55,6 +57,10 @@ fn the_example_of_the_table_page() {
     bytes[196] = 2;
     assert_eq!(image(&server), bytes);
     assert_eq!(image(&Server::new()), vec![0; TABLE]);
+    // Connection 1 has an id now: bytes 3,860 to 3,864.
+    done(&mut server, 1, 22, &[b"press"], &[]);
+    bytes[3_860..3_865].copy_from_slice(b"press");
+    assert_eq!(image(&server), bytes);
 }
 
 #[test]
@@ -120,11 +126,12 @@ fn damaged_tables_that_obey_are_images() {
     assert!(good > 1_000 && bad > 1_000, "{good} {bad}");
 }
 
-/// The example with one more function and one more job; connection 2 sleeps and can do nothing.
+/// The example with one more function and one more job; connection 2 sleeps, can do nothing and has an id.
 fn broad() -> Vec<u8> {
     let mut server = example();
     assert_eq!(server.open(2), 0);
     done(&mut server, 2, 4, &[], &[]);
+    done(&mut server, 2, 22, &[b"id"], &[]);
     done(&mut server, 0, 7, &[b"sort", b"unique", b"w"], &[response(0, 8, &[b"H:lap:2"])]);
     done(&mut server, 1, 1, &[b"print"], &[]);
     let bytes = image(&server);
@@ -163,7 +170,8 @@ fn each_rule_is_broken_by_some_table() {
     assert_eq!(breaks("every field with a meaning: numbers", &[(ASLEEP, &[2])]).len(), 1);
     breaks("every field with a meaning: numbers", &[(HOLDER, &[17])]);
     breaks("every field with a meaning: numbers", &[(FUNCTION, &[16])]);
-    for at in [NAME + 31, UNIQUE + 63, NUMERATOR + 9, DENOMINATOR + 9] {
+    let ids = [IDS + 1, IDS + 127, IDS + 131, IDS + 191, IDS + 15 * 64 + 63];
+    for at in [NAME + 31, UNIQUE + 63, NUMERATOR + 9, DENOMINATOR + 9].into_iter().chain(ids) {
         assert_eq!(breaks("every field with a meaning: zeros", &[(at, b"1")]).len(), 1, "{at}");
     }
     for at in [LISTENERS + 8, SIZE + 4, HOLDER + 4, PRIORITY + 2, BACKGROUND + 2, FUNCTION + 2] {
@@ -183,6 +191,11 @@ fn each_rule_is_broken_by_some_table() {
     assert_eq!(breaks("abilities, listeners", &[(HOLDER, &[9])]).len(), 1);
     assert_eq!(breaks("abilities, listeners", &[(EXCEPTIONS + 9, &[1])]).len(), 1);
     assert_eq!(breaks("abilities, listeners", &[(ASLEEP + 9, &[1])]).len(), 1);
+    for id in [&b"i"[..], b"\xff", &[b'i'; 64]] {
+        assert_eq!(breaks("client ids", &[(IDS + 3 * 64, id)]).len(), 1);
+        assert_eq!(breaks("client ids", &[(IDS + 15 * 64, id)]).len(), 1);
+    }
+    breaks("client ids", &[(OPEN + 2, &[0]), (ASLEEP + 2, &[0])]);
     assert_eq!(breaks("a queued job", &[(LISTENERS, &[0])]).len(), 1);
     let shared: [(usize, &[u8]); 2] = [(FUNCTION + 1, &[0]), (UNIQUE, b"unique")];
     breaks("no two jobs share", &shared);
@@ -196,12 +209,17 @@ fn each_rule_is_broken_by_some_table() {
 
 #[test]
 fn what_no_rule_forbids() {
-    // Texts of a queued job, serials out of place order, serials at their end, the largest workload.
-    let changes: [&[(usize, &[u8])]; 4] = [
+    // Texts of a queued job, serials out of place order, serials at their end, the largest workload; a full id, two ids
+    // alike, any byte but zero, and no id.
+    let changes: [&[(usize, &[u8])]; 8] = [
         &[(NUMERATOR, b"007"), (DENOMINATOR, b"1234567890")],
         &[(SERIAL, &[2]), (SERIAL + 4, &[1])],
         &[(LAST_SERIAL, &[255; 4]), (SERIAL, &[255; 4])],
         &[(SIZE + 2, &1_012u16.to_le_bytes())],
+        &[(IDS + 64, &[b'i'; 64])],
+        &[(IDS + 64, b"id")],
+        &[(IDS, b"\x01 \n\x7f\x80\xff")],
+        &[(IDS + 128, &[0; 2])],
     ];
     for changes in changes {
         let mut bytes = broad();
@@ -210,4 +228,34 @@ fn what_no_rule_forbids() {
         }
         assert_eq!(broken(&bytes), Vec::<&str>::new());
     }
+}
+
+/// Every byte of the ids, set to several values: the table obeys exactly if each id is a text with zeros after it, and
+/// empty where the connection is closed.
+#[test]
+fn every_byte_of_the_ids() {
+    let table = broad();
+    let (mut good, mut bad) = (0, 0);
+    for at in IDS..TABLE {
+        for value in damage::values(table[at]) {
+            let mut bytes = table.clone();
+            bytes[at] = value;
+            let (connection, place) = ((at - IDS) / 64, (at - IDS) % 64);
+            // Connections 0 and 1 have no id, connection 2 has one of two bytes, and the others are closed.
+            let right = match (connection, place) {
+                (0 | 1, 0) | (2, 1) => true,
+                // Without its first byte the id would be empty, and its second byte left over.
+                (2, 0) | (2, 2) => value != 0,
+                _ => false,
+            };
+            assert_eq!(obeys(&bytes), right, "byte {at} set to {value}");
+            if right {
+                good += 1;
+                assert_eq!(image(&read(&bytes, &[0; 32_768])), bytes);
+            } else {
+                bad += 1;
+            }
+        }
+    }
+    assert!(good > 20 && bad > 5_000, "{good} {bad}");
 }

@@ -46,11 +46,12 @@ fn sizes_of_data() {
 
 #[test]
 fn sizes_of_arguments() {
-    let cases: [(Part, &[usize], &[usize]); 4] = [
+    let cases: [(Part, &[usize], &[usize]); 5] = [
         (Part::Function, &[1, 32], &[0, 33]),
         (Part::Unique, &[0, 64], &[65]),
         (Part::Handle, &[1, 63], &[0, 64]),
         (Part::Digits, &[1, 10], &[0, 11]),
+        (Part::Id, &[1, 64], &[0, 65]),
     ];
     for (part, good, bad) in cases {
         assert!(good.iter().all(|&length| part.allows(&vec![b'1'; length])), "{part:?}");
@@ -68,7 +69,7 @@ fn a_zero_byte_ends_an_argument_only_where_one_is_asked_for() {
     let packet = request(7, &[b"f", b"u", b"w\0\0w\0"]);
     let read = read(Side::Request, &packet).unwrap();
     assert_eq!(read.arguments[..3], [&b"f"[..], b"u", b"w\0\0w\0"]);
-    for kind in [1, 2, 14, 15, 26] {
+    for kind in [1, 2, 14, 15, 22, 26] {
         assert_eq!(number(&request(kind, &[b"f\0"])), 10);
     }
     for kind in [13, 25, 28, 29] {
@@ -116,6 +117,6 @@ fn what_is_written_is_read_back() {
             assert_eq!(packet.arguments[..packet.count], arguments[..]);
         }
     }
-    // 21 served types and 15 sent ones.
-    assert_eq!(types, 36);
+    // 22 served types and 15 sent ones.
+    assert_eq!(types, 37);
 }

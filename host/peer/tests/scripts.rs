@@ -1,4 +1,5 @@
 //! The fixed histories do what they are named for.
+use peer::event::Event;
 use peer::handle;
 use peer::image::image;
 use peer::layout::OUTPUT;
@@ -104,4 +105,75 @@ fn a_whole_queue_is_given_out_in_order() {
     let in_order: Vec<u32> = jobs.iter().map(|job| job.serial).collect();
     assert!(in_order.len() == 32 && in_order[0] == 42 && by_place[22] == 42 && by_place[1] == 43);
     assert_eq!(grabbed[42..], [&[0], &in_order[..], &[0]].concat());
+}
+
+/// Runs a script; gives the state after each event.
+fn states(name: &str) -> Vec<Server> {
+    let all = scripts::all();
+    let script = all.iter().find(|script| script.name == name).unwrap();
+    let mut server = Server { last_serial: script.last_serial, ..Server::new() };
+    let mut out = Outbox::default();
+    let mut after = |event: &Event| {
+        event.run(&mut server, &mut out);
+        server.clone()
+    };
+    script.events.iter().map(&mut after).collect()
+}
+
+/// What connection 15 is answered, line by line.
+fn asked(server: &Server, line: &[u8]) -> Vec<String> {
+    let (number, bytes) = server.text(15, line);
+    assert_eq!(number, 0);
+    String::from_utf8(bytes[1..].to_vec()).unwrap().lines().map(str::to_string).collect()
+}
+
+#[test]
+fn ids_are_set_refused_kept_and_cleared() {
+    let (numbers, _, _) = run("client ids");
+    let count = |number: u32| numbers.iter().filter(|&&other| other == number).count();
+    assert_eq!([count(2), count(3), count(10)], [1, 1, 14]);
+    assert_eq!(count(0), numbers.len() - 16);
+    let states = states("client ids");
+    let ids =
+        |text: &[u8]| states.iter().filter(|state| state.connections.iter().any(|c| c.id.bytes() == text)).count();
+    assert!([&b"alone"[..], b"i", &[b'i'; 64], &[b'z'; 63], b"\xff", b"short", b"again"]
+        .into_iter()
+        .all(|id| ids(id) > 0));
+    assert!(ids(b"not open") == 0 && ids(&[b'i'; 65]) == 0);
+    assert!(states.iter().any(|state| state.connections[10].asleep && state.connections[10].id.bytes() == b"asleep"));
+    assert!(states.last().unwrap().connections.iter().all(|connection| connection.open && connection.id.is_empty()));
+}
+
+#[test]
+fn the_longest_texts_are_asked() {
+    let states = states("longest texts");
+    let longest = |line: &[u8]| states.iter().map(|state| state.text(15, line).1.len()).max();
+    assert_eq!(longest(b"workers\n"), Some(1 + 10 * 599 + 6 * 600 + 2));
+    assert_eq!(longest(b"status\n"), Some(1 + 16 * 40 + 2 + 2));
+    let held = &states[states.len() - 2];
+    let last = format!("{}m\t32\t32\t16", "n".repeat(31));
+    assert!(asked(held, b"status\n").contains(&last));
+}
+
+#[test]
+fn names_are_listed_by_their_bytes() {
+    let states = states("names in reverse");
+    let server = &states[states.len() - 2];
+    let names: Vec<String> = (1..=16).map(|number| format!("function-{number:02}")).collect();
+    let status = asked(server, b"status\n");
+    let firsts: Vec<&str> = status.iter().map(|line| line.split('\t').next().unwrap()).collect();
+    assert_eq!(firsts[..16], names);
+    assert_eq!(server.functions[0].unwrap().name.bytes(), b"function-16");
+    // Function 16 is named by a job alone; 14 is held by a connection that has given it up.
+    assert_eq!([&status[15], &status[13]], ["function-16\t1\t0\t0", "function-14\t1\t1\t0"]);
+}
+
+#[test]
+fn names_that_print_alike_are_listed_by_their_bytes() {
+    let server = states("names alike").pop().unwrap();
+    let workers = asked(&server, b"workers\n");
+    // Connection 3 can do all of them but `a!`, which nobody can do now; jobs of it wait.
+    assert_eq!(workers[3], "3 - ? : ? ? ? ! ? a a? a? aa a~ a? a? ~ ? ?");
+    assert_eq!(workers[16], ".");
+    assert!(asked(&server, b"status\n").contains(&"a!\t2\t0\t0".to_string()));
 }

@@ -51,6 +51,7 @@ fn packets_that_are_read() {
     assert_eq!(requested(15, 16, &[b"a\0b\0c\0"]), "15 -> ECHO_REQ 6 bytes");
     assert_eq!(requested(3, 1, &[b"a b\xff"]), "3 -> CAN_DO a?b?");
     assert_eq!(requested(3, 26, &[b""]), "3 -> OPTION_REQ \"\"");
+    assert_eq!(requested(3, 22, &[b"an id\xff"]), "3 -> SET_CLIENT_ID an?id?");
     assert_eq!(requested(3, 16, &[b""]), "3 -> ECHO_REQ 0 bytes");
     assert_eq!(requested(3, 16, &[b"a"]), "3 -> ECHO_REQ 1 byte");
     assert_eq!(requested(3, 1, &[b"\x20\x21\x7e\x7f"]), "3 -> CAN_DO ?!~?");
@@ -65,7 +66,9 @@ fn packets_that_cannot_be_read() {
         packet_line(Side::Request, 2, &[&request(9, &[])[..], b"a"].concat()),
         "2 -> (unreadable: length is not 12 + size)"
     );
-    assert_eq!(requested(2, 22, &[b"id"]), "2 -> SET_CLIENT_ID (unreadable: type)");
+    assert_eq!(requested(2, 23, &[b"id"]), "2 -> CAN_DO_TIMEOUT (unreadable: type)");
+    assert_eq!(requested(2, 22, &[b""]), "2 -> SET_CLIENT_ID (unreadable: arguments)");
+    assert_eq!(requested(2, 22, &[b"i\0d"]), "2 -> SET_CLIENT_ID (unreadable: arguments)");
     assert_eq!(requested(2, 5, &[]), "2 -> (unused) (unreadable: type)");
     for kind in [0, 37, 39, 256 + 9, u32::MAX] {
         assert_eq!(requested(2, kind, &[]), format!("2 -> type {kind} (unreadable: type)"));
@@ -102,10 +105,22 @@ fn digits_end_with_the_header() {
     let first = |capture: &str| show(capture.as_bytes()).lines().next().unwrap().to_string();
     assert_eq!(first(&sent(2, 16, &[b"a name"])), "line 1 0302005245510000001000000006");
     assert_eq!(first(&sent(2, 22, &[b"a name"])), "line 1 0302005245510000001600000006");
+    assert_eq!(first(&sent(2, 23, &[b"a name"])), "line 1 0302005245510000001700000006");
     assert_eq!(first("0302005245510000001000000006\n"), "line 1 0302");
     assert_eq!(first("0302616263\n"), "line 1 0302");
     assert_eq!(first("02ff"), "line 1 02ff");
     assert_eq!(first("02fF"), "line 1");
+}
+
+#[test]
+fn an_id_concerns_no_job() {
+    let slept = format!("0100\n{}{}", sent(0, 7, &[b"f", b"", b"w"]), sent(0, 4, &[]));
+    let named = slept.clone() + &sent(0, 22, &[b"H:lap:1"]);
+    assert_eq!(last(&named), ["0 -> SET_CLIENT_ID H:lap:1", "done", "asleep 0"]);
+    let refused = last(&(slept + &sent(0, 22, &[&[b'i'; 65]])));
+    let error = "0 <- ERROR number 10 text arguments";
+    assert_eq!(refused, ["0 -> SET_CLIENT_ID (unreadable: arguments)", error, "refused 10 arguments", "asleep 0"]);
+    assert_eq!(labels(22), ["id"]);
 }
 
 #[test]

@@ -1,5 +1,5 @@
-//! Compares the core's archive with the ordinary server over fixed and random histories, damaged and made tables
-//! and short buffers.
+//! Compares the core's archive with the ordinary server over fixed, random and twin histories, damaged and made tables
+//! and short buffers: events, and lines for the text entry between them.
 //! usage: compare [--events N] [--seed S]. It stops at the first difference with a full description and exit status 1.
 #![forbid(unsafe_code)]
 
@@ -14,16 +14,21 @@ use peer::layout::{OUTPUT, TABLE};
 use peer::lent::Host;
 use peer::options;
 use peer::outbox::Outbox;
+use peer::questions::Question;
 use peer::random::Random;
 use peer::scripts::{self, Script};
-use peer::server::{Server, JOBS, WORKLOADS};
+use peer::server::{Server, BAD_LENT, JOBS, WORKLOADS};
 use peer::trials::Trial;
+use peer::twins;
 use std::process::ExitCode;
 
 const EVENTS_OF_A_HISTORY: u64 = 2_000;
 /// How many reached tables are damaged at every byte, and how often each has several fields damaged.
 const DAMAGED_TABLES: usize = 10;
 const FIELD_DAMAGES: usize = 6_000;
+/// How many twin histories there are, and their events.
+const TWINS: u64 = 10;
+const EVENTS_OF_A_TWIN: u64 = 600;
 /// How many events are tried on each state that tables are made from.
 const EVENTS_OF_A_BASE: usize = 100;
 
@@ -72,6 +77,9 @@ fn compare(events: u64, first_seed: u64, counts: &mut Counts) -> Result<(), Stri
         }
         seed += 1;
     }
+    for seed in first_seed..first_seed + TWINS {
+        twin_histories(seed, counts)?;
+    }
     for reached in &reached {
         short_buffers(reached, counts)?;
         damaged_bytes(reached, counts)?;
@@ -94,9 +102,11 @@ fn fresh_tables(seed: u64, counts: &mut Counts) -> Result<(), String> {
     Ok(())
 }
 
-/// A fixed history on both sides, in the shortest buffers and in longer ones.
+/// A fixed history on both sides, in the shortest buffers and in longer ones. After each event the three commands are
+/// asked and a random line, after the last one the fixed lines by each connection.
 fn fixed_history(script: &Script, counts: &mut Counts) -> Result<(), String> {
     let mut out = Outbox::default();
+    let mut random = Random::new(script.events.len() as u64);
     for mut host in [Host::with_lengths(TABLE, WORKLOADS, OUTPUT), Host::with_lengths(8_192, 40_000, 20_000)] {
         let mut server = Server::new();
         server.last_serial = script.last_serial;
@@ -107,12 +117,23 @@ fn fixed_history(script: &Script, counts: &mut Counts) -> Result<(), String> {
                 .map_err(|text| format!("script '{}', {}", script.name, describe(index, event, number, &out, &text)))?;
             counts.fixed += 1;
             counts.add(event, number, &out);
+            let asker = server.connections.iter().rposition(|connection| connection.open).unwrap_or(0);
+            let mut questions = Question::commands(asker as u32).to_vec();
+            questions.push(Question::random(&server, &mut random));
+            for question in questions {
+                ask(&mut host, &question, &server, counts)
+                    .map_err(|text| format!("script '{}', after event {index}: {event}\n{text}", script.name))?;
+            }
+        }
+        for question in (0..=16).flat_map(Question::fixed) {
+            ask(&mut host, &question, &server, counts)
+                .map_err(|text| format!("script '{}', after all events\n{text}", script.name))?;
         }
     }
     Ok(())
 }
 
-/// One history on both sides; gives back the richest state that it reached.
+/// One history on both sides, a line asked after each event; gives back the richest state that it reached.
 fn history(seed: u64, events: u64, counts: &mut Counts) -> Result<Reached, String> {
     let mut history = History::new(seed);
     let mut server = history.start();
@@ -121,6 +142,7 @@ fn history(seed: u64, events: u64, counts: &mut Counts) -> Result<Reached, Strin
     // The start may differ from a fresh table in the last serial and in the workloads.
     host.set(&image::image(&server), &server.workloads);
     let mut out = Outbox::default();
+    let mut random = Random::new(seed ^ 0x7e);
     let mut rich = Reached { seed, index: 0, server: server.clone() };
     for index in 0..events {
         let event = history.next(&server);
@@ -129,6 +151,9 @@ fn history(seed: u64, events: u64, counts: &mut Counts) -> Result<Reached, Strin
             .map_err(|text| format!("seed {seed}, {}", describe(index as usize, &event, number, &out, &text)))?;
         counts.events += 1;
         counts.add(&event, number, &out);
+        let question = Question::random(&server, &mut random);
+        ask(&mut host, &question, &server, counts)
+            .map_err(|text| format!("seed {seed}, after event {index}: {event}\n{text}"))?;
         if richness(&server) > richness(&rich.server) {
             rich = Reached { seed, index: index + 1, server: server.clone() };
         }
@@ -136,14 +161,56 @@ fn history(seed: u64, events: u64, counts: &mut Counts) -> Result<Reached, Strin
     Ok(rich)
 }
 
-/// How much a state has to damage: many jobs, some held, some queued, functions, sleepers and options.
+/// The archive must answer a line as the ordinary server does.
+fn ask(host: &mut Host, question: &Question, server: &Server, counts: &mut Counts) -> Result<(), String> {
+    let (number, text) = question.run(server);
+    counts.add_text(&question.line, number);
+    host.asked(question, number, &text)
+        .map_err(|found| format!("{question}\nright: number {number}, text \"{}\"\n{found}", text.escape_ascii()))
+}
+
+/// Two histories that differ in opaque bytes alone, each in buffers of its own: every text must be the same in both.
+fn twin_histories(seed: u64, counts: &mut Counts) -> Result<(), String> {
+    let mut history = History::new(seed ^ 0x79);
+    let mut random = Random::new(seed ^ 0x79);
+    let mut servers = [history.start(), Server::new()];
+    servers[1].last_serial = servers[0].last_serial;
+    servers[1].workloads.fill_with(|| random.byte());
+    let mut hosts = [Host::new(&mut random), Host::new(&mut random)];
+    for (host, server) in hosts.iter_mut().zip(&servers) {
+        host.set(&image::image(server), &server.workloads);
+    }
+    let mut out = Outbox::default();
+    for index in 0..EVENTS_OF_A_TWIN {
+        let event = history.next(&servers[0]);
+        let events = [event.clone(), twins::twin(&event, &mut random)];
+        for ((event, host), server) in events.iter().zip(&mut hosts).zip(&mut servers) {
+            let number = event.run(server, &mut out);
+            host.step(event, server, number, out.bytes()).map_err(|text| {
+                format!("twin seed {seed}, {}", describe(index as usize, event, number, &out, &text))
+            })?;
+            counts.twins += 1;
+            counts.add(event, number, &out);
+        }
+        // What is right for one history is right for the other.
+        let question = Question::random(&servers[0], &mut random);
+        for host in &mut hosts {
+            ask(host, &question, &servers[0], counts)
+                .map_err(|text| format!("twin seed {seed}, after event {index}: {event}\n{text}"))?;
+        }
+    }
+    Ok(())
+}
+
+/// How much a state has to damage: many jobs, some held, some queued, functions, sleepers, options and client ids.
 fn richness(server: &Server) -> usize {
     let jobs = server.jobs.iter().flatten().count().min(JOBS - 2);
     let held = server.jobs.iter().flatten().filter(|job| job.holder.is_some()).count();
     let functions = server.functions.iter().flatten().count();
     let asleep = server.connections.iter().filter(|connection| connection.asleep).count();
     let options = server.connections.iter().filter(|connection| connection.exceptions).count();
-    jobs + held.min(10) + functions.min(14) + 2 * asleep.min(5) + options.min(5)
+    let ids = server.connections.iter().filter(|connection| !connection.id.is_empty()).count();
+    jobs + held.min(10) + functions.min(14) + 2 * asleep.min(5) + options.min(5) + ids.min(5)
 }
 
 /// A state with telling events, then the tables that are made from it on purpose.
@@ -195,11 +262,12 @@ fn damaged_fields(reached: &Reached, counts: &mut Counts) -> Result<(), String> 
     Ok(())
 }
 
-/// Every event is refused by 1 if one lent buffer is too short, whatever it would be otherwise; none is if each has
-/// exactly its least length.
+/// Every event and every line is refused by 1 if one lent buffer is too short, whatever it would be otherwise; none is
+/// if each has exactly its least length.
 fn short_buffers(reached: &Reached, counts: &mut Counts) -> Result<(), String> {
     let table = image::image(&reached.server);
     let mut history = History::new(reached.seed ^ 0x50);
+    let mut random = Random::new(reached.seed ^ 0x50);
     let mut out = Outbox::default();
     let least = [TABLE, WORKLOADS, OUTPUT];
     for short in 0..8 {
@@ -214,13 +282,21 @@ fn short_buffers(reached: &Reached, counts: &mut Counts) -> Result<(), String> {
                 let event = history.next(&reached.server);
                 let mut host = Host::with_lengths(lengths[0], lengths[1], lengths[2]);
                 host.set(&table, &reached.server.workloads);
+                let question = Question::random(&reached.server, &mut random);
+                let answer = if short == 0 {
+                    ask(&mut host, &question, &reached.server, counts)
+                } else {
+                    counts.add_text(&question.line, BAD_LENT);
+                    host.asked(&question, BAD_LENT, &[])
+                };
+                answer.map_err(|text| format!("{}, lent lengths {lengths:?}\n{question}\n{text}", reached.name()))?;
                 let answer = if short == 0 {
                     let mut server = reached.server.clone();
                     let number = event.run(&mut server, &mut out);
                     counts.add(&event, number, &out);
                     host.step(&event, &server, number, out.bytes())
                 } else {
-                    counts.numbers[1] += 1;
+                    counts.numbers[BAD_LENT as usize] += 1;
                     host.refused(&event)
                 };
                 answer.map_err(|text| format!("{}, lent lengths {lengths:?}\n{event}\n{text}", reached.name()))?;

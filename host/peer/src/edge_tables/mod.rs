@@ -1,8 +1,9 @@
 //! Tables made on purpose for a check of the table rules that takes short ways: one that tells names and uniques apart
-//! by keys, reads digits and sizes many at a time, or compares serials in an order of its own.
+//! by keys, reads digits, sizes and client ids many at a time, or compares serials in an order of its own.
 #![forbid(unsafe_code)]
 
 mod fields;
+mod ids;
 mod keys;
 
 use crate::event::Event;
@@ -55,16 +56,21 @@ impl std::fmt::Display for Change {
 pub fn all() -> Vec<Base> {
     let mut bases = keys::all();
     bases.extend(fields::all());
+    bases.extend(ids::all());
     bases
 }
 
-/// An event that names what the state holds: a function, a function and a unique, or a handle.
+/// An event of an open connection, of which there is one at least, that names what the state holds: a function, a
+/// function and a unique, a handle, or a client id.
 pub fn event_about(server: &Server, random: &mut Random) -> Event {
-    let connection = random.below(CONNECTIONS) as u32;
+    let open: Vec<u32> = (0..CONNECTIONS as u32).filter(|&c| server.connections[c as usize].open).collect();
+    let connection = *random.pick(&open);
     let jobs: Vec<_> = server.jobs.iter().flatten().collect();
     let names: Vec<_> = server.functions.iter().flatten().map(|known| known.name).collect();
     if names.is_empty() {
-        return Event::Packet(connection, request(4, &[]));
+        let ids: Vec<_> = server.connections.iter().map(|other| other.id).filter(|id| !id.is_empty()).collect();
+        let packet = if ids.is_empty() { request(4, &[]) } else { request(22, &[random.pick(&ids).bytes()]) };
+        return Event::Packet(connection, packet);
     }
     let name = *random.pick(&names);
     if jobs.is_empty() || random.chance(40) {
@@ -110,6 +116,11 @@ fn name(q: usize, text: &[u8]) -> (usize, Vec<u8>) {
 /// A text in the unique's place of a job.
 fn unique(p: usize, text: &[u8]) -> (usize, Vec<u8>) {
     (UNIQUE + UNIQUE_BYTES * p, place(text, UNIQUE_BYTES))
+}
+
+/// A text in the client id's place of a connection.
+fn id(c: usize, text: &[u8]) -> (usize, Vec<u8>) {
+    (IDS + ID_BYTES * c, place(text, ID_BYTES))
 }
 
 fn able(q: usize, set: u32) -> (usize, Vec<u8>) {

@@ -43,6 +43,10 @@ impl History {
                 let data = self.opaque(1_024);
                 request(16, &[&data])
             }
+            22 => {
+                let id = self.id();
+                request(22, &[&id])
+            }
             26 => {
                 const RIGHT: &[u8] = b"exceptions";
                 let options = [RIGHT, RIGHT, RIGHT, RIGHT, b"exception", b"exceptions2", b"", b"Exceptions"];
@@ -125,6 +129,31 @@ impl History {
             3 => vec![b'x'; 63],
             4 => b"reverse".to_vec(),
             _ => format!("unique-{number}").into_bytes(),
+        }
+    }
+
+    /// Mostly an id of 1 to 64 bytes, some of one byte alone, some full, some of bytes that print as `?`; connections
+    /// may share one. Some are empty, too long or hold a zero byte.
+    fn id(&mut self) -> Vec<u8> {
+        match self.random.below(16) {
+            0 => vec![],
+            1 => vec![b'i'; 65],
+            2 => {
+                let mut id = vec![b'i'; 2 + self.random.below(63)];
+                let place = self.random.below(id.len());
+                id[place] = 0;
+                id
+            }
+            3 | 4 => vec![self.random.byte().max(1)],
+            5 | 6 => vec![self.random.byte().max(1); 64],
+            7 => vec![b'i'; 63],
+            8 | 9 => {
+                let length = 1 + self.random.below(64);
+                (0..length).map(|_| self.random.byte().max(1)).collect()
+            }
+            10 => b"\x1f\x20\x21\x7e\x7f\x80\xff".to_vec(),
+            11 => self.random.pick(&[&b"-"[..], b":", b" ", b".", b"- :", b"a\nb", b"\r\n"]).to_vec(),
+            _ => format!("worker-{}", self.random.below(6)).into_bytes(),
         }
     }
 
@@ -215,7 +244,7 @@ impl History {
             }
             12 => {
                 // Some data behind a type that has none, or a zero byte where none may stand.
-                let kind = *self.random.pick(&[1, 2, 3, 4, 9, 14, 15, 26, 30]);
+                let kind = *self.random.pick(&[1, 2, 3, 4, 9, 14, 15, 22, 26, 30]);
                 packet = request(kind, &[b"exceptions\0"]);
             }
             13 => {
