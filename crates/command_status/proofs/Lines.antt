@@ -11,7 +11,7 @@ use Rattle.lists.proofs.Maps.{filter-all}
 use Rattle.server.specs.declared.JobRow.{JobRow}
 use Rattle.server.specs.Table.{Function, Table, noFunction, functionAt, rowsOf}
 use Rattle.plan.specs.Values.{valuesOf}
-use Rattle.show_names.specs.Pieces.{pieces}
+use Rattle.prints.specs.Pieces.{pieces}
 use Rattle.command.specs.Order.{inOrder}
 use Rattle.command.specs.Texts.{periodLine, shown, statusLine, statusText}
 use Rattle.command_laws.proofs.Rules.{Printable}

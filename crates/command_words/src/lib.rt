@@ -51,5 +51,5 @@ pub fn put_count(out: &mut [u8], at: usize, count: u32) -> usize
     ensures { λ r. ⌜ (r ≡ at + length (tab ++ decimal count)) × (now (out .exit) ≡ put at (tab ++ decimal count) (now (out .entry))) ⌝ }
 {
     let place = octets::put(out, at, b"\t");
-    show_names::put_number(out, place, count)
+    prints::put_number(out, place, count)
 }

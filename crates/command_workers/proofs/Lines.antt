@@ -14,7 +14,7 @@ use Rattle.server.specs.Table.{Function, Table, noFunction, functionAt, idAt}
 use Rattle.server.specs.Rules.{isOpen}
 use Rattle.plan.specs.Values.{valuesOf}
 use Rattle.plan.specs.Parts as P
-use Rattle.show_names.specs.Pieces.{pieces}
+use Rattle.prints.specs.Pieces.{pieces}
 use Rattle.command.specs.Order.{inOrder}
 use Rattle.command.specs.Texts.{functionsOf, idShown, periodLine, shown, spaced, workersLine, workersText}
 use Rattle.command_words.proofs.Chosen.{chosen-numbers, chosen-pieces}

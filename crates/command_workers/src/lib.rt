@@ -53,7 +53,7 @@ fn put_head(out: &mut [u8], at: usize, table: &[u8], c: usize) -> usize
     ensures { λ r. ⌜ (r ≡ at + length (headText (tableOf connectionCount (now (table .entry))) c))
         × (now (out .exit) ≡ put at (headText (tableOf connectionCount (now (table .entry))) c) (now (out .entry))) ⌝ }
 {
-    let address = show_names::put_number(out, at, c as u32);
+    let address = prints::put_number(out, at, c as u32);
     let id = octets::put(out, address, b" - ");
     let colon = command_words::put_id(out, id, table_texts::id_at(table, c));
     octets::put(out, colon, b" :")

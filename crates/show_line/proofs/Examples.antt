@@ -13,7 +13,7 @@ use Rattle.packet.specs.Arguments.{fits, split}
 use Rattle.packet.specs.Packet.{header, body, read}
 use Rattle.handle.specs.Handle.{decimal, decimalIn, handle, serialOf, value}
 use Rattle.show_names.specs.Names.{labelOf, labelsOf, nameOf, reasonOf}
-use Rattle.show_names.specs.Pieces.{pieces}
+use Rattle.prints.specs.Pieces.{pieces}
 use Rattle.server.specs.Sizes.{connectionCount}
 use Rattle.server.specs.Table.{Table, fresh, setJob, freshRow, unstarted, withHolder, withListeners}
 use Rattle.server.specs.Replay.{frame}

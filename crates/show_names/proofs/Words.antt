@@ -3,7 +3,7 @@ use Prim.Native.Nat.{ℕ, zero, suc, _+_, _<_, _≤_}
 use mathlib.Core.Path.{_≡_, refl, sym, ap, _∙_}
 use mathlib.Core.Bool.{Bool, true, false, cond, _&&_}
 use mathlib.Core.List.{List, [], _∷_, _++_, map}
-use native.Mathlib.Nat.{le-of-suc-le-suc, not-suc-le-zero, zero-add}
+use native.Mathlib.Nat.{le-of-suc-le-suc, not-suc-le-zero}
 use native.Mathlib.Omega.{arith}
 use borrow.Author.Tests.{le-leb, lt-leb}
 use lib.Dec.{T, eqb, eqb→eq}
@@ -11,13 +11,11 @@ use lib.ListN.{length, getD, take, replicate, List·getD-eq-default, length-appe
 use lib.Seq.{length-take-le}
 use mir.Facts.{and-yes}
 use Rattle.octets.specs.Bytes.{Bytes, same, firstZero, within}
-use Rattle.octets.specs.Put.{put}
 use Rattle.octets.proofs.Strings.{same-is}
 use Rattle.packet.specs.declared.Shape.{Shape}
 use Rattle.packet.specs.declared.Shape.the-variants.{Foreign, Empty, Function, Submission, WorkStatus, WorkData, Handle, Echo, OptionName, ClientId, Assignment, UniqueAssignment, Error, StatusAnswer}
-use Rattle.handle.specs.Handle.{decimal, decimalIn, padded}
-use Rattle.handle.proofs.Decimal.{decimal-in-most, decimal-most}
-use Rattle.handle.proofs.Printing.{put-padded, take-padded}
+use Rattle.handle.specs.Handle.{decimal, padded}
+use Rattle.handle.proofs.Decimal.{decimal-most}
 use Rattle.packet.specs.Layout.{rulesOf}
 use Rattle.packet_kinds.proofs.Shapes.{at-most-five}
 use Rattle.packet_kinds.proofs.Tests.{at-place, each}
@@ -112,18 +110,6 @@ module _ (shape : Shape) (rows : List Bytes) (i : ℕ) (e : rows ≡ labelRows s
 pub word-part : (row : Bytes) (size : ℕ) → size ≡ firstZero row → take size row ≡ word row
 unfolding word
 word-part row size e = rw e
-
--- the digits that were laid over ten zeros
-module _ (o : Bytes) (number count : ℕ) (e : o ≡ put 0 (decimalIn 10 number) (replicate 10 0)) (n : count ≡ 0 + length (decimalIn 10 number)) where
-  pub digits-part : take count o ≡ decimal number
-  unfolding decimal
-  digits-part =
-      let l : length (decimalIn 10 number) ≤ 10 = decimal-in-most 10 number in
-      rw (e, n, zero-add, put-padded 10 (decimalIn 10 number) l) (take-padded 10 (decimalIn 10 number) l)
-
-  pub digits-count : count ≡ length (take count o)
-  unfolding decimal
-  digits-count = n ∙ zero-add _ ∙ sym (ap length digits-part)
 
 -- no shape has a sixth argument
 pub no-label : (shape : Shape) (i : ℕ) → 5 ≤ i → [] ≡ labelOf shape i

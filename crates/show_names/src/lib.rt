@@ -1,6 +1,5 @@
-// The words of a line that shows a packet, laid over a lent text: the protocol's name of a type, the label of an argument, the
-// reason of a refusal, a number in decimal. Each function returns the place after what it laid. An inner crate: its callers see
-// to the room, and nothing is refused.
+// The words of a line that shows a packet, laid over a lent text: the protocol's name of a type, the label of an argument, the reason of a
+// refusal. Each function returns the place after what it laid. An inner crate: its callers see to the room, and nothing is refused.
 use packet::Shape;
 ghost use mathlib.Core.Path.{_≡_};
 ghost use Prim.Native.Nat.{_+_, _≤_};
@@ -125,7 +124,7 @@ fn put_type(out: &mut [u8], at: usize, kind: u32) -> usize
     ensures { λ r. ⌜ (r ≡ at + length (typeWord ++ decimal kind)) × (now (out .exit) ≡ put at (typeWord ++ decimal kind) (now (out .entry))) ⌝ }
 {
     let place = octets::put(out, at, b"type ");
-    put_number(out, place, kind)
+    prints::put_number(out, place, kind)
 }
 
 // Lays the protocol's name of a type; the number of one that has none.
@@ -196,14 +195,4 @@ pub fn put_label(out: &mut [u8], at: usize, shape: Shape, i: usize) -> usize
     let rows = labels(shape);
     let row = rows[i];
     put_word(out, at, &row)
-}
-
-// Lays a number in decimal, with no leading zero.
-pub fn put_number(out: &mut [u8], at: usize, number: u32) -> usize
-    requires { ⌜ at + length (decimal number) ≤ length (now out) ⌝ }
-    ensures { λ r. ⌜ (r ≡ at + length (decimal number)) × (now (out .exit) ≡ put at (decimal number) (now (out .entry))) ⌝ }
-{
-    let mut digits: [u8; 10] = [0; 10];
-    let count = handle::put_digits(&mut digits, 0, number, 10);
-    octets::put(out, at, &digits[..count])
 }

@@ -21,8 +21,8 @@ use Rattle.packet_kinds.proofs.Shapes.{at-most-five}
 use Rattle.handle.specs.Handle.{decimal}
 use Rattle.handle.proofs.Decimal.{decimal-most}
 use Rattle.show_names.specs.Names.{labelOf, nameOf, reasonOf, space}
-use Rattle.show_names.specs.Pieces.{pieces}
-use Rattle.show_names.proofs.Pieces.{more-long}
+use Rattle.prints.specs.Pieces.{pieces}
+use Rattle.prints.proofs.Pieces.{more-long}
 use Rattle.show_names.proofs.Words.{label-short, name-short, reason-short}
 use Rattle.show_packet.proofs.Seen.{length-seen}
 use Rattle.show_packet.specs.Lines.{argumentText, argumentTexts, byteWord, bytesWord, closing, fromServer, labelBefore, packetText, readText, refusalText, refusedText, requestLine, responseLine, saying, shown, sized, toServer, unreadableText, valueOf}

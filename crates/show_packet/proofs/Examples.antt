@@ -8,7 +8,7 @@ use Rattle.packet.specs.Arguments.{fits, split}
 use Rattle.packet.specs.Packet.{header, body, read}
 use Rattle.handle.specs.Handle.{decimal, decimalIn}
 use Rattle.show_names.specs.Names.{labelOf, labelsOf, nameOf, reasonOf}
-use Rattle.show_names.specs.Pieces.{pieces}
+use Rattle.prints.specs.Pieces.{pieces}
 use Rattle.show_packet.specs.Lines.{argumentText, argumentTexts, labelBefore, packetText, readText, refusalText, refusedText, requestLine, responseLine, saying, seenByte, seenBytes, shown, sized, unreadableText, valueOf}
 
 -- one name that opens all that a line uses

@@ -20,7 +20,7 @@ use Rattle.packet_laws.proofs.Packets.{Headed, header-good, read-got}
 use Rattle.packet_laws.proofs.Places.{argument-read}
 use Rattle.packet_kinds.proofs.Shapes.{at-most-five}
 use Rattle.show_names.specs.Names.{nameOf}
-use Rattle.show_names.proofs.Pieces.{same-pieces}
+use Rattle.prints.proofs.Pieces.{same-pieces}
 use Rattle.show_packet.specs.Lines.{argumentText, argumentTexts, packetText, readText, refusedText, saying}
 
 -- ---- the texts

@@ -15,7 +15,7 @@ use Rattle.packet.specs.Packet.{Direction, Reading, refused, got, read}
 use Rattle.packet_read.specs.Directions.{side}
 use Rattle.handle.specs.Handle.{decimal}
 use Rattle.show_names.specs.Names.{labelOf, nameOf, reasonOf, space}
-use Rattle.show_names.specs.Pieces.{pieces}
+use Rattle.prints.specs.Pieces.{pieces}
 
 -- ---- the fixed words
 

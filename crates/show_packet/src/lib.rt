@@ -55,7 +55,7 @@ fn put_size(out: &mut [u8], at: usize, count: usize) -> usize
     requires { ⌜ (count < 2 ^ 32) × (at + length (sized count) ≤ length (now out)) ⌝ }
     ensures { λ r. ⌜ (r ≡ at + length (sized count)) × (now (out .exit) ≡ put at (sized count) (now (out .entry))) ⌝ }
 {
-    let place = show_names::put_number(out, at, count as u32);
+    let place = prints::put_number(out, at, count as u32);
     if count == 1 {
         return octets::put(out, place, b" byte");
     }
@@ -133,7 +133,7 @@ pub fn put_refusal(out: &mut [u8], at: usize, number: u8) -> usize
     ensures { λ r. ⌜ (r ≡ at + length (refusalText number)) × (now (out .exit) ≡ put at (refusalText number) (now (out .entry))) ⌝ }
 {
     let digits = octets::put(out, at, b"refused ");
-    let space = show_names::put_number(out, digits, number as u32);
+    let space = prints::put_number(out, digits, number as u32);
     let reason = octets::put(out, space, b" ");
     show_names::put_reason(out, reason, number)
 }
@@ -177,7 +177,7 @@ fn put_line(out: &mut [u8], at: usize, connection: u8, packet: &[u8], request: b
     requires { ⌜ (at + length (sideLine request connection (now packet)) ≤ length (now out)) ⌝ }
     ensures { λ r. ⌜ (r ≡ at + length (sideLine request connection (now (packet .entry)))) × (now (out .exit) ≡ put at (sideLine request connection (now (packet .entry))) (now (out .entry))) ⌝ }
 {
-    let arrow = show_names::put_number(out, at, connection as u32);
+    let arrow = prints::put_number(out, at, connection as u32);
     let place = put_arrow(out, arrow, request);
     let read = packet_read::read_side(packet, request);
     match read {

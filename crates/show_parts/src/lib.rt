@@ -69,7 +69,7 @@ fn put_deed(text: &mut [u8], at: usize, connection: u8, word: &[u8]) -> usize
     ensures { λ r. ⌜ (r ≡ at + length (below ++ (decimal connection ++ now (word .entry)))) × (now (text .exit) ≡ put at (below ++ (decimal connection ++ now (word .entry))) (now (text .entry))) ⌝ }
 {
     let digits = octets::put(text, at, b"\n    ");
-    let end = show_names::put_number(text, digits, connection as u32);
+    let end = prints::put_number(text, digits, connection as u32);
     octets::put(text, end, word)
 }
 
@@ -104,7 +104,7 @@ pub fn put_heading(text: &mut [u8], number: u32, frame: Frame, bytes: &[u8; FRAM
     ensures { λ r. ⌜ (r ≡ 0 + length (headingText number (eventOf frame (now (bytes .entry))))) × (now (text .exit) ≡ put 0 (headingText number (eventOf frame (now (bytes .entry)))) (now (text .entry))) ⌝ }
 {
     let digits = octets::put(text, 0, b"line ");
-    let seen = show_names::put_number(text, digits, number);
+    let seen = prints::put_number(text, digits, number);
     let event = put_seen(text, seen, frame, bytes);
     put_event(text, event, frame, bytes)
 }

@@ -19,7 +19,7 @@ use Rattle.server.specs.Sizes.{connectionCount, jobCount}
 use Rattle.server.specs.Table.{live, noRow}
 use Rattle.plan.specs.Values.{serialRow}
 use Rattle.show_names.specs.Names.{space}
-use Rattle.show_names.proofs.Pieces.{pieces-short}
+use Rattle.prints.proofs.Pieces.{pieces-short}
 use Rattle.show_table.specs.Standing.{absentText, backgroundWord, connectionsText, each, foundText, goneOne, goneText, handleLine, highWord, holderText, holderWord, jobText, jobWord, jobsText, listenersWord, lowWord, marksText, noJobWord, orNone, serialText, sleepersText, unfoundText, connectionsRoom, sleepersRoom, jobRoom, jobsRoom, goneRoom}
 use Rattle.show_table.proofs.Connections.{shown, sleeps}
 use Rattle.show_table.proofs.Jobs.{gone, unfinished}

@@ -10,7 +10,7 @@ use Rattle.server.specs.declared.JobRow.{JobRow}
 use Rattle.server.specs.Sizes.{connectionCount}
 use Rattle.server.specs.Table.{closed, noRow, freshRow, inBackground, withHolder, withListeners}
 use Rattle.plan.specs.Values.{serialRow}
-use Rattle.show_names.specs.Pieces.{pieces}
+use Rattle.prints.specs.Pieces.{pieces}
 use Rattle.show_table.specs.Standing.{absentText, connectionsText, each, foundText, goneOne, goneText, handleLine, holderText, jobText, marksText, orNone, serialText, sleepersText, unfoundText}
 
 -- one name that opens all that a line uses

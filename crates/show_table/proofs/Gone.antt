@@ -16,7 +16,7 @@ use Rattle.server.specs.declared.JobRow.{JobRow}
 use Rattle.server.specs.Sizes.{jobCount}
 use Rattle.server.specs.Table.{live, noRow}
 use Rattle.plan.specs.Values.{serialRow}
-use Rattle.show_names.specs.Pieces.{pieces}
+use Rattle.prints.specs.Pieces.{pieces}
 use Rattle.show_table.specs.Standing.{absentText, goneOne, goneText, unfoundText}
 use Rattle.show_table.proofs.Jobs.{gone}
 

@@ -15,7 +15,7 @@ use Rattle.server.specs.Sizes.{connectionCount, jobCount}
 use Rattle.server.specs.Table.{closed, live, noRow}
 use Rattle.plan.specs.Values.{serialRow}
 use Rattle.show_names.specs.Names.{space}
-use Rattle.show_names.specs.Pieces.{pieces}
+use Rattle.prints.specs.Pieces.{pieces}
 
 -- ---- the fixed words
 

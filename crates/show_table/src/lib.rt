@@ -46,7 +46,7 @@ fn put_one(out: &mut [u8], at: usize, shown: bool, c: usize) -> usize
 {
     if shown {
         let place = octets::put(out, at, b" ");
-        return show_names::put_number(out, place, c as u32);
+        return prints::put_number(out, place, c as u32);
     }
     at
 }
@@ -131,7 +131,7 @@ fn put_holder(out: &mut [u8], at: usize, holder: u16) -> usize
         return octets::put(out, at, b" holder none");
     }
     let place = octets::put(out, at, b" holder ");
-    show_names::put_number(out, place, (holder - 1) as u32)
+    prints::put_number(out, place, (holder - 1) as u32)
 }
 
 // Lays a row's listeners.

@@ -9,7 +9,7 @@ use Rattle.octets.proofs.Runs.{laid-as, room-as}
 use Rattle.server.specs.Sizes.{connectionCount}
 use Rattle.server.specs.Layout.{tableOf}
 use Rattle.table_passes.proofs.Rows.{connections-length}
-use Rattle.show_names.proofs.Pieces.{Laid, end, start, turn, turn-room}
+use Rattle.prints.proofs.Pieces.{Laid, end, start, turn, turn-room}
 use Rattle.command_order.specs.Listing.{listed}
 use Rattle.command_workers.specs.Parts.{openText}
 use Rattle.command_workers.proofs.Lines.{lines-are}

@@ -8,7 +8,7 @@ use lib.ListN.{length}
 use Rattle.octets.proofs.Runs.{laid-as, room-as}
 use Rattle.server.specs.Sizes.{connectionCount, functionCount}
 use Rattle.server.specs.Layout.{tableOf}
-use Rattle.show_names.proofs.Pieces.{Laid, end, start, turn, turn-room}
+use Rattle.prints.proofs.Pieces.{Laid, end, start, turn, turn-room}
 use Rattle.command_workers.proofs.Lines.{nameFor, names-are}
 use borrow.Author.Needs.{needs}
 use Rattle.command_workers.proofs.put_names.Statement.{statement}

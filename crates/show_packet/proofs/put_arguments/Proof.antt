@@ -10,7 +10,7 @@ use Rattle.packet.specs.declared.Ends.{Ends}
 use Rattle.packet.specs.declared.Shape.{Shape}
 use Rattle.packet.specs.Layout.{rulesOf}
 use Rattle.packet.specs.Answers.{argumentAt}
-use Rattle.show_names.proofs.Pieces.{Laid, end, start, turn, turn-room}
+use Rattle.prints.proofs.Pieces.{Laid, end, start, turn, turn-room}
 use Rattle.show_packet.specs.Lines.{argumentText, argumentTexts}
 use Rattle.show_packet.proofs.Arguments.{argument-short}
 use borrow.Author.Needs.{needs}

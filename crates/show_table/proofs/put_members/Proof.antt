@@ -10,7 +10,7 @@ use lib.ListN.{length}
 use Rattle.sets.specs.Sets.{has}
 use Rattle.handle.specs.Handle.{decimal}
 use Rattle.show_names.specs.Names.{space}
-use Rattle.show_names.proofs.Pieces.{Laid, end, start, turn, turn-room}
+use Rattle.prints.proofs.Pieces.{Laid, end, start, turn, turn-room}
 use Rattle.show_table.specs.Standing.{each}
 use Rattle.show_table.proofs.Connections.{shown}
 use borrow.Author.Needs.{needs}

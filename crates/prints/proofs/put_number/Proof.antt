@@ -1,9 +1,9 @@
--- `show_names::put_number` meets its contract: the digits that were laid over ten zeros are the front of them. Assumes nothing.
+-- `prints::put_number` meets its contract: the digits that were laid over ten zeros are the front of them. Assumes nothing.
 use Rattle.octets.proofs.Runs.{laid-as, room-as}
-use Rattle.show_names.proofs.Words.{digits-count, digits-part}
+use Rattle.prints.proofs.Digits.{digits-count, digits-part}
 use borrow.Author.Needs.{needs}
-use Rattle.show_names.proofs.put_number.Statement.{statement}
-use Rattle.show_names.proofs.put_number.Tie as tie
+use Rattle.prints.proofs.put_number.Statement.{statement}
+use Rattle.prints.proofs.put_number.Tie as tie
 
 slice-aggregate-put-digits : tie.Need-slice-aggregate-put-digits
 slice-aggregate-put-digits c = search needs
