@@ -7,11 +7,12 @@ use mathlib.Core.List.{List, [], _∷_}
 use lib.ListN.{replicate}
 use Rattle.octets.specs.Bytes.{Bytes, every, firstZero, same, text}
 use Rattle.handle.specs.Handle.{decimal, decimalIn}
+use Rattle.prints.specs.Printed.{printed, printedOr}
 use Rattle.sets.specs.Sets.{has, members}
 use Rattle.server.specs.Table.{Function, Job, Table, closed, noFunction, noJob, justOpened, freshRow, inBackground, withHolder, withListeners, unstarted}
 use Rattle.server.specs.Rules.{obeys}
 use Rattle.command.specs.Order.{before, inOrder, placed, rising}
-use Rattle.command.specs.Texts.{ableOf, functionsOf, heldOf, idShown, jobsOf, says, shown, statusLine, statusText, textFor, workersLine, workersText}
+use Rattle.command.specs.Texts.{ableOf, functionsOf, heldOf, jobsOf, says, statusLine, statusText, textFor, workersLine, workersText}
 
 -- ---- lines that are no command, whatever the table
 
@@ -94,7 +95,7 @@ edge =
 
 -- one name that opens all that an answer uses
 unfoldable compute : Table → Bytes → Bytes
-unfolding textFor says same statusText statusLine jobsOf heldOf ableOf members has workersText workersLine functionsOf idShown inOrder rising placed before shown decimal decimalIn
+unfolding textFor says same statusText statusLine jobsOf heldOf ableOf members has workersText workersLine functionsOf printedOr inOrder rising placed before printed decimal decimalIn
 compute t line = textFor line t
 
 edge-obeys : obeys edge ≡ true

@@ -4,8 +4,9 @@ use mathlib.Core.Bool.{Bool, not, cond, _&&_, _||_}
 use mathlib.Core.List.{List, [], _∷_, _++_, map}
 use lib.ListN.{length}
 use lib.Dec.{eqb}
-use Rattle.octets.specs.Bytes.{Bytes, same, within, text}
+use Rattle.octets.specs.Bytes.{Bytes, same, text}
 use Rattle.handle.specs.Handle.{decimal}
+use Rattle.prints.specs.Printed.{printed, printedOr}
 use Rattle.sets.specs.Sets.{has, members}
 use Rattle.lists.specs.Lists.{filter, numbers, concat}
 use Rattle.server.specs.declared.JobRow.{JobRow}
@@ -26,13 +27,6 @@ lineFeed = 10 ∷ []
 abbrev pub periodLine : Bytes
 periodLine = text "." ++ lineFeed
 
--- 02: "In names and ids a byte outside 33 to 126 prints as `?`."
-abbrev pub shownByte : ℕ → ℕ
-shownByte x = cond (within 33 126 x) x 63
-
-unfoldable pub shown : Bytes → Bytes
-shown s = map shownByte s
-
 -- ---- status
 
 -- the unfinished jobs of the function at place q, and those of them that are held
@@ -52,7 +46,7 @@ ableOf t q = length (members (length (t .connections)) (functionAt t q .able))
 -- 02: "name, unfinished jobs (queued and held together), held jobs, and the number of connections able to do it, with tabs"
 unfoldable pub statusLine : Table → ℕ → Bytes
 statusLine t q =
-    shown (functionAt t q .name) ++ (tab ++ (decimal (jobsOf t q) ++ (tab ++ (decimal (heldOf t q) ++ (tab ++ (decimal (ableOf t q) ++ lineFeed))))))
+    printed (functionAt t q .name) ++ (tab ++ (decimal (jobsOf t q) ++ (tab ++ (decimal (heldOf t q) ++ (tab ++ (decimal (ableOf t q) ++ lineFeed))))))
 
 -- 02: "`status` gives a line a known function in rising byte order of name [..]; then a line with a period"
 unfoldable pub statusText : Table → Bytes
@@ -66,10 +60,6 @@ spaced [] = []
 spaced (w ∷ []) = w
 spaced (w ∷ (v ∷ vs)) = w ++ (32 ∷ spaced (v ∷ vs))
 
--- 02: "client id or `-`"
-unfoldable pub idShown : Bytes → Bytes
-idShown i = cond (same i []) (text "-") (shown i)
-
 -- the functions that connection c is able to do, "in byte order"
 unfoldable pub functionsOf : Table → ℕ → List ℕ
 functionsOf t c = filter (λ q. has (functionAt t q .able) c) (inOrder (t .functions))
@@ -77,7 +67,7 @@ functionsOf t c = filter (λ q. has (functionAt t q .able) c) (inOrder (t .funct
 -- 02: "its number, `-` for the address, client id or `-`, a colon and its functions in byte order, one space between each two"
 unfoldable pub workersLine : Table → ℕ → Bytes
 workersLine t c =
-    spaced (decimal c ∷ text "-" ∷ idShown (idAt t c) ∷ text ":" ∷ map (λ q. shown (functionAt t q .name)) (functionsOf t c)) ++ lineFeed
+    spaced (decimal c ∷ text "-" ∷ printedOr (text "-") (idAt t c) ∷ text ":" ∷ map (λ q. printed (functionAt t q .name)) (functionsOf t c)) ++ lineFeed
 
 -- 02: "`workers` prints for each open connection, rising: [..]; then a period line"
 unfoldable pub workersText : Table → Bytes

@@ -6,8 +6,10 @@ use mathlib.Core.Bool.{Bool, true, false, not, cond, _||_}
 use mathlib.Core.List.{List, [], _∷_, map}
 use native.Mathlib.Omega.{arith}
 use lib.ListN.{length, length-append}
-use Rattle.octets.specs.Bytes.{Bytes, same, text}
+use Rattle.octets.specs.Bytes.{Bytes, text}
 use Rattle.handle.proofs.Decimal.{decimal-most}
+use Rattle.prints.specs.Printed.{printed, printedOr}
+use Rattle.prints.proofs.Printed.{length-printed}
 use Rattle.sets.specs.Sets.{has}
 use Rattle.lists.specs.Lists.{filter, numbers, concat}
 use Rattle.lists.proofs.Cases.{cond-both}
@@ -20,10 +22,9 @@ use Rattle.server.specs.Layout.{tableOf, connectionIn, functionIn}
 use Rattle.server.specs.Call.{tooShort, isSound, refusedBy}
 use Rattle.table_laws.proofs.Columns.{length-places}
 use Rattle.command.specs.Order.{inOrder}
-use Rattle.command.specs.Texts.{ableOf, functionsOf, heldOf, idShown, jobsOf, says, shown, spaced, statusLine, statusText, textFor, workersLine, workersText}
+use Rattle.command.specs.Texts.{ableOf, functionsOf, heldOf, jobsOf, says, spaced, statusLine, statusText, textFor, workersLine, workersText}
 use Rattle.command.specs.Say.{told, say}
 use Rattle.command_laws.proofs.Rising.{listed-all}
-use Rattle.command_laws.proofs.Shown.{length-shown}
 use Rattle.command_laws.proofs.Rules.{Printable, sound-prints, id-short, name-short}
 
 -- ---- lists
@@ -52,17 +53,21 @@ abbrev workersRoom : ℕ
 workersRoom = idSize + suc nameSize * functionCount + 16
 
 module _ (t : Table) (p : Printable t) where
-  name-shown : (q : ℕ) → length (shown (functionAt t q .name)) ≤ nameSize
-  name-shown q = rw length-shown (name-short t p q)
+  name-printed : (q : ℕ) → length (printed (functionAt t q .name)) ≤ nameSize
+  name-printed q = rw length-printed (name-short t p q)
 
-  id-shown : (c : ℕ) → length (idShown (idAt t c)) ≤ idSize
-  unfolding idShown
-  id-shown c = cond-both (λ (s : Bytes). length s ≤ idSize) (same (idAt t c) []) (omega arith) (rw length-shown (id-short t p c))
+  id-printed : (c : ℕ) → length (printedOr (text "-") (idAt t c)) ≤ idSize
+  unfolding printedOr
+  id-printed c = go (idAt t c) (id-short t p c)
+    where
+      go : (i : Bytes) → length i ≤ idSize → length (printedOr (text "-") i) ≤ idSize
+      go [] h = omega arith
+      go (x ∷ i) h = rw length-printed h
 
   status-line-short : (q : ℕ) → length (statusLine t q) ≤ statusRoom
   unfolding statusLine
   status-line-short q =
-      simp length-append (omega (arith, name-shown q, decimal-most (jobsOf t q), decimal-most (heldOf t q), decimal-most (ableOf t q)))
+      simp length-append (omega (arith, name-printed q, decimal-most (jobsOf t q), decimal-most (heldOf t q), decimal-most (ableOf t q)))
 
   module _ (few : length (t .functions) ≡ functionCount) where
     listed-few : length (inOrder (t .functions)) ≤ functionCount
@@ -78,9 +83,9 @@ module _ (t : Table) (p : Printable t) where
         simp length-append (omega (
           arith,
           decimal-most c,
-          id-shown c,
+          id-printed c,
           functions-few c,
-          spaced-short (λ q. shown (functionAt t q .name)) nameSize name-shown (text ":") (functionsOf t c),
+          spaced-short (λ q. printed (functionAt t q .name)) nameSize name-printed (text ":") (functionsOf t c),
         ))
 
     status-short : length (statusText t) ≤ statusRoom * functionCount + 2

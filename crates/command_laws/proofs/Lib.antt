@@ -1,8 +1,8 @@
 pub mod Before
 pub mod Rising
-pub mod Shown
 pub mod Rules
 pub mod Counts
 pub mod Bounds
+pub mod Readable
 pub mod Lines
 pub mod Once

@@ -12,11 +12,12 @@ use Rattle.server.specs.declared.JobRow.{JobRow}
 use Rattle.server.specs.Table.{Function, Table, noFunction, functionAt, rowsOf}
 use Rattle.plan.specs.Values.{valuesOf}
 use Rattle.prints.specs.Pieces.{pieces}
+use Rattle.prints.specs.Printed.{printed}
+use Rattle.prints.proofs.Chosen.{chosen-pieces}
 use Rattle.command.specs.Order.{inOrder}
-use Rattle.command.specs.Texts.{periodLine, shown, statusLine, statusText}
+use Rattle.command.specs.Texts.{periodLine, statusLine, statusText}
 use Rattle.command_laws.proofs.Rules.{Printable}
 use Rattle.command_laws.proofs.Counts.{able-counted}
-use Rattle.command_words.proofs.Chosen.{chosen-pieces}
 use Rattle.command_status.specs.Counts.{counted, countsText}
 use Rattle.command_status.proofs.Counting.{held-found, jobs-found}
 
@@ -24,7 +25,7 @@ use Rattle.command_status.proofs.Counting.{held-found, jobs-found}
 module _ (t : Table) (p : Printable t) (q : ℕ) where
   pub line-is : (rows : List JobRow) (name : Bytes) (jobs held able : ℕ) → rows ≡ rowsOf t → name ≡ functionAt t q .name
       → jobs ≡ length (filter (counted false q) rows) → held ≡ length (filter (counted true q) rows) → able ≡ getD (valuesOf t .able) q 0
-      → shown name ++ countsText jobs held (ones able) ≡ statusLine t q
+      → printed name ++ countsText jobs held (ones able) ≡ statusLine t q
   unfolding statusLine countsText valuesOf
   line-is rows name jobs held able er en ej eh ea =
       let s : able ≡ functionAt t q .able = ea ∙ List·getD-map (λ (x : Function). x .able) (t .functions) q noFunction in

@@ -5,15 +5,16 @@ use server::JOBS;
 use server::JobRow;
 ghost use mathlib.Core.Path.{_≡_};
 ghost use mathlib.Core.Bool.{cond, true};
-ghost use mathlib.Core.List.{map};
+ghost use mathlib.Core.List.{_++_, map};
 ghost use Prim.Native.Nat.{_+_, _≤_};
 ghost use lib.ListN.{length};
 ghost use Rattle.octets.specs.Put.{put};
+ghost use Rattle.handle.specs.Handle.{decimal};
 ghost use Rattle.lists.specs.Lists.{concat, filter};
 ghost use Rattle.server.specs.Sizes.{connectionCount, functionCount};
 ghost use Rattle.server.specs.Layout.{tableOf, tableSize};
 ghost use Rattle.server.specs.Call.{isSound};
-ghost use Rattle.command.specs.Texts.{statusLine, statusText};
+ghost use Rattle.command.specs.Texts.{statusLine, statusText, tab};
 ghost use Rattle.command_order.specs.Listing.{listed};
 ghost use Rattle.command_status.specs.Counts.{counted, countsText};
 
@@ -51,14 +52,23 @@ fn count_jobs(rows: [JobRow; JOBS], q: usize, held: bool) -> u32
 
 // ---- lines
 
+// Lays a count after a tab.
+fn put_count(out: &mut [u8], at: usize, count: u32) -> usize
+    requires { ⌜ at + length (tab ++ decimal count) ≤ length (now out) ⌝ }
+    ensures { λ r. ⌜ (r ≡ at + length (tab ++ decimal count)) × (now (out .exit) ≡ put at (tab ++ decimal count) (now (out .entry))) ⌝ }
+{
+    let place = octets::put(out, at, b"\t");
+    prints::put_number(out, place, count)
+}
+
 // Lays three counts, each after a tab, and a line feed.
 fn put_counts(out: &mut [u8], at: usize, jobs: u32, held: u32, able: u32) -> usize
     requires { ⌜ at + length (countsText jobs held able) ≤ length (now out) ⌝ }
     ensures { λ r. ⌜ (r ≡ at + length (countsText jobs held able)) × (now (out .exit) ≡ put at (countsText jobs held able) (now (out .entry))) ⌝ }
 {
-    let second = command_words::put_count(out, at, jobs);
-    let third = command_words::put_count(out, second, held);
-    let end = command_words::put_count(out, third, able);
+    let second = put_count(out, at, jobs);
+    let third = put_count(out, second, held);
+    let end = put_count(out, third, able);
     octets::put(out, end, b"\n")
 }
 
@@ -73,7 +83,7 @@ fn put_line(out: &mut [u8], at: usize, table: &[u8], q: usize) -> usize
     let jobs = count_jobs(rows, q, false);
     let held = count_jobs(rows, q, true);
     let able = u32::count_ones(table_rows::able_at(table, q));
-    let place = command_words::put_shown(out, at, command_order::name_at(table, q));
+    let place = prints::put_printed(out, at, command_order::name_at(table, q));
     put_counts(out, place, jobs, held, able)
 }
 

@@ -15,9 +15,10 @@ use Rattle.server.specs.Rules.{isOpen}
 use Rattle.plan.specs.Values.{valuesOf}
 use Rattle.plan.specs.Parts as P
 use Rattle.prints.specs.Pieces.{pieces}
+use Rattle.prints.specs.Printed.{printed, printedOr}
+use Rattle.prints.proofs.Chosen.{chosen-numbers, chosen-pieces}
 use Rattle.command.specs.Order.{inOrder}
-use Rattle.command.specs.Texts.{functionsOf, idShown, periodLine, shown, spaced, workersLine, workersText}
-use Rattle.command_words.proofs.Chosen.{chosen-numbers, chosen-pieces}
+use Rattle.command.specs.Texts.{functionsOf, periodLine, spaced, workersLine, workersText}
 use Rattle.command_workers.specs.Parts.{headText, isAble, lineText, linesText, nameText, namesText, openText, spacedName}
 
 -- ---- one name, by what the code asks
@@ -27,7 +28,7 @@ module _ (t : Table) (c q s : ℕ) (b : Bool) (es : s ≡ getD (valuesOf t .able
   unfolding valuesOf
   able-is = eb ∙ ap (λ (k : ℕ). has k c) (es ∙ List·getD-map (λ (x : Function). x .able) (t .functions) q noFunction)
 
-  pub name-is : (name : Bytes) → name ≡ functionAt t q .name → b ≡ true → text " " ++ shown name ≡ nameText t c q
+  pub name-is : (name : Bytes) → name ≡ functionAt t q .name → b ≡ true → text " " ++ printed name ≡ nameText t c q
   name-is name e h = rw (← able-is, h, e)
 
   pub name-none : b ≡ false → [] ≡ nameText t c q
@@ -44,7 +45,7 @@ names-are t c places count h = chosen-pieces (isAble t c) (spacedName t) places 
 
 -- ---- a line
 
-pub head-is : (t : Table) (c : ℕ) (i : Bytes) → i ≡ idAt t c → decimal c ++ (text " - " ++ (idShown i ++ text " :")) ≡ headText t c
+pub head-is : (t : Table) (c : ℕ) (i : Bytes) → i ≡ idAt t c → decimal c ++ (text " - " ++ (printedOr (text "-") i ++ text " :")) ≡ headText t c
 unfolding headText
 head-is t c i e = rw e
 
@@ -55,7 +56,7 @@ spaced-is g w (x ∷ l) = ap (λ (s : Bytes). w ++ (32 ∷ s)) (spaced-is g (g x
 line-is : (t : Table) (c : ℕ) → lineText t (inOrder (t .functions)) c ≡ workersLine t c
 unfolding lineText headText namesText workersLine functionsOf
 line-is t c =
-    rw (spaced-is (λ q. shown (functionAt t q .name)) (text ":") (filter (isAble t c) (inOrder (t .functions)))) (simp append-assoc)
+    rw (spaced-is (λ q. printed (functionAt t q .name)) (text ":") (filter (isAble t c) (inOrder (t .functions)))) (simp append-assoc)
 
 -- ---- all lines
 

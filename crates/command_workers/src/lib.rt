@@ -23,7 +23,7 @@ fn put_name(out: &mut [u8], at: usize, table: &[u8], c: usize, q: usize) -> usiz
 {
     if sets::has(table_rows::able_at(table, q), c) {
         let place = octets::put(out, at, b" ");
-        return command_words::put_shown(out, place, command_order::name_at(table, q));
+        return prints::put_printed(out, place, command_order::name_at(table, q));
     }
     at
 }
@@ -55,7 +55,7 @@ fn put_head(out: &mut [u8], at: usize, table: &[u8], c: usize) -> usize
 {
     let address = prints::put_number(out, at, c as u32);
     let id = octets::put(out, address, b" - ");
-    let colon = command_words::put_id(out, id, table_texts::id_at(table, c));
+    let colon = prints::put_printed_or(out, id, b"-", table_texts::id_at(table, c));
     octets::put(out, colon, b" :")
 }
 

@@ -1,13 +1,15 @@
--- The text entry on lent bytes: what it answers to any line, when it refuses, and that no opaque byte can show in a text. Assumes nothing.
+-- The text entry on lent bytes: what it answers to any line, that a terminal can show it, when it refuses, and that no opaque byte can show
+-- in a text. Assumes nothing.
 use Prim.Native.Nat.{ℕ, _≤_}
 use mathlib.Core.Path.{_≡_, refl, ap, ap₂, sym, _∙_}
 use mathlib.Core.Bool.{Bool, true, false, not, cond, _||_}
 use mathlib.Core.List.{List, _∷_, _++_}
 use native.Mathlib.Omega.{arith}
 use borrow.Author.Tests.{le-ltb, ltb-false, not-false}
-use lib.ListN.{length, drop}
+use lib.ListN.{length, take, drop}
 use lib.Dec.{ltb}
-use Rattle.octets.specs.Bytes.{Bytes}
+use lib.Seq.{take-append-seam}
+use Rattle.octets.specs.Bytes.{Bytes, every}
 use Rattle.octets.specs.Put.{put}
 use Rattle.octets.proofs.Strings.{and-right}
 use Rattle.octets.proofs.Laying.{put-start}
@@ -25,6 +27,7 @@ use Rattle.server_calls.specs.History.{Call, Memory, events}
 use Rattle.server_calls.proofs.Histories.{LongOutputs}
 use Rattle.server_blind.proofs.Blind.{tables-from}
 use Rattle.server_blind.proofs.Calls.{AlikeEvents, events-alike}
+use Rattle.prints.specs.Printed.{isReadable}
 use Rattle.command.specs.Order.{inOrder}
 use Rattle.command.specs.Texts.{textFor}
 use Rattle.command.specs.Say.{told, say}
@@ -32,6 +35,7 @@ use Rattle.command_laws.proofs.Rising.{listed-known, listed-once, listed-rises}
 use Rattle.command_laws.proofs.Rules.{sound-prints}
 use Rattle.command_laws.proofs.Counts.{jobs-counted, able-counted}
 use Rattle.command_laws.proofs.Bounds.{text-room}
+use Rattle.command_laws.proofs.Readable.{text-readable}
 use Rattle.demands.specs.Hub.{Hub, afterCalls, tableIn, serverOf}
 use Rattle.demands.specs.Conditions.{first, badMemory, lineConditions}
 use Rattle.demands.specs.Commands.{Said, tells, silent, Listed, Counted, SameText}
@@ -65,6 +69,18 @@ module _ (n c : ℕ) (line t w o : Bytes) where
       by false e false z = silent (omega arith) (omega arith) refl
       by false e true false = silent (omega arith) (omega arith) refl
       by false e true true = tells (fits e) (ap (λ (b : Bytes). left 0 (length (c ∷ said)) b t w) (put-start (c ∷ said) o (fits e)))
+
+  -- what is told is the text of the line, behind the connection's byte; a refusal tells nothing
+  pub say-readable : every isReadable (drop 1 (take (say n c line t w o .length′) (say n c line t w o .output))) ≡ true
+  unfolding every
+  say-readable = by (say n c line t w o) say-said
+    where
+      by : (r : Result) → Said c said t w o r → every isReadable (drop 1 (take (r .length′) (r .output))) ≡ true
+      by r (tells h e) =
+          ap (λ (q : Result). every isReadable (drop 1 (take (q .length′) (q .output)))) e
+          ∙ ap (λ (b : Bytes). every isReadable (drop 1 b)) (take-append-seam (c ∷ said) (drop (length (c ∷ said)) o))
+          ∙ text-readable line (tableOf n t)
+      by r (silent l m e) = ap (λ (q : Result). every isReadable (drop 1 (take (q .length′) (q .output)))) e
 
   pub say-number : say n c line t w o .number ≡ first (lineConditions n c t w o)
   unfolding say told refusedBy first lineConditions

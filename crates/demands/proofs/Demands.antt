@@ -4,7 +4,8 @@ use Prim.Native.Nat.{ℕ}
 use mathlib.Core.Path.{_≡_}
 use mathlib.Core.Bool.{true, false, _||_, _&&_}
 use mathlib.Core.List.{List}
-use Rattle.octets.specs.Bytes.{Bytes, every, within}
+use lib.ListN.{take, drop}
+use Rattle.octets.specs.Bytes.{Bytes, every}
 use Rattle.packet.specs.Packet.{read, requests}
 use Rattle.server.specs.Requests.{Event, sends, fromReading, requestIn}
 use Rattle.server.specs.Server.{Server, start}
@@ -17,10 +18,10 @@ use Rattle.server_blind.proofs.Alike.{Alike}
 use Rattle.server_blind.proofs.Outputs.{Both}
 use Rattle.server_blind.proofs.Calls.{AlikeEvents}
 use Rattle.server_blind.proofs.LoneCalls.{SameEvents}
+use Rattle.prints.specs.Printed.{isReadable}
 use Rattle.command.specs.Order.{inOrder}
-use Rattle.command.specs.Texts.{shown, textFor}
+use Rattle.command.specs.Texts.{textFor}
 use Rattle.command.specs.Say.{say}
-use Rattle.command_laws.proofs.Shown.{shown-readable}
 use Rattle.demands.specs.Messages.{told, argumentsOf}
 use Rattle.demands.specs.Answered.{Answered}
 use Rattle.demands.specs.Conditions.{first, conditions, lineConditions, typeOf}
@@ -40,7 +41,7 @@ use Rattle.demands.proofs.Results.{calls-heard, call-tells-each, fresh-
 use Rattle.demands.proofs.Unmasked.{request-read}
 use Rattle.demands.proofs.Agreeing.{histories-agree}
 use Rattle.demands.proofs.OneChanged.{one-changed}
-use Rattle.demands.proofs.Commands.{say-said, say-number, hub-lists, hub-counts, texts-alike}
+use Rattle.demands.proofs.Commands.{say-said, say-readable, say-number, hub-lists, hub-counts, texts-alike}
 
 -- ---- the memory
 
@@ -159,9 +160,10 @@ text-lists = hub-lists
 pub text-counts : (n : ℕ) (m : Memory) → Hub n m → (q : ℕ) → Counted (tableIn n m) q
 text-counts = hub-counts
 
--- every byte that is printed of a name or an id is 33 to 126
-pub text-readable : (s : Bytes) → every (within 33 126) (shown s) ≡ true
-text-readable = shown-readable
+-- every byte of a text, behind the connection's byte, is 32 to 126, a tab or a line feed, whatever the lent bytes hold: a terminal shows it or
+-- lays it out. What is printed of a name or an id is 33 to 126 (`prints/Printed: printed-readable`)
+pub text-readable : (n c : ℕ) (line t w o : Bytes) → every isReadable (drop 1 (take (say n c line t w o .length′) (say n c line t w o .output))) ≡ true
+text-readable = say-readable
 
 -- "No text depends on an opaque byte": after two histories whose events differ in opaque bytes alone, on memories whose tables are equal, every
 -- line is answered by the same number and the same text

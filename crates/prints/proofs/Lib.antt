@@ -1,2 +1,5 @@
 pub mod Pieces
+pub mod Chosen
 pub mod Digits
+pub mod Printed
+pub mod Laying

@@ -23,16 +23,12 @@ use Rattle.handle.proofs.Decimal.{decimal-most}
 use Rattle.show_names.specs.Names.{labelOf, nameOf, reasonOf, space}
 use Rattle.prints.specs.Pieces.{pieces}
 use Rattle.prints.proofs.Pieces.{more-long}
+use Rattle.prints.specs.Printed.{printedOr}
+use Rattle.prints.proofs.Printed.{printed-or-short}
 use Rattle.show_names.proofs.Words.{label-short, name-short, reason-short}
-use Rattle.show_packet.proofs.Seen.{length-seen}
-use Rattle.show_packet.specs.Lines.{argumentText, argumentTexts, byteWord, bytesWord, closing, fromServer, labelBefore, packetText, readText, refusalText, refusedText, requestLine, responseLine, saying, shown, sized, toServer, unreadableText, valueOf}
+use Rattle.show_packet.specs.Lines.{argumentText, argumentTexts, byteWord, bytesWord, closing, fromServer, labelBefore, packetText, quotes, readText, refusalText, refusedText, requestLine, responseLine, saying, sized, toServer, unreadableText, valueOf}
 
 -- ---- one argument
-
-shown-short : (a : Bytes) → length (shown a) ≤ length a + 2
-unfolding shown
-shown-short [] = omega arith
-shown-short (x ∷ a) = omega (arith, length-seen (x ∷ a))
 
 size-short : (n : ℕ) → length (sized n) ≤ 16
 unfolding sized
@@ -46,9 +42,9 @@ value-short : (rule : Rule) (a : Bytes) → length (valueOf rule a) ≤ length a
 unfolding valueOf
 value-short rule a = either (isOpaque rule)
   where
-    either : (b : Bool) → length (cond b (sized (length a)) (shown a)) ≤ length a + 16
+    either : (b : Bool) → length (cond b (sized (length a)) (printedOr quotes a)) ≤ length a + 16
     either true = omega (arith, size-short (length a))
-    either false = omega (arith, shown-short a)
+    either false = omega (arith, printed-or-short quotes a)
 
 label-before-short : (shape : Shape) (i : ℕ) → length (labelBefore shape i) ≤ 12
 unfolding labelBefore

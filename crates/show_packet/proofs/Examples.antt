@@ -9,11 +9,12 @@ use Rattle.packet.specs.Packet.{header, body, read}
 use Rattle.handle.specs.Handle.{decimal, decimalIn}
 use Rattle.show_names.specs.Names.{labelOf, labelsOf, nameOf, reasonOf}
 use Rattle.prints.specs.Pieces.{pieces}
-use Rattle.show_packet.specs.Lines.{argumentText, argumentTexts, labelBefore, packetText, readText, refusalText, refusedText, requestLine, responseLine, saying, seenByte, seenBytes, shown, sized, unreadableText, valueOf}
+use Rattle.prints.specs.Printed.{printed, printedOr}
+use Rattle.show_packet.specs.Lines.{argumentText, argumentTexts, labelBefore, packetText, readText, refusalText, refusedText, requestLine, responseLine, saying, sized, unreadableText, valueOf}
 
 -- one name that opens all that a line uses
 unfoldable compute : ℕ → Bytes → Bytes
-unfolding requestLine responseLine saying readText packetText refusedText unreadableText refusalText argumentTexts argumentText pieces labelBefore valueOf sized shown seenBytes seenByte nameOf reasonOf labelOf labelsOf decimal decimalIn read header body split fits rulesOf requestShape responseShape startsWith firstZero every same
+unfolding requestLine responseLine saying readText packetText refusedText unreadableText refusalText argumentTexts argumentText pieces labelBefore valueOf sized printedOr printed nameOf reasonOf labelOf labelsOf decimal decimalIn read header body split fits rulesOf requestShape responseShape startsWith firstZero every same
 compute c s = requestLine c s
 
 can-do : requestLine 1 (0 ∷ 82 ∷ 69 ∷ 81 ∷ 0 ∷ 0 ∷ 0 ∷ 1 ∷ 0 ∷ 0 ∷ 0 ∷ 7 ∷ 114 ∷ 101 ∷ 118 ∷ 101 ∷ 114 ∷ 115 ∷ 101 ∷ [])

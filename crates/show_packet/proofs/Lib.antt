@@ -1,4 +1,4 @@
-pub mod Seen
+pub mod Words
 pub mod Arguments
 pub mod Said
 pub mod Bounds

@@ -5,7 +5,7 @@ use mathlib.Core.Bool.{Bool, true, false, cond}
 use mathlib.Core.List.{[], _∷_, _++_}
 use lib.ListN.{length, getD}
 use lib.Dec.{eqb, ltb}
-use Rattle.octets.specs.Bytes.{Bytes, numberAt, within}
+use Rattle.octets.specs.Bytes.{Bytes, numberAt}
 use Rattle.packet.specs.declared.Rule.{Rule}
 use Rattle.packet.specs.declared.Rule.the-variants.{Absent}
 use Rattle.packet.specs.declared.Shape.{Shape}
@@ -16,6 +16,7 @@ use Rattle.packet_read.specs.Directions.{side}
 use Rattle.handle.specs.Handle.{decimal}
 use Rattle.show_names.specs.Names.{labelOf, nameOf, reasonOf, space}
 use Rattle.prints.specs.Pieces.{pieces}
+use Rattle.prints.specs.Printed.{printedOr}
 
 -- ---- the fixed words
 
@@ -49,25 +50,13 @@ arrow isRequest = cond isRequest toServer fromServer
 
 -- ---- one argument
 
--- a byte from 33 to 126 as it is, any other as `?`: no byte shown is a space or moves the cursor
-unfoldable pub seenByte : ℕ → ℕ
-seenByte x = cond (within 33 126 x) x 63
-
-unfoldable pub seenBytes : Bytes → Bytes
-seenBytes [] = []
-seenBytes (x ∷ a) = seenByte x ∷ seenBytes a
-
--- a visible argument; an empty one is `""`
-unfoldable pub shown : Bytes → Bytes
-shown [] = quotes
-shown (x ∷ a) = seenBytes (x ∷ a)
-
 -- how many bytes an opaque argument has: `4 bytes`, `1 byte`
 unfoldable pub sized : ℕ → Bytes
 sized n = decimal n ++ cond (eqb n 1) byteWord bytesWord
 
+-- an opaque argument by its length alone; any other as it is printed, an empty one as `""`
 unfoldable pub valueOf : Rule → Bytes → Bytes
-valueOf rule a = cond (isOpaque rule) (sized (length a)) (shown a)
+valueOf rule a = cond (isOpaque rule) (sized (length a)) (printedOr quotes a)
 
 -- an argument's label and a space; an argument that is the only one of its type stands without
 unfoldable pub labelBefore : Shape → ℕ → Bytes

@@ -11,44 +11,7 @@ ghost use Rattle.octets.specs.Bytes.{numberAt};
 ghost use Rattle.octets.specs.Put.{put};
 ghost use Rattle.packet.specs.Layout.{rulesOf};
 ghost use Rattle.packet.specs.Answers.{argumentAt};
-ghost use Rattle.show_packet.specs.Lines.{argumentText, argumentTexts, arrow, labelBefore, packetText, refusalText, refusedText, requestLine, responseLine, seenByte, seenBytes, shown, sideLine, sized, unreadableText, valueOf};
-
-// A byte as it is shown: `?` for what is no visible character of ASCII.
-fn seen_byte(x: u8) -> u8
-    ensures { λ r. ⌜ r ≡ seenByte x ⌝ }
-{
-    if x < 33 {
-        return 63;
-    }
-    if 126 < x {
-        return 63;
-    }
-    x
-}
-
-// Lays each byte as it is shown.
-fn put_seen(out: &mut [u8], at: usize, a: &[u8]) -> usize
-    requires { ⌜ (at + length (seenBytes (now a)) ≤ length (now out)) ⌝ }
-    ensures { λ r. ⌜ (r ≡ at + length (seenBytes (now (a .entry)))) × (now (out .exit) ≡ put at (seenBytes (now (a .entry))) (now (out .entry))) ⌝ }
-{
-    let mut i = 0;
-    while i < a.len() {
-        out[at + i] = seen_byte(a[i]);
-        i += 1;
-    }
-    at + i
-}
-
-// Lays a visible argument.
-fn put_shown(out: &mut [u8], at: usize, a: &[u8]) -> usize
-    requires { ⌜ (at + length (shown (now a)) ≤ length (now out)) ⌝ }
-    ensures { λ r. ⌜ (r ≡ at + length (shown (now (a .entry)))) × (now (out .exit) ≡ put at (shown (now (a .entry))) (now (out .entry))) ⌝ }
-{
-    if a.len() == 0 {
-        return octets::put(out, at, b"\"\"");
-    }
-    put_seen(out, at, a)
-}
+ghost use Rattle.show_packet.specs.Lines.{argumentText, argumentTexts, arrow, labelBefore, packetText, refusalText, refusedText, requestLine, responseLine, sideLine, sized, unreadableText, valueOf};
 
 // Lays how many bytes an opaque argument has.
 fn put_size(out: &mut [u8], at: usize, count: usize) -> usize
@@ -69,7 +32,7 @@ fn put_value(out: &mut [u8], at: usize, rule: Rule, a: &[u8]) -> usize
 {
     match rule {
         Rule::Opaque => put_size(out, at, a.len()),
-        _ => put_shown(out, at, a),
+        _ => prints::put_printed_or(out, at, b"\"\"", a),
     }
 }
 

@@ -4,8 +4,8 @@ use lib.Count.{ones}
 use Rattle.octets.proofs.Runs.{laid-as, laid-then, room-as, room-first, room-then}
 use Rattle.server.specs.Sizes.{connectionCount}
 use Rattle.server.specs.Layout.{tableOf}
+use Rattle.prints.specs.Printed.{printed}
 use Rattle.command_laws.proofs.Rules.{sound-prints}
-use Rattle.command.specs.Texts.{shown}
 use Rattle.command_status.specs.Counts.{countsText}
 use Rattle.command_status.proofs.Lines.{line-is}
 use borrow.Author.Needs.{needs}
@@ -27,17 +27,17 @@ able-at-requires c κs = search needs
 name-at-requires : tie.Need-name-at-requires
 name-at-requires c κs = search needs
 
-put-shown-requires : tie.Need-put-shown-requires
-put-shown-requires c κs =
+put-printed-requires : tie.Need-put-printed-requires
+put-printed-requires c κs =
     let s = c .before .before .before .before .before .before .before .before in
     let e = line-is (tableOf connectionCount (now (s .args .table))) (sound-prints connectionCount _ (s .pre .1)) (s .args .q) _ _ _ _ _ (c .before .before .before .before .before .read-rows .ensures) (c .name-at .ensures) (c .before .before .before .before .count-jobs .ensures) (c .before .before .before .count-jobs2 .ensures) (c .before .before .able-at .ensures) in
-    room-first _ (shown (now (c .name-at .result))) (countsText (c .before .before .before .before .count-jobs .result) (c .before .before .before .count-jobs2 .result) (ones (c .before .before .able-at .result))) _ (room-as _ _ e _ _ (s .pre .2))
+    room-first _ (printed (now (c .name-at .result))) (countsText (c .before .before .before .before .count-jobs .result) (c .before .before .before .count-jobs2 .result) (ones (c .before .before .able-at .result))) _ (room-as _ _ e _ _ (s .pre .2))
 
 put-counts-requires : tie.Need-put-counts-requires
 put-counts-requires c κs =
     let s = c .before .before .before .before .before .before .before .before .before .before .before .before in
     let e = line-is (tableOf connectionCount (now (s .args .table))) (sound-prints connectionCount _ (s .pre .1)) (s .args .q) _ _ _ _ _ (c .before .before .before .before .before .before .before .before .before .read-rows .ensures) (c .before .before .before .before .name-at .ensures) (c .before .before .before .before .before .before .before .before .count-jobs .ensures) (c .before .before .before .before .before .before .before .count-jobs2 .ensures) (c .before .before .before .before .before .before .able-at .ensures) in
-    room-then _ _ _ _ _ _ (c .before .before .before .put-shown .ensures) (room-as _ _ e _ _ (s .pre .2))
+    room-then _ _ _ _ _ _ (c .before .before .before .put-printed .ensures) (room-as _ _ e _ _ (s .pre .2))
 
 same-length : tie.Need-same-length
 same-length c = search needs
@@ -46,7 +46,7 @@ returns : tie.Need-returns
 returns c =
     let s = c .before .before .before .before .before .before .before .before .before .before .before .before .before .before .before in
     let e = line-is (tableOf connectionCount (now (s .args .table))) (sound-prints connectionCount _ (s .pre .1)) (s .args .q) _ _ _ _ _ (c .before .before .before .before .before .before .before .before .before .before .before .before .read-rows .ensures) (c .before .before .before .before .before .before .before .name-at .ensures) (c .before .before .before .before .before .before .before .before .before .before .before .count-jobs .ensures) (c .before .before .before .before .before .before .before .before .before .before .count-jobs2 .ensures) (c .before .before .before .before .before .before .before .before .before .able-at .ensures) in
-    laid-as _ _ e _ _ _ _ (laid-then _ _ _ _ _ _ (c .before .before .before .before .before .before .put-shown .ensures) _ _ (c .before .before .put-counts .ensures))
+    laid-as _ _ e _ _ _ _ (laid-then _ _ _ _ _ _ (c .before .before .before .before .before .before .put-printed .ensures) _ _ (c .before .before .put-counts .ensures))
 
 pub put-line-spec : {M : Type 1} → statement M
 put-line-spec =
@@ -57,7 +57,7 @@ put-line-spec =
     count-jobs-requires-2
     able-at-requires
     name-at-requires
-    put-shown-requires
+    put-printed-requires
     put-counts-requires
     same-length
     returns)

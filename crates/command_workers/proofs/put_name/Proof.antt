@@ -3,10 +3,10 @@ use mathlib.Core.Path.{refl}
 use denote.Ref.{now}
 use Rattle.octets.specs.Bytes.{text}
 use Rattle.octets.proofs.Runs.{laid-as, laid-none, laid-then, room-as, room-first, room-then}
+use Rattle.prints.specs.Printed.{printed}
 use Rattle.server.specs.Sizes.{connectionCount}
 use Rattle.server.specs.Table.{functionAt}
 use Rattle.server.specs.Layout.{tableOf}
-use Rattle.command.specs.Texts.{shown}
 use Rattle.command_workers.proofs.Lines.{name-is, name-none}
 use borrow.Author.Needs.{needs}
 use Rattle.command_workers.proofs.put_name.Statement.{statement}
@@ -25,16 +25,16 @@ put-requires : tie.Need-put-requires
 put-requires c κs =
     let s = c .before .before .before .before .before .before .before in
     let e = name-is (tableOf connectionCount (now (s .args .table))) (s .args .c) (s .args .q) _ _ (c .before .before .before .before .able-at .ensures) (c .before .before .before .has .ensures) _ refl (c .before .before .if1 .taken) in
-    room-first _ (text " ") (shown (functionAt (tableOf connectionCount (now (s .args .table))) (s .args .q) .name)) _ (room-as _ _ e _ _ (s .pre .2))
+    room-first _ (text " ") (printed (functionAt (tableOf connectionCount (now (s .args .table))) (s .args .q) .name)) _ (room-as _ _ e _ _ (s .pre .2))
 
 name-at-requires : tie.Need-name-at-requires
 name-at-requires c κs = search needs
 
-put-shown-requires : tie.Need-put-shown-requires
-put-shown-requires c κs =
+put-printed-requires : tie.Need-put-printed-requires
+put-printed-requires c κs =
     let s = c .before .before .before .before .before .before .before .before .before .before .before .before in
     let e = name-is (tableOf connectionCount (now (s .args .table))) (s .args .c) (s .args .q) _ _ (c .before .before .before .before .before .before .before .before .before .able-at .ensures) (c .before .before .before .before .before .before .before .before .has .ensures) _ (c .name-at .ensures) (c .before .before .before .before .before .before .before .if1 .taken) in
-    room-then _ (text " ") (shown (now (c .name-at .result))) _ _ _ (c .before .before .before .before .put .ensures) (room-as _ _ e _ _ (s .pre .2))
+    room-then _ (text " ") (printed (now (c .name-at .result))) _ _ _ (c .before .before .before .before .put .ensures) (room-as _ _ e _ _ (s .pre .2))
 
 same-length : tie.Need-same-length
 same-length c = search needs
@@ -43,7 +43,7 @@ returns : tie.Need-returns
 returns c =
     let s = c .before .before .before .before .before .before .before .before .before .before .before .before .before .before .before in
     let e = name-is (tableOf connectionCount (now (s .args .table))) (s .args .c) (s .args .q) _ _ (c .before .before .before .before .before .before .before .before .before .before .before .before .able-at .ensures) (c .before .before .before .before .before .before .before .before .before .before .before .has .ensures) _ (c .before .before .before .name-at .ensures) (c .before .before .before .before .before .before .before .before .before .before .if1 .taken) in
-    laid-as _ _ e _ _ _ _ (laid-then _ (text " ") _ _ _ _ (c .before .before .before .before .before .before .before .put .ensures) _ _ (c .before .before .put-shown .ensures))
+    laid-as _ _ e _ _ _ _ (laid-then _ (text " ") _ _ _ _ (c .before .before .before .before .before .before .before .put .ensures) _ _ (c .before .before .put-printed .ensures))
 
 returns-2 : tie.Need-returns-2
 returns-2 c =
@@ -59,7 +59,7 @@ put-name-spec =
     slice-aggregate-put
     put-requires
     name-at-requires
-    put-shown-requires
+    put-printed-requires
     same-length
     returns
     returns-2)

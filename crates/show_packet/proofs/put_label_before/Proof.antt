@@ -1,7 +1,7 @@
 -- `show_packet::put_label_before` meets its contract: nothing before an only argument, else the label and a space. Assumes nothing.
 use Rattle.show_names.specs.Names.{labelOf, space}
 use Rattle.octets.proofs.Runs.{laid-as, laid-none, laid-then, room-as, room-first, room-then}
-use Rattle.show_packet.proofs.Seen.{label-none, label-some}
+use Rattle.show_packet.proofs.Words.{label-none, label-some}
 use borrow.Author.Needs.{needs}
 use Rattle.show_packet.proofs.put_label_before.Statement.{statement}
 use Rattle.show_packet.proofs.put_label_before.Tie as tie

@@ -6,7 +6,7 @@ use Rattle.octets.specs.Bytes.{numberAt}
 use Rattle.show_names.specs.Names.{nameOf, space}
 use Rattle.show_packet.specs.Lines.{unreadableText}
 use Rattle.octets.proofs.Runs.{laid-as, laid-third, room-as, room-first, room-second, room-third}
-use Rattle.show_packet.proofs.Seen.{refused-header, refused-packet}
+use Rattle.show_packet.proofs.Words.{refused-header, refused-packet}
 use borrow.Author.Needs.{needs}
 use Rattle.show_packet.proofs.put_refused.Statement.{statement}
 use Rattle.show_packet.proofs.put_refused.Tie as tie

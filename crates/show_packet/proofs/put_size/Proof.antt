@@ -4,7 +4,7 @@ use lib.Dec.{eqb}
 use Rattle.handle.specs.Handle.{decimal}
 use Rattle.show_packet.specs.Lines.{byteWord, bytesWord, sized}
 use Rattle.octets.proofs.Runs.{laid-as, laid-then, room-as, room-first, room-then}
-use Rattle.show_packet.proofs.Seen.{size-many, size-one}
+use Rattle.show_packet.proofs.Words.{size-many, size-one}
 use borrow.Author.Needs.{needs}
 use Rattle.show_packet.proofs.put_size.Statement.{statement}
 use Rattle.show_packet.proofs.put_size.Tie as tie

@@ -1,10 +1,10 @@
--- `command_words::put_count` meets its contract: a tab, and the count. Assumes nothing.
+-- `command_status::put_count` meets its contract: a tab, and the count. Assumes nothing.
 use Rattle.octets.proofs.Runs.{laid-then}
 use Rattle.handle.specs.Handle.{decimal}
 use Rattle.command.specs.Texts.{tab}
 use borrow.Author.Needs.{needs}
-use Rattle.command_words.proofs.put_count.Statement.{statement}
-use Rattle.command_words.proofs.put_count.Tie as tie
+use Rattle.command_status.proofs.put_count.Statement.{statement}
+use Rattle.command_status.proofs.put_count.Tie as tie
 
 slice-aggregate-put : tie.Need-slice-aggregate-put
 slice-aggregate-put c = search needs
