@@ -12,17 +12,15 @@ use Rattle.handle.specs.Handle.{handle, lap}
 use Rattle.packet.specs.Layout.{isOwn, requestShape}
 use Rattle.packet.specs.Packet.{requests}
 use Rattle.packet_laws.proofs.Packets.{read-got}
-use Rattle.lists.specs.Lists.{any, filter}
-use Rattle.lists.proofs.Cases.{All, cond-both, all-append, all-map, all-any}
+use Rattle.lists.specs.Lists.{any}
+use Rattle.lists.proofs.Cases.{All, all-more}
 use Rattle.lists.proofs.Rows.{clash, never, any-at, any-where}
-use Rattle.server.specs.Table.{Table, noJob, jobAt, live, hasHandle, joins}
-use Rattle.server.specs.Requests.{Event, sends, Work, Request, requestIn, work}
-use Rattle.server.specs.Refusals.{isTold}
-use Rattle.server.specs.Events.{Send, plain, copy, assign, Decision, silence, refuse, settle, dropped, toWake, noop, created, unableToAll, sleeping, hears, listenersOf}
+use Rattle.server.specs.Table.{Table, noJob, jobAt, live, hasHandle}
+use Rattle.server.specs.Requests.{Event, sends, Work, requestIn, work}
+use Rattle.server.specs.Events.{Send, plain, copy, assign, created}
 use Rattle.server.specs.Server.{Server, decided, next}
-use Rattle.server_laws.proofs.Outcome.{Change, Served, Outcome, outcome}
+use Rattle.server_laws.proofs.Packets.{Sends, packets-sent}
 use Rattle.server_laws.proofs.Going.{best-found, grabbed-live, joined-found, joined-inside}
-use Rattle.server_laws.proofs.Places.{settled-last}
 use Rattle.demands.specs.Messages.{messageOf, messagesOf}
 use Rattle.demands.specs.Handles.{givesHandle, readingGives, given, stands}
 use Rattle.demands.proofs.Arguments.{work-read}
@@ -89,58 +87,27 @@ module _ (e : Event) (s : Server) where
   unfolding messageOf
   gives-joined m to p i l h g = standing (record { place = p; inside = i; live′ = l; is = sym (same-is _ _ g) })
 
-  gives-made : (to : ℕ) → s .table .last < 4294967295 → Gives (suc (s .table .last)) (created to (suc (s .table .last)))
+  gives-made : (m to : ℕ) → s .table .last < 4294967295 → m ≡ suc (s .table .last) → Gives m (created to (suc (s .table .last)))
   unfolding messageOf
-  gives-made to l h g = newest l refl (sym (same-is _ _ g))
+  gives-made m to l z h g = newest l z (sym (same-is _ _ g))
 
   gives-assigned : (m : ℕ) (uniq : Bool) (to p : ℕ) → p < length (s .table .jobs) → live (jobAt (s .table) p .row) ≡ true → Gives m (assign uniq to p)
   unfolding messageOf
   gives-assigned m true to p i l h g = standing (record { place = p; inside = i; live′ = l; is = sym (same-is _ _ g) })
   gives-assigned m false to p i l h g = standing (record { place = p; inside = i; live′ = l; is = sym (same-is _ _ g) })
 
-  gives-settled : (m : ℕ) (ss : List Send) (u : Table) → All (Gives m) ss → All (Gives m) (settle ss u .packets)
-  unfolding settle
-  gives-settled m ss u p = all-append p (all-map noop {Q = λ l. Unit {0}} (λ l x. gives-plain m l 6 [] refl) (all-any (λ l. tt) (toWake (dropped u))))
-
-  gives-refused : (m c n : ℕ) (t : Table) → All (Gives m) (refuse c n t .packets)
-  unfolding refuse
-  gives-refused m c n t = cond-both (All (Gives m)) (isTold n) (All.more (gives-plain m c 19 _ refl) All.none) All.none
-
-module _ (c : ℕ) (b : Bytes) (s : Server) where
-  abbrev e : Event
-  e = sends c b
-
-  gives-one : (m kind : ℕ) (args : List Bytes) → givesHandle kind ≡ false → All (Gives e s m) (plain c kind args ∷ [])
-  gives-one m kind args q = All.more (gives-plain e s m c kind args q) All.none
-
-  gives-change : {a : Request} {ss : List Send} {u : Table} → requestIn b ≡ a → Change c (s .table) a ss u → All (Gives e s (u .last)) ss
-  unfolding unableToAll sleeping
-  gives-change q (Change.able f k r) = All.none
-  gives-change q (Change.unknown f r) = All.none
-  gives-change q (Change.disabled f k r) = All.none
-  gives-change q (Change.identified i) = All.none
-  gives-change q Change.cleared = All.none
-  gives-change q Change.slept = All.none
-  gives-change q (Change.noJobFor uniq r) = gives-one _ 10 [] refl
-  gives-change q (Change.grabbed uniq p r) = All.more (gives-assigned e s _ uniq c p (best-found (s .table) c p r .0) (grabbed-live (s .table) c p r)) All.none
-  gives-change q (Change.joins priority background f u size p r) = All.more (gives-joined e s _ c p (joined-inside (s .table) f u p r) (joined-found (s .table) f u p r)) All.none
-  gives-change q (Change.accepts priority background f u size k p r₁ r₂ r₃ l) = All.more (gives-made e s c l) All.none
-  gives-change q (Change.worker how kind j x y p r) =
-      all-map (λ l. copy l kind) {Q = λ l. Unit {0}} (λ l z. gives-copy e s _ l kind (work-gives-none b how kind j x y q)) (all-any (λ l. tt) (filter (hears how (s .table)) (listenersOf (s .table) (jobAt (s .table) p .row))))
-  gives-change q (Change.status j o r) = gives-one _ 20 _ refl
-  gives-change q (Change.optioned name r) = gives-one _ 27 _ refl
-  gives-change q Change.echoed = All.more (gives-copy e s _ c 17 refl) All.none
-
-  gives-served : {a : Request} {d : Decision} → requestIn b ≡ a → Served c (s .table) a d → All (Gives e s (d .table .last)) (d .packets)
-  gives-served q (Served.refused a m r) = gives-refused e s _ c m (s .table)
-  gives-served q (Served.done a ss u m) = gives-settled e s _ ss u (rw (settled-last ss u) (gives-change q m))
-
-gives-outcome : (s : Server) (e : Event) {d : Decision} → Outcome (s .table) e d → All (Gives e s (d .table .last)) (d .packets)
-unfolding silence
-gives-outcome s e (Outcome.silenced f m r) = All.none
-gives-outcome s e (Outcome.opened c o) = gives-settled e s _ [] _ All.none
-gives-outcome s e (Outcome.closed c o) = gives-settled e s _ [] _ All.none
-gives-outcome s e (Outcome.serves c b d o r) = gives-served c b s refl r
+-- each packet, by the reason why it is sent
+gives-sent : (s : Server) {m : ℕ} {e : Event} {x : Send} → Sends (s .table) m e x → Gives e s m x
+gives-sent s (Sends.an-error c b n h) = gives-plain _ s _ c 19 _ refl
+gives-sent s (Sends.no-job c b uniq q r) = gives-plain _ s _ c 10 [] refl
+gives-sent s (Sends.the-job c b uniq q p r) = gives-assigned _ s _ uniq c p (best-found (s .table) c p r .0) (grabbed-live (s .table) c p r)
+gives-sent s (Sends.handle-joined c b priority background f u size q p r) = gives-joined _ s _ c p (joined-inside (s .table) f u p r) (joined-found (s .table) f u p r)
+gives-sent s (Sends.handle-made c b priority background f u size q l z) = gives-made _ s _ c l z
+gives-sent s (Sends.a-copy c b how kind j x y q p r l i w) = gives-copy _ s _ l kind (work-gives-none b how kind j x y q)
+gives-sent s (Sends.a-status c b h q o r) = gives-plain _ s _ c 20 _ refl
+gives-sent s (Sends.an-option c b name q r) = gives-plain _ s _ c 27 _ refl
+gives-sent s (Sends.an-echo c b q) = gives-copy _ s _ c 17 refl
+gives-sent s (Sends.a-noop l) = gives-plain _ s _ l 6 [] refl
 
 any-gives : (e : Event) (s : Server) (m : ℕ) (h : Bytes) (xs : List Send) → All (Gives e s m) xs → any (λ y. readingGives h (y .says)) (map (messageOf e s) xs) ≡ true → Known s m h
 any-gives e s m h [] All.none g = clash g refl
@@ -154,4 +121,4 @@ any-gives e s m h (x ∷ xs) (All.more p ps) g = go (readingGives h (messageOf e
 -- whatever handle is given, it is that of an unfinished job or of the job that is made now
 pub given-known : (e : Event) (s : Server) (h : Bytes) → given h (messagesOf e s) ≡ true → Known s (next e s .table .last) h
 unfolding given messagesOf next
-given-known e s h g = any-gives e s _ h (decided e s .packets) (gives-outcome s e (outcome e s)) g
+given-known e s h g = any-gives e s _ h (decided e s .packets) (all-more (λ x q. gives-sent s q) (packets-sent e s)) g

@@ -5,26 +5,24 @@ use mathlib.Core.Path.{_≡_, refl, ap, ap₂, sym, _∙_, subst}
 use mathlib.Core.Bool.{Bool, true, false}
 use mathlib.Core.List.{List, [], _∷_, map}
 use native.Mathlib.Decide.{ℕ-discrete}
-use lib.ListN.{length, getD}
+use lib.ListN.{getD}
 use Rattle.octets.specs.Bytes.{Bytes}
 use Rattle.handle.specs.Handle.{handle, lap}
 use Rattle.lists.specs.Lists.{fit}
 use Rattle.lists.proofs.Lists.{length-fit}
-use Rattle.lists.proofs.Cases.{All, All2, cond-both, all-append, all-map, all-any}
+use Rattle.lists.proofs.Cases.{All, All2, all-more}
 use Rattle.lists.proofs.Rows.{never}
 use Rattle.server.specs.Table.{Table, jobAt, functionAt}
-use Rattle.server.specs.Requests.{Event, sends, Request, requestIn}
-use Rattle.server.specs.Refusals.{isTold}
-use Rattle.server.specs.Events.{Send, plain, copy, assign, Decision, silence, refuse, settle, noop, dropped, toWake, hears}
+use Rattle.server.specs.Requests.{Event}
+use Rattle.server.specs.Events.{Send, plain, copy, assign}
 use Rattle.server.specs.Server.{Server, decided, next}
 use Rattle.server.specs.Call.{serverIn}
-use Rattle.server_laws.proofs.Outcome.{Change, Served, Outcome, outcome}
+use Rattle.server_laws.proofs.Packets.{Sends, packets-sent}
 use Rattle.server_laws.proofs.Serials.{Creation, nothing, one, creation, creates-grown}
 use Rattle.server_calls.specs.History.{Call, Memory, calls, leaves}
 use Rattle.server_calls.proofs.Histories.{LongOutputs}
 use Rattle.server_blind.proofs.Alike.{Alike, alike-same, decided-alike}
 use Rattle.server_blind.proofs.Workloads.{Apart, near-at, next-apart}
-use Rattle.server_blind.proofs.Copies.{members-have, all-filter}
 use Rattle.server_blind.proofs.Lone.{lone-none}
 use Rattle.server_blind.proofs.Stored.{created-apart}
 use Rattle.server_blind.proofs.Outputs.{Both}
@@ -45,39 +43,18 @@ data Fair (t : Table) (e : Event) : Send → Type 0 where
   an-assignment : {uniq : Bool} {to p : ℕ} → Fair t e (assign uniq to p)
   a-copy : {to kind : ℕ} → Copied t e to kind → Fair t e (copy to kind)
 
-module _ (c : ℕ) (b : Bytes) (t : Table) where
-  fair-change : {a : Request} {ss : List Send} {u : Table} → requestIn b ≡ a → Change c t a ss u → All (Fair t (sends c b)) ss
-  fair-change q (Change.able f k r) = All.none
-  fair-change q (Change.unknown f r) = All.none
-  fair-change q (Change.disabled f k r) = All.none
-  fair-change q (Change.identified i) = All.none
-  fair-change q Change.cleared = All.none
-  fair-change q Change.slept = All.none
-  fair-change q (Change.noJobFor uniq r) = All.more a-plain All.none
-  fair-change q (Change.grabbed uniq p r) = All.more an-assignment All.none
-  fair-change q (Change.joins priority background f u size p r) = All.more a-plain All.none
-  fair-change q (Change.accepts priority background f u size k p r₁ r₂ r₃ l) = All.more a-plain All.none
-  fair-change q (Change.worker how kind h n d p r) =
-      all-map (λ l. copy l kind) (λ l m. a-copy (forwarded c b how kind h n d q p r l m)) (all-filter (hears how t) (members-have (length (t .connections)) (jobAt t p .row .listeners)))
-  fair-change q (Change.status h o r) = All.more a-plain All.none
-  fair-change q (Change.optioned name r) = All.more a-plain All.none
-  fair-change q Change.echoed = All.more (a-copy (echoed c b q)) All.none
-
-fair-settled : (t : Table) (e : Event) (ss : List Send) (u : Table) → All (Fair t e) ss → All (Fair t e) (settle ss u .packets)
-unfolding settle
-fair-settled t e ss u p = all-append p (all-map noop {Q = λ l. Unit {0}} (λ l x. a-plain) (all-any (λ l. tt) (toWake (dropped u))))
-
-fair-served : (c : ℕ) (b : Bytes) (t : Table) {a : Request} {d : Decision} → requestIn b ≡ a → Served c t a d → All (Fair t (sends c b)) (d .packets)
-unfolding refuse
-fair-served c b t q (Served.refused a n r) = cond-both (All (Fair t (sends c b))) (isTold n) (All.more a-plain All.none) All.none
-fair-served c b t q (Served.done a ss u m) = fair-settled t (sends c b) ss u (fair-change c b t q m)
-
-fair-outcome : (t : Table) {e : Event} {d : Decision} → Outcome t e d → All (Fair t e) (d .packets)
-unfolding silence
-fair-outcome t (Outcome.silenced e n r) = All.none
-fair-outcome t (Outcome.opened c o) = fair-settled t _ [] _ All.none
-fair-outcome t (Outcome.closed c o) = fair-settled t _ [] _ All.none
-fair-outcome t (Outcome.serves c b d o r) = fair-served c b t refl r
+-- each packet, by the reason why it is sent
+fair : {t : Table} {last : ℕ} {e : Event} {x : Send} → Sends t last e x → Fair t e x
+fair (Sends.an-error c b n h) = a-plain
+fair (Sends.no-job c b uniq q r) = a-plain
+fair (Sends.the-job c b uniq q p r) = an-assignment
+fair (Sends.handle-joined c b priority background f u size q p r) = a-plain
+fair (Sends.handle-made c b priority background f u size q l m) = a-plain
+fair (Sends.a-copy c b how kind h n d q p r l m w) = a-copy (forwarded c b how kind h n d q p r l m)
+fair (Sends.a-status c b h q o r) = a-plain
+fair (Sends.an-option c b name q r) = a-plain
+fair (Sends.an-echo c b q) = a-copy (echoed c b q)
+fair (Sends.a-noop l) = a-plain
 
 -- ---- the event itself
 
@@ -91,7 +68,7 @@ module _ {e f : Event} (a : Alike e f) (s : Server) where
 
   pub itself-copies : All2 (ButCopies (s .table) e f) (messagesOf e s) (messagesOf f s)
   unfolding messagesOf
-  itself-copies = rw (← (decided-alike a s s refl)) (but-copies (fair-outcome (s .table) (outcome e s)))
+  itself-copies = rw (← (decided-alike a s s refl)) (but-copies (all-more (λ x q. fair q) (packets-sent e s)))
 
 -- ---- events after one that made a job
 

@@ -23,19 +23,19 @@ use Rattle.packet_laws.proofs.Packets.{responses-well, Headed, header-good, Got
 use Rattle.packet_laws.proofs.Splitting.{split-join}
 use Rattle.packet_laws.proofs.RoundTrip.{packet-reads}
 use Rattle.packet_laws.proofs.Blindness.{visible-opaque}
-use Rattle.lists.specs.Lists.{fit, find, filter}
+use Rattle.lists.specs.Lists.{fit, find}
 use Rattle.lists.proofs.Lists.{length-fit}
 use Rattle.lists.proofs.Searches.{found}
 use Rattle.lists.proofs.Rows.{clash, implies-use, all-at, all-row}
-use Rattle.lists.proofs.Cases.{All, cond-cases, all-append, all-map, all-any}
+use Rattle.lists.proofs.Cases.{All, all-more}
 use Rattle.server.specs.Sizes.{nameSize, uniqueSize}
-use Rattle.server.specs.Table.{Table, noFunction, noJob, functionAt, jobAt, live, queued, best, hasHandle}
+use Rattle.server.specs.Table.{Table, noFunction, noJob, functionAt, jobAt, live, queued, hasHandle}
 use Rattle.server.specs.Rules.{textWithin, storedNumber, together}
-use Rattle.server.specs.Requests.{Event, sends, Work, Request, requestIn, getStatus, echo, work}
+use Rattle.server.specs.Requests.{Event, sends, Work, requestIn, getStatus, echo, work}
 use Rattle.server.specs.Refusals.{isTold, errorText, refusalTexts}
-use Rattle.server.specs.Events.{Send, plain, copy, assign, Decision, silence, refuse, settle, error, noop, created, dropped, toWake, hears, listenersOf, flag, statusOf, exceptionsName}
+use Rattle.server.specs.Events.{Send, plain, copy, assign, error, created, flag, statusOf, exceptionsName}
 use Rattle.server.specs.Server.{Server, Sent, render, shownBy, opaqueOf, decided}
-use Rattle.server_laws.proofs.Outcome.{Change, Served, Outcome, outcome}
+use Rattle.server_laws.proofs.Packets.{Sends, packets-sent}
 use Rattle.server_laws.proofs.Going.{best-found}
 use Rattle.server_laws.proofs.Obeyed.{obeyed}
 use Rattle.server_laws.proofs.Sound.{jobNamed}
@@ -179,18 +179,6 @@ module _ (e : Event) (s : Server) where
   unfolding render messageOf
   reads-plain to kind args h = reads-by (render e s (plain to kind args)) args (append-nil (join args)) h
 
-  reads-noop : (c : ℕ) → Reads (noop c)
-  unfolding rulesOf responseShape
-  reads-noop c = reads-plain c 6 [] (empty-sendable 6 refl refl)
-
-  reads-settled : (ss : List Send) (u : Table) → All Reads ss → All Reads (settle ss u .packets)
-  unfolding settle
-  reads-settled ss u p = all-append p (all-map noop {Q = λ l. Unit {0}} (λ l x. reads-noop l) (all-any (λ l. tt) (toWake (dropped u))))
-
-  reads-refused : (c n : ℕ) (t : Table) → All Reads (refuse c n t .packets)
-  unfolding refuse
-  reads-refused c n t = cond-cases (All Reads) (isTold n) (λ h. All.more (reads-plain c 19 _ (error-sendable n h)) All.none) (λ h. All.none)
-
   pub reads-error : (c n : ℕ) → isTold n ≡ true → Reads (error c n)
   reads-error c n h = reads-plain c 19 _ (error-sendable n h)
 
@@ -295,56 +283,31 @@ module _ (e : Event) (s : Server) (to p : ℕ) (x : Texts (s .table) p) where
 -- ---- every event
 
 module _ (n : ℕ) (s : Server) (h : Running n s) where
-  module _ (c : ℕ) (b : Bytes) where
-    abbrev e : Event
-    e = sends c b
+  reads-status : (c : ℕ) (b j : Bytes) (o : Option ℕ) → requestIn b ≡ getStatus j → find (λ x. hasHandle j (x .row)) (s .table .jobs) ≡ o → Reads (sends c b) s (plain c 20 (statusOf o j (s .table)))
+  unfolding hasHandle every
+  reads-status c b j none q r = reads-plain _ s c 20 _ (status-sendable j _ _ false false (status-fits b j q) refl refl)
+  reads-status c b j (some p) q r =
+      let f = found (λ x. hasHandle j (x .row)) noJob (s .table .jobs) (some p) r in
+      let x = texts n s h p (f .inside) (and-left (live (jobAt (s .table) p .row)) _ (f .passes)) in
+      let k = jobAt (s .table) p in
+      reads-plain _ s c 20 _ (status-sendable j (k .numerator) (k .denominator) true (not (eqb (k .row .holder) 0)) (status-fits b j q) (x .numerator) (x .denominator))
 
-    reads-grabbed : (uniq : Bool) (p : ℕ) → best (s .table) c ≡ some p → All (Reads e s) (assign uniq c p ∷ [])
-    reads-grabbed uniq p r =
-        let (i, g) = best-found (s .table) c p r in
-        let l = and-left (live (jobAt (s .table) p .row)) _ (and-left (queued (jobAt (s .table) p .row)) _ g) in
-        All.more (reads-assigned e s c p (texts n s h p i l) uniq) All.none
-
-    reads-status : (j : Bytes) (o : Option ℕ) → requestIn b ≡ getStatus j → find (λ x. hasHandle j (x .row)) (s .table .jobs) ≡ o → Reads e s (plain c 20 (statusOf o j (s .table)))
-    unfolding hasHandle every
-    reads-status j none q r = reads-plain e s c 20 _ (status-sendable j _ _ false false (status-fits b j q) refl refl)
-    reads-status j (some p) q r =
-        let f = found (λ x. hasHandle j (x .row)) noJob (s .table .jobs) (some p) r in
-        let x = texts n s h p (f .inside) (and-left (live (jobAt (s .table) p .row)) _ (f .passes)) in
-        let k = jobAt (s .table) p in
-        reads-plain e s c 20 _ (status-sendable j (k .numerator) (k .denominator) true (not (eqb (k .row .holder) 0)) (status-fits b j q) (x .numerator) (x .denominator))
-
-    reads-one : (kind : ℕ) (args : List Bytes) → Sendable kind args → All (Reads e s) (plain c kind args ∷ [])
-    reads-one kind args k = All.more (reads-plain e s c kind args k) All.none
-
-    reads-change : {a : Request} {ss : List Send} {u : Table} → requestIn b ≡ a → Change c (s .table) a ss u → All (Reads e s) ss
-    unfolding rulesOf responseShape
-    reads-change q (Change.able f k r) = All.none
-    reads-change q (Change.unknown f r) = All.none
-    reads-change q (Change.disabled f k r) = All.none
-    reads-change q (Change.identified i) = All.none
-    reads-change q Change.cleared = All.none
-    reads-change q Change.slept = All.none
-    reads-change q (Change.noJobFor uniq r) = reads-one 10 [] (empty-sendable 10 refl refl)
-    reads-change q (Change.grabbed uniq p r) = reads-grabbed uniq p r
-    reads-change q (Change.joins priority background f u size p r) = All.more (reads-created e s c _) All.none
-    reads-change q (Change.accepts priority background f u size k p r₁ r₂ r₃ l) = All.more (reads-created e s c _) All.none
-    reads-change q (Change.worker how kind j x y p r) =
-        all-map (λ l. copy l kind) {Q = λ l. Unit {0}} (λ l z. reads-work c b s how kind j x y q l) (all-any (λ l. tt) (filter (hears how (s .table)) (listenersOf (s .table) (jobAt (s .table) p .row))))
-    reads-change q (Change.status j o r) = All.more (reads-status j o q r) All.none
-    reads-change q (Change.optioned name r) = reads-one 27 _ (option-sendable name r)
-    reads-change q Change.echoed = All.more (reads-echo c b s q) All.none
-
-    reads-served : {a : Request} {d : Decision} → requestIn b ≡ a → Served c (s .table) a d → All (Reads e s) (d .packets)
-    reads-served q (Served.refused a m r) = reads-refused e s c m (s .table)
-    reads-served q (Served.done a ss u m) = reads-settled e s ss u (reads-change q m)
-
-  reads-outcome : (e : Event) {d : Decision} → Outcome (s .table) e d → All (Reads e s) (d .packets)
-  unfolding silence
-  reads-outcome e (Outcome.silenced f m r) = All.none
-  reads-outcome e (Outcome.opened c o) = reads-settled e s [] _ All.none
-  reads-outcome e (Outcome.closed c o) = reads-settled e s [] _ All.none
-  reads-outcome e (Outcome.serves c b d o r) = reads-served c b refl r
+  -- each packet, by the reason why it is sent
+  reads-sent : {last : ℕ} {e : Event} {x : Send} → Sends (s .table) last e x → Reads e s x
+  unfolding rulesOf responseShape
+  reads-sent (Sends.an-error c b m r) = reads-error _ s c m r
+  reads-sent (Sends.no-job c b uniq q r) = reads-plain _ s c 10 [] (empty-sendable 10 refl refl)
+  reads-sent (Sends.the-job c b uniq q p r) =
+      let (i, g) = best-found (s .table) c p r in
+      let l = and-left (live (jobAt (s .table) p .row)) _ (and-left (queued (jobAt (s .table) p .row)) _ g) in
+      reads-assigned _ s c p (texts n s h p i l) uniq
+  reads-sent (Sends.handle-joined c b priority background f u size q p r) = reads-created _ s c _
+  reads-sent (Sends.handle-made c b priority background f u size q l m) = reads-created _ s c _
+  reads-sent (Sends.a-copy c b how kind j x y q p r l m w) = reads-work c b s how kind j x y q l
+  reads-sent (Sends.a-status c b j q o r) = reads-status c b j o q r
+  reads-sent (Sends.an-option c b name q r) = reads-plain _ s c 27 _ (option-sendable name r)
+  reads-sent (Sends.an-echo c b q) = reads-echo c b s q
+  reads-sent (Sends.a-noop l) = reads-plain _ s l 6 [] (empty-sendable 6 refl refl)
 
 pub all-read : (n : ℕ) (e : Event) (s : Server) → Running n s → All (Reads e s) (decided e s .packets)
-all-read n e s h = reads-outcome n s h e (outcome e s)
+all-read n e s h = all-more (λ x q. reads-sent n s h q) (packets-sent e s)

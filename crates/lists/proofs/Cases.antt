@@ -26,6 +26,10 @@ pub data All2 {A : Type 0} {B : Type 0} (R : A → B → Type 0) : List A → Li
   none : All2 R [] []
   more : {a : A} {b : B} {xs : List A} {ys : List B} → R a b → All2 R xs ys → All2 R (a ∷ xs) (b ∷ ys)
 
+pub all-more : {A : Type 0} {P Q : A → Type 0} → ((a : A) → P a → Q a) → {xs : List A} → All P xs → All Q xs
+all-more f All.none = All.none
+all-more f (All.more p ps) = All.more (f _ p) (all-more f ps)
+
 pub all-append : {A : Type 0} {P : A → Type 0} {xs ys : List A} → All P xs → All P ys → All P (xs ++ ys)
 all-append All.none q = q
 all-append (All.more p ps) q = All.more p (all-append ps q)

@@ -1,22 +1,19 @@
 -- Who may see the opaque bytes of an event's own packet: an echo's sender, and the listeners of the job of which a worker packet
 -- tells. Every other packet that the event sends is the same whatever those bytes are. Assumes nothing.
-use Prim.Native.Nat.{ℕ, zero, suc}
-use mathlib.Core.Path.{_≡_, refl}
+use Prim.Native.Nat.{ℕ}
+use mathlib.Core.Path.{_≡_, refl, sym, subst}
 use mathlib.Core.Bool.{Bool, true}
 use mathlib.Core.Option.{some}
-use mathlib.Core.List.{List, [], map}
-use lib.ListN.{length}
-use lib.Dec.{ltb}
+use mathlib.Core.List.{List, map}
 use Rattle.octets.specs.Bytes.{Bytes}
-use Rattle.sets.specs.Sets.{has, members}
-use Rattle.lists.specs.Lists.{find, filter}
+use Rattle.sets.specs.Sets.{has}
+use Rattle.lists.specs.Lists.{find}
 use Rattle.server.specs.Table.{Table, jobAt}
 use Rattle.server.specs.Requests.{Event, sends, Work, Request, echo, work, requestIn}
-use Rattle.server.specs.Events.{Send, plain, copy, assign, Decision, silence, refuse, settle, noop, toWake, dropped, holdsHandle, hears}
+use Rattle.server.specs.Events.{Send, plain, copy, assign, holdsHandle}
 use Rattle.server.specs.Server.{Server, Sent, render, answer}
-use Rattle.server.specs.Refusals.{isTold}
-use Rattle.lists.proofs.Cases.{All, All2, cond-both, cond-cases, all-append, all-map, all-any}
-use Rattle.server_laws.proofs.Outcome.{Change, able, unknown, disabled, identified, cleared, slept, noJobFor, grabbed, joins, accepts, worker, status, optioned, echoed, Served, refused, done, Outcome, silenced, opened, closed, serves, outcome}
+use Rattle.lists.proofs.Cases.{All, All2, all-more}
+use Rattle.server_laws.proofs.Packets.{Sends, packets-sent}
 use Rattle.server_blind.proofs.Alike.{Alike, Like, decided-alike, like-render}
 
 -- connection l listens to the job with this handle, which connection c holds
@@ -42,55 +39,18 @@ data Carries (P : ℕ → Type 0) : Send → Type 0 where
 
 -- ---- what the server sends
 
-pub members-have : (n s : ℕ) → All (λ (l : ℕ). has s l ≡ true) (members n s)
-unfolding members
-members-have zero s = All.none
-members-have (suc n) s =
-    all-append (members-have n s) (cond-cases (All (λ (l : ℕ). has s l ≡ true)) (has s n) (λ e. All.more e All.none) (λ e. All.none))
-
-pub all-filter : {P : ℕ → Type 0} (f : ℕ → Bool) {xs : List ℕ} → All P xs → All P (filter f xs)
-all-filter f All.none = All.none
-all-filter {P} f (All.more {a = x} q qs) = cond-both (All P) (f x) (All.more q (all-filter f qs)) (all-filter f qs)
-
-change-carries : {c : ℕ} {t : Table} {a : Request} {ss : List Send} {u : Table} → Change c t a ss u → All (Carries (Sees c t a)) ss
-change-carries (able f q e) = All.none
-change-carries (unknown f e) = All.none
-change-carries (disabled f q e) = All.none
-change-carries (identified i) = All.none
-change-carries cleared = All.none
-change-carries slept = All.none
-change-carries (noJobFor uniq e) = All.more a-plain All.none
-change-carries (grabbed uniq p e) = All.more an-assignment All.none
-change-carries (joins priority b f u size p e) = All.more a-plain All.none
-change-carries (accepts priority b f u size q p e₁ e₂ e₃ m) = All.more a-plain All.none
-change-carries {c} {t} (worker how kind h n d p e) =
-    all-map (λ l. copy l kind) (λ l m. a-copy (sees-work (record { place = p; held = e; listens = m })))
-    (all-filter (hears how t) (members-have (length (t .connections)) (jobAt t p .row .listeners)))
-change-carries (status h o e) = All.more a-plain All.none
-change-carries (optioned name e) = All.more a-plain All.none
-change-carries echoed = All.more (a-copy sees-echo) All.none
-
-settle-carries : {P : ℕ → Type 0} (ss : List Send) (u : Table) → All (Carries P) ss → All (Carries P) (settle ss u .packets)
-unfolding settle
-settle-carries ss u p = all-append p (all-map noop {Q = λ l. Unit {0}} (λ l x. a-plain) (all-any (λ l. tt) (toWake (dropped u))))
-
-served-carries : {c : ℕ} {t : Table} {a : Request} {d : Decision} → Served c t a d → All (Carries (Sees c t a)) (d .packets)
-unfolding refuse
-served-carries {c} {t} (refused a n r) = cond-both (All (Carries (Sees c t a))) (isTold n) (All.more a-plain All.none) All.none
-served-carries (done a ss u m) = settle-carries ss u (change-carries m)
-
-carries-more : {P Q : ℕ → Type 0} → ((l : ℕ) → P l → Q l) → {xs : List Send} → All (Carries P) xs → All (Carries Q) xs
-carries-more f All.none = All.none
-carries-more f (All.more a-plain ps) = All.more a-plain (carries-more f ps)
-carries-more f (All.more an-assignment ps) = All.more an-assignment (carries-more f ps)
-carries-more f (All.more (a-copy x) ps) = All.more (a-copy (f _ x)) (carries-more f ps)
-
-outcome-carries : {t : Table} {e : Event} {d : Decision} → Outcome t e d → All (Carries (MaySee t e)) (d .packets)
-unfolding silence
-outcome-carries (silenced e n r) = All.none
-outcome-carries (opened c o) = settle-carries [] _ All.none
-outcome-carries (closed c o) = settle-carries [] _ All.none
-outcome-carries (serves c b d o r) = carries-more (λ l x. sees c b x) (served-carries r)
+-- each packet, by the reason why it is sent
+carries : {t : Table} {last : ℕ} {e : Event} {x : Send} → Sends t last e x → Carries (MaySee t e) x
+carries (Sends.an-error c b n h) = a-plain
+carries (Sends.no-job c b uniq q r) = a-plain
+carries (Sends.the-job c b uniq q p r) = an-assignment
+carries (Sends.handle-joined c b priority background f u size q p r) = a-plain
+carries (Sends.handle-made c b priority background f u size q l m) = a-plain
+carries {t} (Sends.a-copy c b how kind h n d q p r l m w) = a-copy (sees c b (subst (λ (a : Request). Sees c t a l) (sym q) (sees-work (record { place = p; held = r; listens = m }))))
+carries (Sends.a-status c b h q o r) = a-plain
+carries (Sends.an-option c b name q r) = a-plain
+carries {t} (Sends.an-echo c b q) = a-copy (sees c b (subst (λ (a : Request). Sees c t a c) (sym q) sees-echo))
+carries (Sends.a-noop l) = a-plain
 
 -- ---- the answer to the event itself
 
@@ -116,4 +76,4 @@ butTo-more f (All2.more (differs x l) rest) = All2.more (differs (f _ x) l) (but
 -- one event's opaque bytes alone are other ones: only packets to those who may see them differ, and only in their opaque part
 pub answer-to : {e f : Event} → Alike e f → (s : Server) → All2 (ButTo (MaySee (s .table) e)) (answer e s .sent) (answer f s .sent)
 unfolding answer
-answer-to {e} {f} a s = rw (← (decided-alike a s s refl)) (renders-to a s (outcome-carries (outcome e s)))
+answer-to {e} {f} a s = rw (← (decided-alike a s s refl)) (renders-to a s (all-more (λ x p. carries p) (packets-sent e s)))

@@ -3,12 +3,11 @@
 use Prim.Native.Nat.{ℕ, _+_, _^_, _<_, _≤_}
 use mathlib.Core.Path.{_≡_, refl, ap, sym, _∙_, subst}
 use mathlib.Core.Bool.{Bool, true, false, _&&_}
-use mathlib.Core.Option.{some}
-use mathlib.Core.List.{List, [], _∷_, _++_, map, append-nil}
+use mathlib.Core.List.{List, [], _∷_, _++_, append-nil}
 use native.Mathlib.Omega.{arith}
 use borrow.Author.Tests.{eqb-true, leb-true}
 use lib.ListN.{length, getD, length-append}
-use lib.Dec.{eqb, leb, ltb}
+use lib.Dec.{eqb, leb}
 use Rattle.octets.specs.Bytes.{Bytes, firstZero, zeroFree, bigEndian, numberAt}
 use Rattle.octets.proofs.Strings.{and-left, and-right, number-written}
 use Rattle.handle.specs.Handle.{handle, lap}
@@ -20,17 +19,15 @@ use Rattle.packet.specs.Opaque.{endsOpaque, hides, visible, opaque}
 use Rattle.packet_laws.proofs.Packets.{Headed, good-header, Laid, packet-laid}
 use Rattle.packet_laws.proofs.Separators.{Heads}
 use Rattle.packet_laws.proofs.Blindness.{Parted, parted-visible, parted-opaque, unhidden-visible, unhidden-opaque}
-use Rattle.lists.specs.Lists.{filter}
 use Rattle.server.specs.Sizes.{nameSize, uniqueSize}
-use Rattle.server.specs.Table.{Table, noFunction, noJob, functionAt, jobAt, live, queued, best}
+use Rattle.server.specs.Table.{Table, noFunction, noJob, functionAt, jobAt, live, queued}
 use Rattle.server.specs.Rules.{textWithin, storedNumber, together}
-use Rattle.server.specs.Requests.{Event, sends, Request, requestIn}
-use Rattle.server.specs.Events.{Send, plain, copy, assign, Decision, silence, refuse, settle, noop, dropped, toWake, hears, listenersOf}
+use Rattle.server.specs.Requests.{Event, sends}
+use Rattle.server.specs.Events.{Send, plain, copy, assign}
 use Rattle.server.specs.Server.{Server, Sent, render, answer}
 use Rattle.lists.proofs.Lists.{length-fit}
-use Rattle.server.specs.Refusals.{isTold}
-use Rattle.lists.proofs.Cases.{All, cond-both, all-append, all-map, all-any}
-use Rattle.server_laws.proofs.Outcome.{Change, Served, Outcome, outcome}
+use Rattle.lists.proofs.Cases.{All, all-map}
+use Rattle.server_laws.proofs.Packets.{Sends, packets-sent}
 use Rattle.lists.proofs.Rows.{implies-use, all-at, all-row}
 use Rattle.server_laws.proofs.Going.{best-found}
 use Rattle.server_laws.proofs.Obeyed.{obeyed}
@@ -108,22 +105,6 @@ module _ (e : Event) (s : Server) where
       go true q = apt-opaque (render e s (copy to kind)) (g .low) (omega (arith, g .small)) q (g .heads q)
       go false q = apt-plain (render e s (copy to kind)) (g .low) q (g .none q)
 
-  fits-noop : (c : ℕ) → Fits (noop c)
-  unfolding rulesOf responseShape
-  fits-noop c = fits-plain c 6 [] (omega arith) refl
-
-  -- the end of an event adds NOOP packets
-  fits-settled : (ss : List Send) (u : Table) → All Fits ss → All Fits (settle ss u .packets)
-  unfolding settle
-  fits-settled ss u p = all-append p (all-map noop {Q = λ l. Unit {0}} (λ l x. fits-noop l) (all-any (λ l. tt) (toWake (dropped u))))
-
-  fits-refused : (c n : ℕ) (t : Table) → All Fits (refuse c n t .packets)
-  unfolding refuse rulesOf responseShape
-  fits-refused c n t = cond-both (All Fits) (isTold n) (All.more (fits-plain c 19 _ (omega arith) refl) All.none) All.none
-
-  fits-copies : (kind : ℕ) → Forwarded e kind → (ls : List ℕ) → All Fits (map (λ l. copy l kind) ls)
-  fits-copies kind g ls = all-map (λ l. copy l kind) {Q = λ l. Unit {0}} (λ l x. fits-copy l kind g) (all-any (λ l. tt) ls)
-
 -- ---- assignments
 
 -- the texts of an unfinished job have no zero byte, and it is short enough
@@ -173,48 +154,23 @@ module _ (e : Event) (s : Server) (to p : ℕ) (x : Texts (s .table) p) where
 
 -- ---- every event
 
-module _ (n : ℕ) (s : Server) (h : Running n s) where
-  module _ (c : ℕ) (b : Bytes) where
-    abbrev e : Event
-    e = sends c b
-
-    fits-grabbed : (uniq : Bool) (p : ℕ) → best (s .table) c ≡ some p → All (Fits e s) (assign uniq c p ∷ [])
-    fits-grabbed uniq p r =
-        let (i, g) = best-found (s .table) c p r in
-        let l = and-left (live (jobAt (s .table) p .row)) _ (and-left (queued (jobAt (s .table) p .row)) _ g) in
-        All.more (fits-assigned e s c p (texts n s h p i l) uniq) All.none
-
-    fits-one : (kind : ℕ) (args : List Bytes) → kind < 2 ^ 32 → endsOpaque (rulesOf (responseShape kind)) ≡ false → All (Fits e s) (plain c kind args ∷ [])
-    fits-one kind args k q = All.more (fits-plain e s c kind args k q) All.none
-
-    fits-change : {a : Request} {ss : List Send} {u : Table} → requestIn b ≡ a → Change c (s .table) a ss u → All (Fits e s) ss
-    unfolding rulesOf responseShape
-    fits-change q (Change.able f k r) = All.none
-    fits-change q (Change.unknown f r) = All.none
-    fits-change q (Change.disabled f k r) = All.none
-    fits-change q (Change.identified i) = All.none
-    fits-change q Change.cleared = All.none
-    fits-change q Change.slept = All.none
-    fits-change q (Change.noJobFor uniq r) = fits-one 10 [] (omega arith) refl
-    fits-change q (Change.grabbed uniq p r) = fits-grabbed uniq p r
-    fits-change q (Change.joins priority background f u size p r) = fits-one 8 _ (omega arith) refl
-    fits-change q (Change.accepts priority background f u size k p r₁ r₂ r₃ l) = fits-one 8 _ (omega arith) refl
-    fits-change q (Change.worker how kind j x y p r) = fits-copies e s kind (work-forwarded c b how kind j x y q) (filter (hears how (s .table)) (listenersOf (s .table) (jobAt (s .table) p .row)))
-    fits-change q (Change.status j o r) = fits-one 20 _ (omega arith) refl
-    fits-change q (Change.optioned name r) = fits-one 27 _ (omega arith) refl
-    fits-change q Change.echoed = All.more (fits-copy e s c 17 (echo-forwarded c b q)) All.none
-
-    fits-served : {a : Request} {d : Decision} → requestIn b ≡ a → Served c (s .table) a d → All (Fits e s) (d .packets)
-    fits-served q (Served.refused a m r) = fits-refused e s c m (s .table)
-    fits-served q (Served.done a ss u m) = fits-settled e s ss u (fits-change q m)
-
-  fits-outcome : (e : Event) {d : Decision} → Outcome (s .table) e d → All (Fits e s) (d .packets)
-  unfolding silence
-  fits-outcome e (Outcome.silenced f m r) = All.none
-  fits-outcome e (Outcome.opened c o) = fits-settled e s [] _ All.none
-  fits-outcome e (Outcome.closed c o) = fits-settled e s [] _ All.none
-  fits-outcome e (Outcome.serves c b d o r) = fits-served c b refl r
+-- each packet, by the reason why it is sent
+fits-sent : (n : ℕ) (s : Server) → Running n s → {last : ℕ} {e : Event} {x : Send} → Sends (s .table) last e x → Fits e s x
+unfolding rulesOf responseShape
+fits-sent n s h (Sends.an-error c b m r) = fits-plain _ s c 19 _ (omega arith) refl
+fits-sent n s h (Sends.no-job c b uniq q r) = fits-plain _ s c 10 [] (omega arith) refl
+fits-sent n s h (Sends.the-job c b uniq q p r) =
+    let (i, g) = best-found (s .table) c p r in
+    let l = and-left (live (jobAt (s .table) p .row)) _ (and-left (queued (jobAt (s .table) p .row)) _ g) in
+    fits-assigned _ s c p (texts n s h p i l) uniq
+fits-sent n s h (Sends.handle-joined c b priority background f u size q p r) = fits-plain _ s c 8 _ (omega arith) refl
+fits-sent n s h (Sends.handle-made c b priority background f u size q l m) = fits-plain _ s c 8 _ (omega arith) refl
+fits-sent n s h (Sends.a-copy c b how kind j x y q p r l m w) = fits-copy _ s l kind (work-forwarded c b how kind j x y q)
+fits-sent n s h (Sends.a-status c b j q o r) = fits-plain _ s c 20 _ (omega arith) refl
+fits-sent n s h (Sends.an-option c b name q r) = fits-plain _ s c 27 _ (omega arith) refl
+fits-sent n s h (Sends.an-echo c b q) = fits-copy _ s c 17 (echo-forwarded c b q)
+fits-sent n s h (Sends.a-noop l) = fits-plain _ s l 6 [] (omega arith) refl
 
 pub sent-apt : (n : ℕ) (e : Event) (s : Server) → Running n s → All Apt (answer e s .sent)
 unfolding answer
-sent-apt n e s h = all-map (render e s) (λ x f. f) (fits-outcome n s h e (outcome e s))
+sent-apt n e s h = all-map (render e s) (λ x q. fits-sent n s h q) (packets-sent e s)

@@ -11,6 +11,7 @@ pub mod Going
 pub mod Closing
 pub mod Lengths
 pub mod Places
+pub mod Packets
 pub mod Serials
 pub mod Handles
 pub mod Changes
