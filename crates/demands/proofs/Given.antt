@@ -19,7 +19,7 @@ use Rattle.server.specs.Table.{Table, noJob, jobAt, live, hasHandle}
 use Rattle.server.specs.Requests.{Event, sends, Work, requestIn, work}
 use Rattle.server.specs.Events.{Send, plain, copy, assign, created}
 use Rattle.server.specs.Server.{Server, decided, next}
-use Rattle.server_laws.proofs.Packets.{Sends, packets-sent}
+use Rattle.server_laws.proofs.Packets.{Sends, why-sent}
 use Rattle.server_laws.proofs.Going.{best-found, grabbed-live, joined-found, joined-inside}
 use Rattle.demands.specs.Messages.{messageOf, messagesOf}
 use Rattle.demands.specs.Handles.{givesHandle, readingGives, given, stands}
@@ -121,4 +121,4 @@ any-gives e s m h (x ∷ xs) (All.more p ps) g = go (readingGives h (messageOf e
 -- whatever handle is given, it is that of an unfinished job or of the job that is made now
 pub given-known : (e : Event) (s : Server) (h : Bytes) → given h (messagesOf e s) ≡ true → Known s (next e s .table .last) h
 unfolding given messagesOf next
-given-known e s h g = any-gives e s _ h (decided e s .packets) (all-more (λ x q. gives-sent s q) (packets-sent e s)) g
+given-known e s h g = any-gives e s _ h (decided e s .packets) (all-more (λ x q. gives-sent s q) (why-sent e s)) g

@@ -17,7 +17,7 @@ use Rattle.server.specs.Requests.{Event}
 use Rattle.server.specs.Events.{Send, plain, copy, assign}
 use Rattle.server.specs.Server.{Server, decided, next}
 use Rattle.server.specs.Call.{serverIn}
-use Rattle.server_laws.proofs.Packets.{Sends, packets-sent}
+use Rattle.server_laws.proofs.Packets.{Sends, why-sent}
 use Rattle.server_laws.proofs.Serials.{Creation, nothing, one, creation, creates-grown}
 use Rattle.server_calls.specs.History.{Call, Memory, calls, leaves}
 use Rattle.server_calls.proofs.Histories.{LongOutputs}
@@ -68,7 +68,7 @@ module _ {e f : Event} (a : Alike e f) (s : Server) where
 
   pub itself-copies : All2 (ButCopies (s .table) e f) (messagesOf e s) (messagesOf f s)
   unfolding messagesOf
-  itself-copies = rw (← (decided-alike a s s refl)) (but-copies (all-more (λ x q. fair q) (packets-sent e s)))
+  itself-copies = rw (← (decided-alike a s s refl)) (but-copies (all-more (λ x q. fair q) (why-sent e s)))
 
 -- ---- events after one that made a job
 

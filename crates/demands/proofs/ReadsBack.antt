@@ -35,7 +35,7 @@ use Rattle.server.specs.Requests.{Event, sends, Work, requestIn, getStatus, ech
 use Rattle.server.specs.Refusals.{isTold, errorText, refusalTexts}
 use Rattle.server.specs.Events.{Send, plain, copy, assign, error, created, flag, statusOf, exceptionsName}
 use Rattle.server.specs.Server.{Server, Sent, render, shownBy, opaqueOf, decided}
-use Rattle.server_laws.proofs.Packets.{Sends, packets-sent}
+use Rattle.server_laws.proofs.Packets.{Sends, why-sent}
 use Rattle.server_laws.proofs.Going.{best-found}
 use Rattle.server_laws.proofs.Obeyed.{obeyed}
 use Rattle.server_laws.proofs.Sound.{jobNamed}
@@ -310,4 +310,4 @@ module _ (n : ℕ) (s : Server) (h : Running n s) where
   reads-sent (Sends.a-noop l) = reads-plain _ s l 6 [] (empty-sendable 6 refl refl)
 
 pub all-read : (n : ℕ) (e : Event) (s : Server) → Running n s → All (Reads e s) (decided e s .packets)
-all-read n e s h = all-more (λ x q. reads-sent n s h q) (packets-sent e s)
+all-read n e s h = all-more (λ x q. reads-sent n s h q) (why-sent e s)

@@ -13,7 +13,7 @@ use Rattle.server.specs.Requests.{Event, sends, Work, Request, echo, work, requ
 use Rattle.server.specs.Events.{Send, plain, copy, assign, holdsHandle}
 use Rattle.server.specs.Server.{Server, Sent, render, answer}
 use Rattle.lists.proofs.Cases.{All, All2, all-more}
-use Rattle.server_laws.proofs.Packets.{Sends, packets-sent}
+use Rattle.server_laws.proofs.Packets.{Sends, why-sent}
 use Rattle.server_blind.proofs.Alike.{Alike, Like, decided-alike, like-render}
 
 -- connection l listens to the job with this handle, which connection c holds
@@ -76,4 +76,4 @@ butTo-more f (All2.more (differs x l) rest) = All2.more (differs (f _ x) l) (but
 -- one event's opaque bytes alone are other ones: only packets to those who may see them differ, and only in their opaque part
 pub answer-to : {e f : Event} → Alike e f → (s : Server) → All2 (ButTo (MaySee (s .table) e)) (answer e s .sent) (answer f s .sent)
 unfolding answer
-answer-to {e} {f} a s = rw (← (decided-alike a s s refl)) (renders-to a s (all-more (λ x p. carries p) (packets-sent e s)))
+answer-to {e} {f} a s = rw (← (decided-alike a s s refl)) (renders-to a s (all-more (λ x p. carries p) (why-sent e s)))

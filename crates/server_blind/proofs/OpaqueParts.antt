@@ -27,7 +27,7 @@ use Rattle.server.specs.Events.{Send, plain, copy, assign}
 use Rattle.server.specs.Server.{Server, Sent, render, answer}
 use Rattle.lists.proofs.Lists.{length-fit}
 use Rattle.lists.proofs.Cases.{All, all-map}
-use Rattle.server_laws.proofs.Packets.{Sends, packets-sent}
+use Rattle.server_laws.proofs.Packets.{Sends, why-sent}
 use Rattle.lists.proofs.Rows.{implies-use, all-at, all-row}
 use Rattle.server_laws.proofs.Going.{best-found}
 use Rattle.server_laws.proofs.Obeyed.{obeyed}
@@ -173,4 +173,4 @@ fits-sent n s h (Sends.a-noop l) = fits-plain _ s l 6 [] (omega arith) refl
 
 pub sent-apt : (n : ℕ) (e : Event) (s : Server) → Running n s → All Apt (answer e s .sent)
 unfolding answer
-sent-apt n e s h = all-map (render e s) (λ x q. fits-sent n s h q) (packets-sent e s)
+sent-apt n e s h = all-map (render e s) (λ x q. fits-sent n s h q) (why-sent e s)

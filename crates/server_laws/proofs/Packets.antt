@@ -84,5 +84,5 @@ outcome-sends t (Outcome.closed c o) = settled-sends _ [] _ All.none
 outcome-sends t (Outcome.serves c b d o r) = served-sends c b t refl r
 
 -- every packet of every event
-pub packets-sent : (e : Event) (s : Server) → All (Sends (s .table) (decided e s .table .last) e) (decided e s .packets)
-packets-sent e s = outcome-sends (s .table) (outcome e s)
+pub why-sent : (e : Event) (s : Server) → All (Sends (s .table) (decided e s .table .last) e) (decided e s .packets)
+why-sent e s = outcome-sends (s .table) (outcome e s)
