@@ -26,8 +26,8 @@ use Rattle.plan.specs.Settling.{droppedRows}
 use Rattle.plan.specs.Parts.{ordered}
 use Rattle.plan.specs.Busy.{busySet, toWakeSet}
 use Rattle.plan_settle.proofs.Sleepers.{to-wake-busy}
-use Rattle.carry_packet.specs.Messages.{message, messages, createdArguments, optionArguments, statusArguments}
-use Rattle.carry_packet.proofs.Rendered.{created-rendered, no-job-rendered, option-rendered, status-rendered, copies-rendered, echo-rendered, none-rendered, noops-rendered, appended-rendered}
+use Rattle.carry_packet.specs.Messages.{message, messages, toldMessages, handleArguments, optionArguments, statusArguments}
+use Rattle.carry_packet.proofs.Rendered.{created-rendered, no-job-rendered, option-rendered, status-rendered, copies-rendered, all-told-rendered, echo-rendered, none-rendered, noops-rendered, appended-rendered}
 use Rattle.carry_output.specs.Ordered.{bytesSent, orderBytes, answerBytes}
 
 -- ---- what a function of `carry_packet` lays, by another name
@@ -57,7 +57,7 @@ module _ (order : O′.Order) (c kind : ℕ) (h p t w : Bytes) where
   pub nothing-laid : order ≡ OV.Nothing → (o : Bytes) → (0 ≡ length (orderBytes order c kind h p t w)) × (o ≡ put 0 (orderBytes order c kind h p t w) o)
   nothing-laid e o = (ap length (nothing-order e), sym (put-none 0 o) ∙ ap (λ (s : Bytes). put 0 s o) (nothing-order e))
 
-  pub created-order : (serial : ℕ) → order ≡ OV.Created serial → message c 8 (join (createdArguments serial)) ≡ orderBytes order c kind h p t w
+  pub created-order : (serial : ℕ) → order ≡ OV.Created serial → message c 8 (join (handleArguments serial)) ≡ orderBytes order c kind h p t w
   unfolding orderBytes bytesSent ordered
   created-order serial e = created-rendered (sends c p) (serverIn connectionCount t w) c serial ∙ known (OV.Created serial) e
 
@@ -77,6 +77,11 @@ module _ (order : O′.Order) (c kind : ℕ) (h p t w : Bytes) where
   pub copies-order : (to : ℕ) → 12 ≤ length p → order ≡ OV.Copies to → messages (members connectionCount to) kind (drop 12 p) ≡ orderBytes order c kind h p t w
   unfolding orderBytes bytesSent ordered
   copies-order to long e = copies-rendered c p (serverIn connectionCount t w) long kind (members connectionCount to) ∙ known (OV.Copies to) e
+
+  pub told-order : (to heard serial : ℕ) → 12 ≤ length p → order ≡ OV.Told to heard serial
+      → toldMessages (members connectionCount to) heard kind (drop 12 p) (join (handleArguments serial)) ≡ orderBytes order c kind h p t w
+  unfolding orderBytes bytesSent ordered
+  told-order to heard serial long e = all-told-rendered c p (serverIn connectionCount t w) long heard kind serial (members connectionCount to) ∙ known (OV.Told to heard serial) e
 
   pub echo-order : 12 ≤ length p → order ≡ OV.Echo → message c 17 (drop 12 p) ≡ orderBytes order c kind h p t w
   unfolding orderBytes bytesSent ordered

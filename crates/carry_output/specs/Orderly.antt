@@ -20,6 +20,7 @@ Orderly (OV.Created serial) t p ends kind h = 0 ≤ 0
 Orderly OV.NoJob t p ends kind h = 0 ≤ 0
 Orderly (OV.Assign uniq q) t p ends kind h = (q < jobCount) × (live (jobAt t q .row) ≡ true)
 Orderly (OV.Copies to) t p ends kind h = Forwards p ends kind
+Orderly (OV.Told to heard serial) t p ends kind h = Forwards p ends kind
 Orderly OV.Echo t p ends kind h = Forwards p ends 17
 Orderly (OV.Status q) t p ends kind h = (q < jobCount) × (live (jobAt t q .row) ≡ true) × (fits L.handle h ≡ true)
 Orderly OV.Unknown t p ends kind h = fits L.handle h ≡ true

@@ -108,6 +108,9 @@ pub fn send_order(
         Order::NoJob => carry_packet::send_empty(output, 0, c, 10),
         Order::Assign { uniq, place } => send_job(output, c, uniq, place, table, workloads),
         Order::Copies { to } => carry_packet::forward_all(output, 0, to, kind, packet, ends),
+        Order::Told { to, heard, serial } => {
+            carry_packet::tell_all(output, 0, to, heard, kind, packet, ends, serial)
+        }
         Order::Echo => carry_packet::forward(output, 0, c, 17, packet, ends),
         Order::Status { place } => send_progress(output, c, place, table, job),
         Order::Unknown => carry_packet::send_status(output, 0, c, job, false, false, b"0", b"0"),

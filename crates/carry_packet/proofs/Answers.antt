@@ -1,7 +1,7 @@
 -- The packets that the server makes itself: what the code lays is made of the defined arguments, and they are short.
 -- Assumes nothing.
 use Prim.Native.Nat.{ℕ, zero, suc, _+_, _-_, _/_, _%_, _<_, _≤_}
-use mathlib.Core.Path.{_≡_, refl, sym, _∙_}
+use mathlib.Core.Path.{_≡_, refl, ap, sym, _∙_}
 use mathlib.Core.Bool.{Bool, true, false, not, cond}
 use mathlib.Core.List.{List, [], _∷_, map}
 use native.Mathlib.Nat.{le-of-suc-le-suc, not-suc-le-zero}
@@ -24,7 +24,7 @@ use Rattle.handle.proofs.Printing.{printed-front}
 use Rattle.packet_kinds.proofs.Tests.{at-place}
 use Rattle.server.specs.Refusals.{refusalTexts, lastNumber, errorText, isTold}
 use Rattle.server.specs.Events.{flag}
-use Rattle.carry_packet.specs.Messages.{Sendable, errorArguments, createdArguments, message, statusArguments, assignArguments}
+use Rattle.carry_packet.specs.Messages.{Sendable, errorArguments, handleArguments, message, statusArguments, assignArguments}
 use Rattle.carry_packet.proofs.Laid.{five-long, message-room, two-long}
 
 -- ---- no data: 10 NO_JOB
@@ -89,9 +89,16 @@ module _ (to n : ℕ) (t : Bytes) (size : ℕ) (et : t ≡ padded 9 (errorText n
 -- ---- handles: the front of the printed text, as long as it says
 
 module _ (w : Handle) (n : ℕ) (e : w ≡ printed (handle lap n)) where
-  pub created-message : (to : ℕ) → message to 8 (take (w .length) (w .text)) ≡ message to 8 (join (createdArguments n))
-  unfolding join createdArguments
-  created-message to = rw (printed-front w n e)
+  pub printed-data : take (w .length) (w .text) ≡ join (handleArguments n)
+  unfolding join handleArguments
+  printed-data = printed-front w n e
+
+  pub handle-short : length (join (handleArguments n)) ≤ 16
+  unfolding join handleArguments
+  handle-short = handle-most lap n
+
+  pub created-message : (to : ℕ) → message to 8 (take (w .length) (w .text)) ≡ message to 8 (join (handleArguments n))
+  created-message to = ap (message to 8) printed-data
 
   pub printed-short : length (take (w .length) (w .text)) ≤ 16
   printed-short = rw (printed-front w n e) (handle-most lap n)

@@ -15,34 +15,39 @@ use Rattle.octets.specs.Put.{put}
 use Rattle.octets.proofs.Strings.{and-left}
 use Rattle.octets.proofs.Laying.{put-none, put-put}
 use Rattle.sets.specs.Sets.{has, members}
+use Rattle.sets.proofs.Members.{map-members}
+use Rattle.lists.specs.Lists.{concat}
 use Rattle.server.specs.Sizes.{connectionCount}
-use Rattle.carry_packet.specs.Messages.{message, messages, messageIf}
-
-messages-append : (ls ms : List ℕ) (kind : ℕ) (d : Bytes) → messages (ls ++ ms) kind d ≡ messages ls kind d ++ messages ms kind d
-unfolding messages
-messages-append [] ms kind d = refl
-messages-append (l ∷ ls) ms kind d = ap (λ (r : Bytes). message l kind d ++ r) (messages-append ls ms kind d) ∙ sym (append-assoc (message l kind d) _ _)
+use Rattle.carry_packet.specs.Messages.{message, messages, messageIf, toldMessage, toldMessages}
 
 -- the loop's test finds more only below the number of connections
 pub turn-below : (s c : ℕ) (b : Bool) → b ≡ ltb c connectionCount && ltb 0 (s / 2 ^ c) → b ≡ true → c < connectionCount
 turn-below s c b e t = ltb-true c connectionCount (and-left (ltb c connectionCount) (ltb 0 (s / 2 ^ c)) (sym e ∙ t))
 
-module _ (s kind : ℕ) (d : Bytes) where
+module _ (s heard kind : ℕ) (d failed : Bytes) where
+  abbrev one : ℕ → Bytes
+  one c = messageIf s heard kind d failed c
+
   -- to the members below n
   abbrev pub below : ℕ → Bytes
-  below n = messages (members n s) kind d
+  below n = toldMessages (members n s) heard kind d failed
 
-  one-more : (c : ℕ) (b : Bool) → messages (cond b (c ∷ []) []) kind d ≡ cond b (message c kind d) []
-  unfolding messages
-  one-more c true = append-nil (message c kind d)
+  told-append : (ls ms : List ℕ) → toldMessages (ls ++ ms) heard kind d failed ≡ toldMessages ls heard kind d failed ++ toldMessages ms heard kind d failed
+  unfolding toldMessages
+  told-append [] ms = refl
+  told-append (l ∷ ls) ms = ap (λ (r : Bytes). toldMessage heard kind d failed l ++ r) (told-append ls ms) ∙ sym (append-assoc (toldMessage heard kind d failed l) _ _)
+
+  one-more : (c : ℕ) (b : Bool) → toldMessages (cond b (c ∷ []) []) heard kind d failed ≡ cond b (toldMessage heard kind d failed c) []
+  unfolding toldMessages
+  one-more c true = append-nil (toldMessage heard kind d failed c)
   one-more c false = refl
 
-  below-more : (c : ℕ) → below (suc c) ≡ below c ++ messageIf s c kind d
+  below-more : (c : ℕ) → below (suc c) ≡ below c ++ one c
   unfolding members messageIf
-  below-more c = messages-append (members c s) _ kind d ∙ ap (λ (r : Bytes). below c ++ r) (one-more c (has s c))
+  below-more c = told-append (members c s) _ ∙ ap (λ (r : Bytes). below c ++ r) (one-more c (has s c))
 
-  more-long : (c : ℕ) → length (below (suc c)) ≡ length (below c) + length (messageIf s c kind d)
-  more-long c = ap length (below-more c) ∙ length-append (below c) (messageIf s c kind d)
+  more-long : (c : ℕ) → length (below (suc c)) ≡ length (below c) + length (one c)
+  more-long c = ap length (below-more c) ∙ length-append (below c) (one c)
 
   -- more members, more bytes
   below-grows : (c k : ℕ) → length (below c) ≤ length (below (c + k))
@@ -61,7 +66,7 @@ module _ (s kind : ℕ) (d : Bytes) where
   below-same c zero e = rw add-zero
   below-same c (suc k) e =
       let q : c + suc k ≡ suc (c + k) = omega arith in
-      let r : messageIf s (c + k) kind d ≡ [] = rw (lacks c k e) in
+      let r : one (c + k) ≡ [] = rw (lacks c k e) in
       below-same c k e ∙ rw (q, below-more (c + k), r) (sym (append-nil (below (c + k))))
 
   -- where it finds no more, all are behind
@@ -78,41 +83,45 @@ module _ (s kind : ℕ) (d : Bytes) where
   -- ---- one connection, in or not in the set
 
   module _ (c : ℕ) (b : Bool) (e : b ≡ has s c) where
-    pub stranger-place : not b ≡ true → (at : ℕ) → at ≡ at + length (messageIf s c kind d)
+    pub stranger-place : not b ≡ true → (at : ℕ) → at ≡ at + length (one c)
     unfolding messageIf
     stranger-place h at = rw (← e, not-true b h) (omega arith)
 
-    pub stranger-laid : not b ≡ true → (at : ℕ) (out : Bytes) → out ≡ put at (messageIf s c kind d) out
+    pub stranger-laid : not b ≡ true → (at : ℕ) (out : Bytes) → out ≡ put at (one c) out
     unfolding messageIf
     stranger-laid h at out = rw (← e, not-true b h) (sym (put-none at out))
 
-    pub member-is : not b ≡ false → messageIf s c kind d ≡ message c kind d
-    unfolding messageIf
-    member-is h = rw (← e, not-false b h)
+    pub heard-is : not b ≡ false → (a : Bool) → a ≡ has heard c → a ≡ true → one c ≡ message c kind d
+    unfolding messageIf toldMessage
+    heard-is h a g i = rw (← e, not-false b h, ← g, i)
+
+    pub failed-is : not b ≡ false → (a : Bool) → a ≡ has heard c → a ≡ false → one c ≡ message c 14 failed
+    unfolding messageIf toldMessage
+    failed-is h a g i = rw (← e, not-false b h, ← g, i)
 
   -- ---- the loop
 
   module _ (at : ℕ) (out : Bytes) where
     pub start-place : at ≡ at + length (below 0)
-    unfolding members messages
+    unfolding members toldMessages
     start-place = omega arith
 
     pub start-laid : out ≡ put at (below 0) out
-    unfolding members messages
+    unfolding members toldMessages
     start-laid = sym (put-none at out)
 
     module _ (c place : ℕ) (ep : place ≡ at + length (below c)) where
-      pub turn-room : (o : Bytes) → c < connectionCount → length o ≡ length out → at + length (below connectionCount) ≤ length out → place + length (messageIf s c kind d) ≤ length o
+      pub turn-room : (o : Bytes) → c < connectionCount → length o ≡ length out → at + length (below connectionCount) ≤ length out → place + length (one c) ≤ length o
       turn-room o h l room =
           let q : suc c + (connectionCount - suc c) ≡ connectionCount = omega arith in
           let g : length (below (suc c)) ≤ length (below connectionCount) = rw q at (below-grows (suc c) (connectionCount - suc c)) in
           omega (arith, more-long c, g)
 
-      pub turn-place : (r : ℕ) → r ≡ place + length (messageIf s c kind d) → r ≡ at + length (below (c + 1))
+      pub turn-place : (r : ℕ) → r ≡ place + length (one c) → r ≡ at + length (below (c + 1))
       turn-place r e = rw (add-one c) (omega (arith, more-long c))
 
-      pub turn-laid : (o p : Bytes) → o ≡ put at (below c) out → p ≡ put place (messageIf s c kind d) o → p ≡ put at (below (c + 1)) out
-      turn-laid o p eo e = rw (e, eo, ep, add-one c, below-more c) (put-put at (below c) (messageIf s c kind d) out)
+      pub turn-laid : (o p : Bytes) → o ≡ put at (below c) out → p ≡ put place (one c) o → p ≡ put at (below (c + 1)) out
+      turn-laid o p eo e = rw (e, eo, ep, add-one c, below-more c) (put-put at (below c) (one c) out)
 
     module _ (c : ℕ) (h : c ≤ connectionCount) (b : Bool) (e : b ≡ ltb c connectionCount && ltb 0 (s / 2 ^ c)) (n : b ≡ false) where
       pub end-place : (r : ℕ) → r ≡ at + length (below c) → r ≡ at + length (below connectionCount)
@@ -120,3 +129,10 @@ module _ (s kind : ℕ) (d : Bytes) where
 
       pub end-laid : (o : Bytes) → o ≡ put at (below c) out → o ≡ put at (below connectionCount) out
       end-laid o p = p ∙ ap (λ (x : Bytes). put at x out) (all-below c h b e n)
+
+-- ---- all hear it
+
+-- then each gets the same packet
+pub all-hear : (n s kind : ℕ) (d failed : Bytes) → toldMessages (members n s) s kind d failed ≡ messages (members n s) kind d
+unfolding messages toldMessages toldMessage
+all-hear n s kind d failed = ap concat (map-members _ _ n s (λ l h e. ap (λ (b : Bool). cond b (message l kind d) (message l 14 failed)) e))

@@ -32,9 +32,17 @@ ended a = a ++ (0 ∷ [])
 unfoldable pub messages : List ℕ → ℕ → Bytes → Bytes
 messages ls kind d = concat (map (λ l. message l kind d) ls)
 
+-- to one connection: this packet, if it belongs to those who hear it, and otherwise WORK_FAIL with other data
+unfoldable pub toldMessage : ℕ → ℕ → Bytes → Bytes → ℕ → Bytes
+toldMessage heard kind d failed l = cond (has heard l) (message l kind d) (message l 14 failed)
+
+-- to each of several connections, in their order
+unfoldable pub toldMessages : List ℕ → ℕ → ℕ → Bytes → Bytes → Bytes
+toldMessages ls heard kind d failed = concat (map (toldMessage heard kind d failed) ls)
+
 -- to connection c if it belongs to the set
-unfoldable pub messageIf : ℕ → ℕ → ℕ → Bytes → Bytes
-messageIf s c kind d = cond (has s c) (message c kind d) []
+unfoldable pub messageIf : ℕ → ℕ → ℕ → Bytes → Bytes → ℕ → Bytes
+messageIf s heard kind d failed c = cond (has s c) (toldMessage heard kind d failed c) []
 
 -- the arguments are those that a response of this type asks for, and not too much data
 pub record Sendable (kind : ℕ) (as′ : List Bytes) : Type 0 where
@@ -56,9 +64,9 @@ pub record Forwards (p : Bytes) (ends : Ends) (kind : ℕ) : Type 0 where
 unfoldable pub errorArguments : ℕ → List Bytes
 errorArguments n = ((n / 10 + 48) ∷ (n % 10 + 48) ∷ []) ∷ errorText n ∷ []
 
--- 8 JOB_CREATED
-unfoldable pub createdArguments : ℕ → List Bytes
-createdArguments serial = handle lap serial ∷ []
+-- 8 JOB_CREATED and 14 WORK_FAIL
+unfoldable pub handleArguments : ℕ → List Bytes
+handleArguments serial = handle lap serial ∷ []
 
 -- 20 STATUS_RES
 unfoldable pub statusArguments : Bytes → Bool → Bool → Bytes → Bytes → List Bytes

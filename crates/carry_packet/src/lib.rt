@@ -15,7 +15,7 @@ ghost use Rattle.sets.specs.Sets.{members};
 ghost use Rattle.handle.specs.Handle.{padded};
 ghost use Rattle.server.specs.Sizes.{connectionCount};
 ghost use Rattle.server.specs.Refusals.{errorText, isTold, lastNumber};
-ghost use Rattle.carry_packet.specs.Messages.{Forwards, Sendable, assignArguments, createdArguments, ended, errorArguments, heading, message, messageIf, messages, optionArguments, statusArguments};
+ghost use Rattle.carry_packet.specs.Messages.{Forwards, Sendable, assignArguments, handleArguments, ended, errorArguments, heading, message, messageIf, messages, optionArguments, statusArguments, toldMessages};
 
 // The texts of the refusals by number, each followed by zeros; nothing but zeros where nothing is written.
 const TEXTS: [[u8; 9]; 16] = [
@@ -55,15 +55,27 @@ fn send(out: &mut [u8], at: usize, to: u8, kind: u32, d: &[u8]) -> usize
     octets::put(out, start, d)
 }
 
-// Lays it, if the connection belongs to the set.
-fn send_if(out: &mut [u8], at: usize, set: u32, c: usize, kind: u32, d: &[u8]) -> usize
-    requires { ⌜ (c < connectionCount) × (length (now d) < 2 ^ 32) × (at + length (messageIf set c kind (now d)) ≤ length (now out)) ⌝ }
-    ensures { λ r. ⌜ (r ≡ at + length (messageIf set c kind (now (d .entry)))) × (now (out .exit) ≡ put at (messageIf set c kind (now (d .entry))) (now (out .entry))) ⌝ }
+// Lays a response with this data for a connection that hears it, and WORK_FAIL for one that does not; nothing, if it is not in the set.
+fn send_if(
+    out: &mut [u8],
+    at: usize,
+    set: u32,
+    heard: u32,
+    c: usize,
+    kind: u32,
+    d: &[u8],
+    failed: &[u8],
+) -> usize
+    requires { ⌜ (c < connectionCount) × (length (now d) < 2 ^ 32) × (length (now failed) < 2 ^ 32) × (at + length (messageIf set heard kind (now d) (now failed) c) ≤ length (now out)) ⌝ }
+    ensures { λ r. ⌜ (r ≡ at + length (messageIf set heard kind (now (d .entry)) (now (failed .entry)) c)) × (now (out .exit) ≡ put at (messageIf set heard kind (now (d .entry)) (now (failed .entry)) c) (now (out .entry))) ⌝ }
 {
     if !sets::has(set, c) {
         return at;
     }
-    send(out, at, c as u8, kind, d)
+    if sets::has(heard, c) {
+        return send(out, at, c as u8, kind, d);
+    }
+    send(out, at, c as u8, 14, failed)
 }
 
 // Whether there is more to look at: there is a connection `c`, and the set is not empty from it on.
@@ -76,15 +88,24 @@ fn has_more(set: u32, c: usize) -> bool
     0 < set >> c
 }
 
-// Lays a copy for each connection of the set, in rising order; none is looked for behind the last.
-fn send_all(out: &mut [u8], at: usize, to: u32, kind: u32, d: &[u8]) -> usize
-    requires { ⌜ (length (now d) < 2 ^ 32) × (at + length (messages (members connectionCount to) kind (now d)) ≤ length (now out)) ⌝ }
-    ensures { λ r. ⌜ (r ≡ at + length (messages (members connectionCount to) kind (now (d .entry)))) × (now (out .exit) ≡ put at (messages (members connectionCount to) kind (now (d .entry))) (now (out .entry))) ⌝ }
+// Lays one packet for each connection of the set, in rising order; none is looked for behind the last.
+fn send_all(
+    out: &mut [u8],
+    at: usize,
+    to: u32,
+    heard: u32,
+    kind: u32,
+    d: &[u8],
+    failed: &[u8],
+) -> usize
+    requires { ⌜ (length (now d) < 2 ^ 32) × (length (now failed) < 2 ^ 32) × (at + length (toldMessages (members connectionCount to) heard kind (now d) (now failed)) ≤ length (now out)) ⌝ }
+    ensures { λ r. ⌜ (r ≡ at + length (toldMessages (members connectionCount to) heard kind (now (d .entry)) (now (failed .entry))))
+        × (now (out .exit) ≡ put at (toldMessages (members connectionCount to) heard kind (now (d .entry)) (now (failed .entry))) (now (out .entry))) ⌝ }
 {
     let mut place = at;
     let mut listener: usize = 0;
     while has_more(to, listener) {
-        place = send_if(out, place, to, listener, kind, d);
+        place = send_if(out, place, to, heard, listener, kind, d, failed);
         listener += 1;
     }
     place
@@ -140,8 +161,8 @@ pub fn send_error(out: &mut [u8], at: usize, to: u8, number: u8) -> usize
 
 // Lays JOB_CREATED: the handle of a serial.
 pub fn send_created(out: &mut [u8], at: usize, to: u8, serial: u32) -> usize
-    requires { ⌜ at + length (message to 8 (join (createdArguments serial))) ≤ length (now out) ⌝ }
-    ensures { λ r. ⌜ (r ≡ at + length (message to 8 (join (createdArguments serial)))) × (now (out .exit) ≡ put at (message to 8 (join (createdArguments serial))) (now (out .entry))) ⌝ }
+    requires { ⌜ at + length (message to 8 (join (handleArguments serial))) ≤ length (now out) ⌝ }
+    ensures { λ r. ⌜ (r ≡ at + length (message to 8 (join (handleArguments serial)))) × (now (out .exit) ≡ put at (message to 8 (join (handleArguments serial))) (now (out .entry))) ⌝ }
 {
     let created = handle::handle_of(serial);
     let text = created.text;
@@ -276,7 +297,37 @@ pub fn forward_all(
     requires { ⌜ Forwards (now packet) ends kind × (at + length (messages (members connectionCount to) kind (drop 12 (now packet))) ≤ length (now out)) ⌝ }
     ensures { λ r. ⌜ (r ≡ at + length (messages (members connectionCount to) kind (drop 12 (now (packet .entry))))) × (now (out .exit) ≡ put at (messages (members connectionCount to) kind (drop 12 (now (packet .entry)))) (now (out .entry))) ⌝ }
 {
-    send_all(out, at, to, kind, &packet[12..])
+    send_all(out, at, to, to, kind, &packet[12..], b"")
+}
+
+// Lays a copy of a packet's data for each connection of the set that hears it, and WORK_FAIL with the handle of a serial for the others,
+// in one rising order.
+pub fn tell_all(
+    out: &mut [u8],
+    at: usize,
+    to: u32,
+    heard: u32,
+    kind: u32,
+    packet: &[u8],
+    ends: Ends,
+    serial: u32,
+) -> usize
+    requires { ⌜ Forwards (now packet) ends kind
+        × (at + length (toldMessages (members connectionCount to) heard kind (drop 12 (now packet)) (join (handleArguments serial))) ≤ length (now out)) ⌝ }
+    ensures { λ r. ⌜ (r ≡ at + length (toldMessages (members connectionCount to) heard kind (drop 12 (now (packet .entry))) (join (handleArguments serial))))
+        × (now (out .exit) ≡ put at (toldMessages (members connectionCount to) heard kind (drop 12 (now (packet .entry))) (join (handleArguments serial))) (now (out .entry))) ⌝ }
+{
+    let failed = handle::handle_of(serial);
+    let text = failed.text;
+    send_all(
+        out,
+        at,
+        to,
+        heard,
+        kind,
+        &packet[12..],
+        &text[..failed.length],
+    )
 }
 
 // Lays a NOOP for each connection of the set, in rising order.
@@ -284,5 +335,5 @@ pub fn wake_all(out: &mut [u8], at: usize, to: u32) -> usize
     requires { ⌜ at + length (messages (members connectionCount to) 6 []) ≤ length (now out) ⌝ }
     ensures { λ r. ⌜ (r ≡ at + length (messages (members connectionCount to) 6 [])) × (now (out .exit) ≡ put at (messages (members connectionCount to) 6 []) (now (out .entry))) ⌝ }
 {
-    send_all(out, at, to, 6, b"")
+    send_all(out, at, to, to, 6, b"", b"")
 }

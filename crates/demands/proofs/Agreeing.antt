@@ -71,12 +71,14 @@ module _ (n : ℕ) (m : Memory) (hub : Hub n m) (x : Call) (l : Long n x) where
   hidden-sent e r [] = refl
   hidden-sent e r (y ∷ ys) = rw (hidden-sent e r ys)
 
+  -- its packets, as they lie in the output
+  pub call-packets : packetsIn (written (callOn n m x)) ≡ map (sentAs (x .event) s) (decided (x .event) s .packets)
+  unfolding answer
+  call-packets = ap packetsIn call-written ∙ packets-sent (x .event) s (decided (x .event) s .packets) (all-read n (x .event) s (hub-runs n m hub))
+
   call-hidden : hiddenIn (packetsIn (written (callOn n m x))) ≡ covered (answer (x .event) s .sent)
   unfolding answer
-  call-hidden =
-      ap (λ (b : Bytes). hiddenIn (packetsIn b)) call-written
-      ∙ ap hiddenIn (packets-sent (x .event) s (decided (x .event) s .packets) (all-read n (x .event) s (hub-runs n m hub)))
-      ∙ hidden-sent (x .event) s (decided (x .event) s .packets)
+  call-hidden = ap hiddenIn call-packets ∙ hidden-sent (x .event) s (decided (x .event) s .packets)
 
 -- ---- two calls
 

@@ -2,7 +2,7 @@
 -- (`Hub`): a fresh table is one, and whatever calls leave is one. Assumes nothing.
 use Prim.Native.Nat.{ℕ}
 use mathlib.Core.Path.{_≡_}
-use mathlib.Core.Bool.{true, false, _||_, _&&_}
+use mathlib.Core.Bool.{true, false, _||_}
 use mathlib.Core.List.{List}
 use lib.ListN.{take, drop}
 use Rattle.octets.specs.Bytes.{Bytes, every}
@@ -25,9 +25,9 @@ use Rattle.command.specs.Say.{say}
 use Rattle.demands.specs.Messages.{told, argumentsOf}
 use Rattle.demands.specs.Answered.{Answered}
 use Rattle.demands.specs.Conditions.{first, conditions, lineConditions, typeOf}
-use Rattle.demands.specs.Listening.{heard, listens, wants, EachOnce}
+use Rattle.demands.specs.Listening.{heard, listens, resultFor, EachOnce}
 use Rattle.demands.specs.Exact.{Walk}
-use Rattle.demands.specs.Blind.{AlikeResults, One}
+use Rattle.demands.specs.Blind.{AlikeResults, One, OneException}
 use Rattle.demands.specs.Commands.{Said, Listed, Counted, SameText}
 use Rattle.demands.specs.Handles.{given, stands, isMade, readingTells, Spent}
 use Rattle.demands.specs.Hub.{Hub, Room, Long, callOn, kept, afterCalls, resultsOf, tableIn, serverOf, freshMemory, restarted}
@@ -41,6 +41,7 @@ use Rattle.demands.proofs.Results.{calls-heard, call-tells-each, fresh-
 use Rattle.demands.proofs.Unmasked.{request-read}
 use Rattle.demands.proofs.Agreeing.{histories-agree}
 use Rattle.demands.proofs.OneChanged.{one-changed}
+use Rattle.demands.proofs.Exceptions.{one-exception}
 use Rattle.demands.proofs.Commands.{say-said, say-readable, say-number, hub-lists, hub-counts, texts-alike}
 
 -- ---- the memory
@@ -115,16 +116,16 @@ module _ (n : ℕ) (m : Memory) (hub : Hub n m) where
       → listens c h (tableIn n (afterCalls n xs m)) ≡ heard c h (listens c h (tableIn n m)) xs (resultsOf n xs m)
   listeners-told c h xs = calls-heard n c h xs m hub
 
-  -- a worker packet that is done: one copy, with its data as it came, to each listener of the very job that it names, in rising order, of
-  -- type 25 to those alone that set the option; and no other packet at all
+  -- a worker packet that is done: one packet to each listener of the very job that it names, in rising order, and no other packet at all. It
+  -- is a copy, with the data as it came; of type 25 only where the listener set the option, and otherwise WORK_FAIL with the handle
   pub results-go : (x : Call) → Long n x → (d : ℕ) (b h : Bytes) → x .event ≡ sends d b → readingTells h (read requests b) ≡ true → callOn n m x .number ≡ 0
-      → EachOnce (λ l. listens l h (tableIn n m) && wants (tableIn n m) (typeOf b) l) (typeOf b) (argumentsOf (sends d b)) (told (callOn n m x))
+      → EachOnce (λ l. listens l h (tableIn n m)) (resultFor (tableIn n m) (typeOf b) (argumentsOf (sends d b)) h) (told (callOn n m x))
   results-go = call-tells-each n m hub
 
 -- both together, from a fresh table on: a result goes exactly to those who were told this very handle since their open
 pub results-told : (n : ℕ) (t w : Bytes) → Room n t w → (xs : List Call) → LongOutputs n xs → let m = freshMemory n t w in let u = afterCalls n xs m in
     (x : Call) → Long n x → (d : ℕ) (b h : Bytes) → x .event ≡ sends d b → readingTells h (read requests b) ≡ true → callOn n u x .number ≡ 0
-    → EachOnce (λ l. heard l h false xs (resultsOf n xs m) && wants (tableIn n u) (typeOf b) l) (typeOf b) (argumentsOf (sends d b)) (told (callOn n u x))
+    → EachOnce (λ l. heard l h false xs (resultsOf n xs m)) (resultFor (tableIn n u) (typeOf b) (argumentsOf (sends d b)) h) (told (callOn n u x))
 results-told n t w r = fresh-results n (r .few) t w (r .longTable) (r .longWorkloads)
 
 -- ---- demand 3
@@ -140,6 +141,12 @@ demand-3 = histories-agree
 pub demand-3-one : (n : ℕ) (m w : Memory) → Hub n m → Hub n w → serverOf n m ≡ serverOf n w → (x y : Call) → Long n x → Long n y → Alike (x .event) (y .event)
     → {xs ys : List Call} → SameEvents xs ys → LongOutputs n xs → LongOutputs n ys → One n m w x y xs ys
 demand-3-one = one-changed
+
+-- the changed packet is WORK_EXCEPTION. 02, ask 3: "a changed exception may show only in the copies that carry it; the WORK_FAIL packets agree":
+-- of the packets that it sends only those of type 25 differ, to listeners that set the option, and no packet later
+pub demand-3-exception : (n : ℕ) (m w : Memory) → Hub n m → Hub n w → serverOf n m ≡ serverOf n w → (x y : Call) → Long n x → Long n y → Alike (x .event) (y .event)
+    → (c : ℕ) (b : Bytes) → x .event ≡ sends c b → typeOf b ≡ 25 → {xs ys : List Call} → SameEvents xs ys → LongOutputs n xs → LongOutputs n ys → OneException n m w x y xs ys
+demand-3-exception = one-exception
 
 -- ---- text commands: 02, ask 1
 

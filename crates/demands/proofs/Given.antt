@@ -104,6 +104,7 @@ gives-sent s (Sends.the-job c b uniq q p r) = gives-assigned _ s _ uniq c p (bes
 gives-sent s (Sends.handle-joined c b priority background f u size q p r) = gives-joined _ s _ c p (joined-inside (s .table) f u p r) (joined-found (s .table) f u p r)
 gives-sent s (Sends.handle-made c b priority background f u size q l z) = gives-made _ s _ c l z
 gives-sent s (Sends.a-copy c b how kind j x y q p r l i w) = gives-copy _ s _ l kind (work-gives-none b how kind j x y q)
+gives-sent s (Sends.a-failure c b how kind j x y q p r l i w) = gives-plain _ s _ l 14 _ refl
 gives-sent s (Sends.a-status c b h q o r) = gives-plain _ s _ c 20 _ refl
 gives-sent s (Sends.an-option c b name q r) = gives-plain _ s _ c 27 _ refl
 gives-sent s (Sends.an-echo c b q) = gives-copy _ s _ c 17 refl

@@ -31,6 +31,7 @@ use Rattle.server_calls.proofs.Follows.{Running, running-next}
 use Rattle.demands.specs.Messages.{messageOf, messagesOf}
 use Rattle.demands.specs.Handles.{given, stands, isMade, isWork, readingTells, firstIs, readingGives}
 use Rattle.demands.proofs.Unmasked.{request-read}
+use Rattle.demands.proofs.Numbers.{throwing}
 use Rattle.demands.proofs.Given.{At, stands-at, at-stands, Known, standing, newest, given-known}
 
 -- ---- handles that were given out
@@ -182,13 +183,6 @@ nobody-holds c h t g = go (find (λ j. holdsHandle c h (j .row)) (t .jobs)) refl
         let r = jobAt t p .row in
         let a : hasHandle h r ≡ true = and-right (heldBy c r) _ (f .passes) in
         clash (at-stands h t (record { place = p; inside = f .inside; live′ = and-left (live r) _ a; is = sym (same-is _ _ (and-right (live r) _ a)) })) g
-
--- an exception is thrown
-abbrev pub throwing : Work → Bool
-throwing tells = false
-throwing reports = false
-throwing ends = false
-throwing throws = true
 
 -- a worker packet that names h asks for work on it; an exception is type 25
 pub record AsksWork (b h : Bytes) : Type 0 where

@@ -12,6 +12,7 @@ pub mod Walking
 pub mod Restart
 pub mod Agreeing
 pub mod OneChanged
+pub mod Exceptions
 pub mod Submissions
 pub mod Listeners
 pub mod Results

@@ -17,7 +17,7 @@ use Rattle.packet.specs.Packet.{Reading, refused, header, argued, body, afterHe
 use Rattle.lists.specs.Lists.{any, all, find, up}
 use Rattle.lists.proofs.Rows.{clash}
 use Rattle.server.specs.Table.{Function, Job, Table, live, joins, joined, known, roomFor, orElse, freeFunction, freePlace, freeRow, rowsOf}
-use Rattle.server.specs.Requests.{Event, opens, closes, sends, Work, Request, reset, preSleep, echo, canDo, cantDo, identify, grab, submit, work, getStatus, option, requested, fromReading, requestIn}
+use Rattle.server.specs.Requests.{Event, opens, closes, sends, Work, tells, reports, ends, throws, Request, reset, preSleep, echo, canDo, cantDo, identify, grab, submit, work, getStatus, option, requested, fromReading, requestIn}
 use Rattle.server.specs.Requests as R
 use Rattle.server.specs.Events as E
 use Rattle.server.specs.Events.{Decision, silence, refuse, settle, canDoAt, cantDoAt, grabAt, submitNew, submitTo, workAt, statusAt, optionIf, holdsHandle, exceptionsName, onlyIfOpen, onlyIfClosed}
@@ -39,12 +39,19 @@ pub record Tests (kind : ℕ) (able new work′ option′ : Bool) : Type 0 where
   pub isWork′ : isWork kind ≡ work′
   pub isOption : eqb kind 26 ≡ option′
 
+-- an exception is thrown
+abbrev pub throwing : Work → Bool
+throwing tells = false
+throwing reports = false
+throwing ends = false
+throwing throws = true
+
 module _ (a b : Bytes) where
   abbrev pub Asks : ℕ → Shape → Request → Type 0
   Asks k s (R.bad n) = isOwn s ≡ false
   Asks k s (canDo f) = Tests k true false false false × (f ≡ a)
   Asks k s (submit priority background f u size) = Tests k false true false false × (f ≡ a) × (u ≡ b)
-  Asks k s (work how kind h n d) = Tests k false false true false × (h ≡ a)
+  Asks k s (work how kind h n d) = Tests k false false true false × (h ≡ a) × (throwing how ≡ eqb k 25)
   Asks k s (option name) = Tests k false false false true × (name ≡ a)
   Asks k s reset = Tests k false false false false
   Asks k s preSleep = Tests k false false false false
@@ -76,9 +83,9 @@ asks-at kind a b c =
     (from-at a b {i = 0}
     (line refl (line (tests 1, refl) (line (tests 2) (line (tests 3) (line (tests 4) (line refl (line refl  -- 0 to 6
     (line (tests 7, refl, refl) (line refl (line (tests 9) (line refl (line refl  -- 7 to 11
-    (line (tests 12, refl) (line (tests 13, refl) (line (tests 14, refl) (line (tests 15) (line (tests 16) (line refl  -- 12 to 17
+    (line (tests 12, refl, refl) (line (tests 13, refl, refl) (line (tests 14, refl, refl) (line (tests 15) (line (tests 16) (line refl  -- 12 to 17
     (line (tests 18, refl, refl) (line refl (line refl (line (tests 21, refl, refl) (line (tests 22) (line refl (line refl  -- 18 to 24
-    (line (tests 25, refl) (line (tests 26, refl) (line refl (line (tests 28, refl) (line (tests 29, refl)  -- 25 to 29
+    (line (tests 25, refl, refl) (line (tests 26, refl) (line refl (line (tests 28, refl, refl) (line (tests 29, refl, refl)  -- 25 to 29
     (line (tests 30) (line refl (line (tests 32, refl, refl) (line (tests 33, refl, refl) (line (tests 34, refl, refl) beyond)))))))))))))))))))))))))))))))))))  -- 30 to 34
     kind)
 

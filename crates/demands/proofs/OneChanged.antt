@@ -14,12 +14,13 @@ use Rattle.lists.proofs.Cases.{All, All2, all-more}
 use Rattle.lists.proofs.Rows.{never}
 use Rattle.server.specs.Table.{Table, jobAt, functionAt}
 use Rattle.server.specs.Requests.{Event}
-use Rattle.server.specs.Events.{Send, plain, copy, assign}
-use Rattle.server.specs.Server.{Server, decided, next}
+use Rattle.server.specs.Events.{Send, plain, copy, assign, Decision}
+use Rattle.server.specs.Server.{Server, render, decided, next}
 use Rattle.server.specs.Call.{serverIn}
 use Rattle.server_laws.proofs.Packets.{Sends, why-sent}
 use Rattle.server_laws.proofs.Serials.{Creation, nothing, one, creation, creates-grown}
 use Rattle.server_calls.specs.History.{Call, Memory, calls, leaves}
+use Rattle.server_calls.proofs.Follows.{Running}
 use Rattle.server_calls.proofs.Histories.{LongOutputs}
 use Rattle.server_blind.proofs.Alike.{Alike, alike-same, decided-alike}
 use Rattle.server_blind.proofs.Workloads.{Apart, near-at, next-apart}
@@ -33,8 +34,10 @@ use Rattle.demands.specs.Hub.{Hub, Long, callOn, kept, afterCalls, resul
 use Rattle.demands.specs.Blind.{Copied, echoed, forwarded, ButCopies, copies, ButWorkload, assigned, Packets, Later, made-none, made-one, One}
 use Rattle.demands.specs.Blind as B
 use Rattle.demands.proofs.Hubs.{hub-runs, call-tells, call-hub, call-next}
+use Rattle.demands.proofs.ReadsBack.{Reads, all-read}
+use Rattle.demands.proofs.Told.{sentAs, same-message}
 use Rattle.demands.proofs.Gone.{made-creates, newest-made}
-use Rattle.demands.proofs.Agreeing.{calls-agree, histories-agree, tables-next}
+use Rattle.demands.proofs.Agreeing.{call-packets, calls-agree, histories-agree, tables-next}
 
 -- ---- which packets are copies
 
@@ -50,7 +53,8 @@ fair (Sends.no-job c b uniq q r) = a-plain
 fair (Sends.the-job c b uniq q p r) = an-assignment
 fair (Sends.handle-joined c b priority background f u size q p r) = a-plain
 fair (Sends.handle-made c b priority background f u size q l m) = a-plain
-fair (Sends.a-copy c b how kind h n d q p r l m w) = a-copy (forwarded c b how kind h n d q p r l m)
+fair (Sends.a-copy c b how kind h n d q p r l m w) = a-copy (forwarded c b how kind h n d q p r l m w)
+fair (Sends.a-failure c b how kind h n d q p r l m w) = a-plain
 fair (Sends.a-status c b h q o r) = a-plain
 fair (Sends.an-option c b name q r) = a-plain
 fair (Sends.an-echo c b q) = a-copy (echoed c b q)
@@ -59,16 +63,19 @@ fair (Sends.a-noop l) = a-plain
 -- ---- the event itself
 
 module _ {e f : Event} (a : Alike e f) (s : Server) where
-  but-copies : {xs : List Send} → All (Fair (s .table) e) xs → All2 (ButCopies (s .table) e f) (map (messageOf e s) xs) (map (messageOf f s) xs)
-  unfolding messageOf
-  but-copies All.none = All2.none
-  but-copies (All.more a-plain ps) = All2.more (B.ButCopies.equal refl) (but-copies ps)
-  but-copies (All.more an-assignment ps) = All2.more (B.ButCopies.equal refl) (but-copies ps)
-  but-copies (All.more (a-copy {to} {kind} x) ps) = All2.more (copies to kind x refl refl) (but-copies ps)
+  but-copies : {xs : List Send} → All (Fair (s .table) e) xs → All (Reads e s) xs → All (Reads f s) xs → All2 (ButCopies (s .table) e f) (map (sentAs e s) xs) (map (sentAs f s) xs)
+  unfolding render messageOf
+  but-copies All.none All.none All.none = All2.none
+  but-copies (All.more a-plain ps) (All.more r rs) (All.more q qs) = All2.more (B.ButCopies.equal refl) (but-copies ps rs qs)
+  but-copies (All.more an-assignment ps) (All.more r rs) (All.more q qs) = All2.more (B.ButCopies.equal refl) (but-copies ps rs qs)
+  but-copies (All.more (a-copy {to} {kind} x) ps) (All.more r rs) (All.more q qs) =
+      All2.more (copies to kind x (same-message e s (copy to kind) r) (same-message f s (copy to kind) q)) (but-copies ps rs qs)
 
-  pub itself-copies : All2 (ButCopies (s .table) e f) (messagesOf e s) (messagesOf f s)
-  unfolding messagesOf
-  itself-copies = rw (← (decided-alike a s s refl)) (but-copies (all-more (λ x q. fair q) (why-sent e s)))
+  pub itself-copies : {n : ℕ} → Running n s → All2 (ButCopies (s .table) e f) (map (sentAs e s) (decided e s .packets)) (map (sentAs f s) (decided f s .packets))
+  itself-copies {n} h =
+      let d = decided-alike a s s refl in
+      let r : All (Reads f s) (decided e s .packets) = subst (λ (x : Decision). All (Reads f s) (x .packets)) (sym d) (all-read n f s h) in
+      rw (← d) (but-copies (all-more (λ x q. fair q) (why-sent e s)) (all-read n e s h) r)
 
 -- ---- events after one that made a job
 
@@ -174,7 +181,7 @@ module _ (n : ℕ) (m w : Memory) (hm : Hub n m) (hw : Hub n w) (same : serverOf
   one-changed =
       record {
         itself = calls-agree n m w hm hw same-table x y lx ly a;
-        packets = rw (call-tells n m hm x lx, call-tells n w hw y ly, ← same) (itself-copies a (serverOf n m));
+        packets = rw (call-packets n m hm x lx, call-packets n w hw y ly, ← same) (itself-copies a (serverOf n m) (hub-runs n m hm));
         others = histories-agree n (same-alike rest) lxs lys u v hu hv (tables-next n m w hm hw same-table x y lx ly a);
         later = later-by (creation (serverOf n m) (x .event));
       }

@@ -15,6 +15,7 @@ use Rattle.handle.specs.Handle.{handle, lap}
 use Rattle.handle.proofs.Handles.{handle-least, handle-most, lap-zero-free}
 use Rattle.packet.specs.Layout.{rulesOf, requestShape, responseShape, separatorsOf, isOwn}
 use Rattle.packet.specs.Layout as L
+use Rattle.packet.specs.declared.Shape.the-variants.{Handle}
 use Rattle.packet.specs.declared.Rule.the-variants.{Text, Flag, Opaque}
 use Rattle.packet.specs.Arguments.{fits, fitAll, join}
 use Rattle.packet.specs.Packet.{got, read, requests, responses}
@@ -63,9 +64,11 @@ handle-fits n =
     let b = handle-most lap n in
     and-both (within 1 63 (length (handle lap n))) _ (and-both (leb 1 (length (handle lap n))) _ (le-leb 1 (length (handle lap n)) (omega arith)) (le-leb (length (handle lap n)) 63 (omega arith))) (lap-zero-free n)
 
-one-sendable : (h : Bytes) → fits L.handle h ≡ true → length h ≤ 63 → Sendable 8 (h ∷ [])
-unfolding rulesOf responseShape fitAll join
-one-sendable h f l = record { own = refl; fit = and-both (fits L.handle h) true f refl; limited = omega arith }
+-- 8 JOB_CREATED and 14 WORK_FAIL: a handle alone
+handle-sendable : (kind : ℕ) → responseShape kind ≡ Handle → (n : ℕ) → Sendable kind (handle lap n ∷ [])
+unfolding rulesOf fitAll join
+handle-sendable kind e n =
+    record { own = rw e; fit = rw e (and-both (fits L.handle (handle lap n)) true (handle-fits n) refl); limited = omega (arith, handle-most lap n) }
 
 empty-sendable : (kind : ℕ) → isOwn (responseShape kind) ≡ true → rulesOf (responseShape kind) ≡ [] → Sendable kind []
 unfolding fitAll join
@@ -183,7 +186,8 @@ module _ (e : Event) (s : Server) where
   reads-error c n h = reads-plain c 19 _ (error-sendable n h)
 
   reads-created : (c n : ℕ) → Reads (created c n)
-  reads-created c n = reads-plain c 8 _ (one-sendable (handle lap n) (handle-fits n) (omega (arith, handle-most lap n)))
+  unfolding responseShape
+  reads-created c n = reads-plain c 8 _ (handle-sendable 8 refl n)
 
 -- ---- copies
 
@@ -304,6 +308,7 @@ module _ (n : ℕ) (s : Server) (h : Running n s) where
   reads-sent (Sends.handle-joined c b priority background f u size q p r) = reads-created _ s c _
   reads-sent (Sends.handle-made c b priority background f u size q l m) = reads-created _ s c _
   reads-sent (Sends.a-copy c b how kind j x y q p r l m w) = reads-work c b s how kind j x y q l
+  reads-sent (Sends.a-failure c b how kind j x y q p r l m w) = reads-plain _ s l 14 _ (handle-sendable 14 refl (jobAt (s .table) p .row .serial))
   reads-sent (Sends.a-status c b j q o r) = reads-status c b j o q r
   reads-sent (Sends.an-option c b name q r) = reads-plain _ s c 27 _ (option-sendable name r)
   reads-sent (Sends.an-echo c b q) = reads-echo c b s q

@@ -10,7 +10,7 @@ use lib.ListN.{length}
 use lib.Dec.{eqb, ltb}
 use Rattle.octets.specs.Bytes.{Bytes}
 use Rattle.octets.proofs.Strings.{and-false, and-left, and-right, and-both, same-is}
-use Rattle.handle.specs.Handle.{lap}
+use Rattle.handle.specs.Handle.{handle, lap}
 use Rattle.handle.proofs.Handles.{handle-one-to-one}
 use Rattle.sets.specs.Sets.{has}
 use Rattle.packet.specs.Packet.{Reading, refused, got, read, requests}
@@ -20,7 +20,7 @@ use Rattle.lists.proofs.Rows.{clash, never, or-left, any-imp}
 use Rattle.lists.proofs.Searches.{found}
 use Rattle.server.specs.Table.{Table, noJob, jobAt, live, heldBy, hasHandle, fresh}
 use Rattle.server.specs.Requests.{Event, sends, Work, tells, reports, ends, throws, Request, work, requestIn}
-use Rattle.server.specs.Events.{copy, Decision, refuse, silence, holdsHandle, hears, served, workAt, onlyIfOpen}
+use Rattle.server.specs.Events.{copy, Decision, refuse, silence, holdsHandle, hears, failure, tell, served, workAt, onlyIfOpen}
 use Rattle.server.specs.Rules.{isOpen}
 use Rattle.server.specs.Sizes.{workloadsSize}
 use Rattle.server.specs.Layout.{tableSize}
@@ -34,9 +34,10 @@ use Rattle.demands.specs.Messages.{Message, told, argumentsOf, messageOf
 use Rattle.demands.specs.Handles.{givesHandle, readingGives, readingTells, given, stands}
 use Rattle.demands.specs.Hub.{Hub, Long, callOn, kept, afterCalls, resultsOf, tableIn, serverOf, freshMemory}
 use Rattle.demands.specs.Conditions.{typeOf}
-use Rattle.demands.specs.Listening.{createdIs, tellsCreated, submits, turns, heardAfter, heard, listens, wants, EachOnce}
+use Rattle.demands.specs.Listening.{createdIs, tellsCreated, submits, turns, heardAfter, heard, listens, wants, resultFor, EachOnce}
 use Rattle.demands.proofs.Given.{At, at-stands}
-use Rattle.demands.proofs.Gone.{Used, given-used, stands-used, used-next, made-newest, throwing, AsksWork, asks-work}
+use Rattle.demands.proofs.Numbers.{throwing}
+use Rattle.demands.proofs.Gone.{Used, given-used, stands-used, used-next, made-newest, AsksWork, asks-work}
 use Rattle.demands.proofs.Hubs.{hub-fresh, fresh-server, hub-runs, call-number, call-tells, call-hub, call-next, calls-hub}
 use Rattle.demands.proofs.Listeners.{listens-at, nobody-listens, listener-inside, step-heard}
 
@@ -124,10 +125,17 @@ hears-wants reports kind t l e = rw (← e)
 hears-wants ends kind t l e = rw (← e)
 hears-wants throws kind t l e = rw (← e)
 
-map-copies : (e : Event) (s : Server) (kind : ℕ) (ls : List ℕ) → map (messageOf e s) (map (λ l. copy l kind) ls) ≡ map (λ l. record { to = l; says = got kind (argumentsOf e) }) ls
-unfolding messageOf
-map-copies e s kind [] = refl
-map-copies e s kind (l ∷ ls) = ap (λ (ms : List Message). record { to = l; says = got kind (argumentsOf e) } ∷ ms) (map-copies e s kind ls)
+-- what each of them is told
+module _ (e : Event) (s : Server) (how : Work) (kind p : ℕ) (h : Bytes) (t : throwing how ≡ eqb kind 25) (q : h ≡ handle lap (jobAt (s .table) p .row .serial)) where
+  told-one : (l : ℕ) (b : Bool) → messageOf e s (cond b (copy l kind) (failure (jobAt (s .table) p .row .serial) l)) ≡ record { to = l; says = cond b (got kind (argumentsOf e)) (got 14 (h ∷ [])) }
+  unfolding messageOf
+  told-one l true = refl
+  told-one l false = rw q
+
+  map-told : (ls : List ℕ) → map (messageOf e s) (map (tell how kind (s .table) (jobAt (s .table) p .row)) ls) ≡ map (λ l. record { to = l; says = resultFor (s .table) kind (argumentsOf e) h l }) ls
+  map-told [] = refl
+  map-told (l ∷ ls) =
+      ap₂ _∷_ (told-one l (hears how (s .table) l) ∙ ap (λ (b : Bool). record { to = l; says = cond b (got kind (argumentsOf e)) (got 14 (h ∷ [])) }) (hears-wants how kind (s .table) l t)) (map-told ls)
 
 module _ (n : ℕ) (s : Server) (r : Running n s) (d : ℕ) (b h : Bytes) (w : readingTells h (read requests b) ≡ true) (z : answer (sends d b) s .number ≡ 0) where
   abbrev t : Table
@@ -158,6 +166,10 @@ module _ (n : ℕ) (s : Server) (r : Running n s) (d : ℕ) (b h : Bytes) (w : r
       let x : hasHandle h row ≡ true = and-right (heldBy d row) _ (f .passes) in
       record { place = p; inside = f .inside; live′ = and-left (live row) _ x; is = sym (same-is _ _ (and-right (live row) _ x)) }
 
+  held-is : h ≡ handle lap (jobAt t (held .0) .row .serial)
+  unfolding held-at
+  held-is = held-at .is
+
   held-listens : (l : ℕ) → ltb l (length (t .connections)) && has (jobAt t (held .0) .row .listeners) l ≡ listens l h t
   unfolding held-at
   held-listens l = by (has (jobAt t (held .0) .row .listeners) l) refl ∙ sym (listens-at n s r l h held-at)
@@ -169,7 +181,7 @@ module _ (n : ℕ) (s : Server) (r : Running n s) (d : ℕ) (b h : Bytes) (w : r
   pub held-stands : stands h t ≡ true
   held-stands = at-stands h t held-at
 
-  pub tells-each : EachOnce (λ l. listens l h t && wants t (typeOf b) l) (typeOf b) (argumentsOf (sends d b)) (messagesOf (sends d b) s)
+  pub tells-each : EachOnce (λ l. listens l h t) (resultFor t (typeOf b) (argumentsOf (sends d b)) h) (messagesOf (sends d b) s)
   unfolding messagesOf
   tells-each =
       let a = asked in
@@ -177,21 +189,21 @@ module _ (n : ℕ) (s : Server) (r : Running n s) (d : ℕ) (b h : Bytes) (w : r
       let o : ToldOnce t (a .how) (a .kind) p (served d (work (a .how) (a .kind) h (a .n) (a .d)) t) = work-told t d (a .how) (a .kind) h (a .n) (a .d) p q (r .rules) in
       record {
         to = o .listeners;
-        packets = ap (λ (x : Decision). map (messageOf (sends d b) s) (x .packets)) decided-is ∙ ap (map (messageOf (sends d b) s)) (o .packets) ∙ map-copies (sends d b) s (a .kind) (o .listeners) ∙ rw (a .typed);
+        packets = ap (λ (x : Decision). map (messageOf (sends d b) s) (x .packets)) decided-is ∙ ap (map (messageOf (sends d b) s)) (o .packets) ∙ map-told (sends d b) s (a .how) (a .kind) p h (a .thrown) held-is (o .listeners) ∙ rw (a .typed);
         rising = o .rising;
-        exactly = λ l. o .exactly l ∙ ap₂ _&&_ (held-listens l) (hears-wants (a .how) (a .kind) t l (a .thrown) ∙ ap (λ (k : ℕ). wants t k l) (a .typed));
+        exactly = λ l. o .exactly l ∙ held-listens l;
       }
 
 -- ---- over calls
 
 -- what a call with a worker packet tells, if it is done
 pub call-tells-each : (n : ℕ) (m : Memory) → Hub n m → (x : Call) → Long n x → (d : ℕ) (b h : Bytes) → x .event ≡ sends d b → readingTells h (read requests b) ≡ true → callOn n m x .number ≡ 0
-    → EachOnce (λ l. listens l h (tableIn n m) && wants (tableIn n m) (typeOf b) l) (typeOf b) (argumentsOf (sends d b)) (told (callOn n m x))
+    → EachOnce (λ l. listens l h (tableIn n m)) (resultFor (tableIn n m) (typeOf b) (argumentsOf (sends d b)) h) (told (callOn n m x))
 unfolding serverIn
 call-tells-each n m hub x l d b h e w z =
     let s = serverOf n m in
     let y : answer (sends d b) s .number ≡ 0 = sym (ap (λ (v : Event). answer v s .number) e) ∙ sym (call-number n m hub x l) ∙ z in
-    subst (EachOnce (λ i. listens i h (tableIn n m) && wants (tableIn n m) (typeOf b) i) (typeOf b) (argumentsOf (sends d b))) (sym (call-tells n m hub x l ∙ ap (λ (v : Event). messagesOf v s) e))
+    subst (EachOnce (λ i. listens i h (tableIn n m)) (resultFor (tableIn n m) (typeOf b) (argumentsOf (sends d b)) h)) (sym (call-tells n m hub x l ∙ ap (λ (v : Event). messagesOf v s) e))
     (tells-each n s (hub-runs n m hub) d b h w y)
 
 pub call-held-stands : (n : ℕ) (m : Memory) → Hub n m → (x : Call) → Long n x → (d : ℕ) (b h : Bytes) → x .event ≡ sends d b → readingTells h (read requests b) ≡ true → callOn n m x .number ≡ 0
@@ -204,7 +216,7 @@ call-held-stands n m hub x l d b h e w z =
 -- after calls from a memory in which nobody listens to the job, as in a fresh one: exactly those who were told
 pub results-told : (n : ℕ) (xs : List Call) (m : Memory) → Hub n m → LongOutputs n xs → (h : Bytes) → ((l : ℕ) → listens l h (tableIn n m) ≡ false)
     → let u = afterCalls n xs m in (x : Call) → Long n x → (d : ℕ) (b : Bytes) → x .event ≡ sends d b → readingTells h (read requests b) ≡ true → callOn n u x .number ≡ 0
-    → EachOnce (λ l. heard l h false xs (resultsOf n xs m) && wants (tableIn n u) (typeOf b) l) (typeOf b) (argumentsOf (sends d b)) (told (callOn n u x))
+    → EachOnce (λ l. heard l h false xs (resultsOf n xs m)) (resultFor (tableIn n u) (typeOf b) (argumentsOf (sends d b)) h) (told (callOn n u x))
 results-told n xs m hub ls h f x l d b e w z =
     let u = afterCalls n xs m in
     let hu = calls-hub n xs m hub ls in
@@ -214,7 +226,7 @@ results-told n xs m hub ls h f x l d b e w z =
       to = o .to;
       packets = o .packets;
       rising = o .rising;
-      exactly = λ i. o .exactly i ∙ ap (λ (q : Bool). q && wants (tableIn n u) (typeOf b) i) (calls-heard n i h xs m hub ls y ∙ ap (λ (q : Bool). heard i h q xs (resultsOf n xs m)) (f i));
+      exactly = λ i. o .exactly i ∙ calls-heard n i h xs m hub ls y ∙ ap (λ (q : Bool). heard i h q xs (resultsOf n xs m)) (f i);
     }
 
 -- in a fresh memory nobody listens
@@ -225,7 +237,7 @@ fresh-silent n l h = refl
 pub fresh-results : (n : ℕ) → n ≤ 256 → (t w : Bytes) → tableSize n ≤ length t → workloadsSize ≤ length w → (xs : List Call) → LongOutputs n xs
     → let m = freshMemory n t w in let u = afterCalls n xs m in
     (x : Call) → Long n x → (d : ℕ) (b h : Bytes) → x .event ≡ sends d b → readingTells h (read requests b) ≡ true → callOn n u x .number ≡ 0
-    → EachOnce (λ l. heard l h false xs (resultsOf n xs m) && wants (tableIn n u) (typeOf b) l) (typeOf b) (argumentsOf (sends d b)) (told (callOn n u x))
+    → EachOnce (λ l. heard l h false xs (resultsOf n xs m)) (resultFor (tableIn n u) (typeOf b) (argumentsOf (sends d b)) h) (told (callOn n u x))
 unfolding serverIn
 fresh-results n few t w lt lw xs ls x l d b h e z y =
     results-told n xs (freshMemory n t w) (hub-fresh n few t w lt lw) ls h (λ i. ap (λ (s : Server). listens i h (s .table)) (fresh-server n few t w lt lw) ∙ fresh-silent n i h) x l d b e z y

@@ -113,6 +113,16 @@ asks-submission kind a b c o = by (requested kind a b c) (asks-at kind a b c)
     by (getStatus x) h = h .isNew
     by (option name) h = h .0 .isNew
 
+-- a packet that asks for a submission has a submission's type
+pub submission-typed : (b : Bytes) → isSubmit (requestIn b) ≡ true → isSubmission (typeOf b) ≡ true
+submission-typed b q = by (read requests b) refl
+  where
+    by : (r : Reading) → read requests b ≡ r → isSubmission (typeOf b) ≡ true
+    by (refused n) e = clash q (ap isSubmit (request-read b ∙ ap fromReading e))
+    by (got kind args) e =
+        let g = read-got requests b kind args e in
+        rw (g .typed) (asks-submission kind (getD args 0 []) (getD args 1 []) (getD args 2 []) (g .own) ∙ sym (ap isSubmit (request-read b ∙ ap fromReading e)) ∙ q)
+
 -- a packet that asks for a submission has a foreground type exactly if it is not in the background
 pub foreground-asks : (b : Bytes) (priority : ℕ) (background : Bool) (f u : Bytes) (size : ℕ) → requestIn b ≡ submit priority background f u size → isForeground (typeOf b) ≡ not background
 foreground-asks b priority background f u size q = by (read requests b) refl (sym (request-read b) ∙ q)

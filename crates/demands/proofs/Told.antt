@@ -43,7 +43,7 @@ module _ (e : Event) (s : Server) where
   reads-ends (copy to kind) rest r = got-ends _ rest _ _ r
   reads-ends (assign uniq to p) rest r = got-ends _ rest _ _ r
 
-  same-message : (x : Send) → Reads e s x → messageIn (sentAs e s x) ≡ messageOf e s x
+  pub same-message : (x : Send) → Reads e s x → messageIn (sentAs e s x) ≡ messageOf e s x
   unfolding render messageOf
   same-message (plain to kind as′) r = ap (λ (y : Reading). record { to = to; says = y }) r
   same-message (copy to kind) r = ap (λ (y : Reading). record { to = to; says = y }) r

@@ -10,15 +10,15 @@ use Rattle.handle.specs.Handle.{handle, lap}
 use Rattle.sets.specs.Sets.{has}
 use Rattle.packet.specs.Packet.{got}
 use Rattle.lists.specs.Lists.{find}
-use Rattle.server.specs.Table.{Table, jobAt}
+use Rattle.server.specs.Table.{Table, connectionAt, jobAt}
 use Rattle.server.specs.Requests.{Event, sends, Work, work, echo, requestIn}
-use Rattle.server.specs.Events.{holdsHandle}
+use Rattle.server.specs.Events.{holdsHandle, hears}
 use Rattle.server.specs.Layout.{tableSize}
 use Rattle.server.specs.Call.{Result}
 use Rattle.server_calls.specs.History.{Call, Memory}
 use Rattle.lists.proofs.Cases.{All2}
 use Rattle.server_blind.proofs.Outputs.{Both}
-use Rattle.demands.specs.Messages.{Message, hiddenIn, packetsIn, written, told, argumentsOf}
+use Rattle.demands.specs.Messages.{Addressed, Message, messageIn, hiddenIn, packetsIn, written, told, argumentsOf}
 use Rattle.demands.specs.Handles.{isMade}
 use Rattle.demands.specs.Hub.{callOn, kept, afterCalls, resultsOf, tableIn, serverOf}
 
@@ -36,16 +36,21 @@ pub record AlikeResults (n : ℕ) (x y : Call) (r q : Result) : Type 0 where
 -- ---- the packets that carry an event's own opaque bytes
 
 -- to whom, and by which type: the ECHO_RES to the sender of an echo; and a worker packet's copy to a listener of the job that it names
--- and that its sender holds
+-- and that its sender holds, of an exception to those alone that set the option
 pub data Copied (t : Table) : Event → ℕ → ℕ → Type 0 where
   echoed : (c : ℕ) (b : Bytes) → requestIn b ≡ echo → Copied t (sends c b) c 17
   forwarded : (c : ℕ) (b : Bytes) (how : Work) (kind : ℕ) (h n d : Bytes) → requestIn b ≡ work how kind h n d
-      → (p : ℕ) → find (λ j. holdsHandle c h (j .row)) (t .jobs) ≡ some p → (l : ℕ) → has (jobAt t p .row .listeners) l ≡ true → Copied t (sends c b) l kind
+      → (p : ℕ) → find (λ j. holdsHandle c h (j .row)) (t .jobs) ≡ some p → (l : ℕ) → has (jobAt t p .row .listeners) l ≡ true → hears how t l ≡ true → Copied t (sends c b) l kind
 
--- two packets that the events e and f send: the same one; or the copies, each with the arguments of its own event's packet
-pub data ButCopies (t : Table) (e f : Event) (a b : Message) : Type 0 where
+-- two packets that the events e and f send: the same one, to the byte; or the copies, each with the arguments of its own event's packet
+pub data ButCopies (t : Table) (e f : Event) (a b : Addressed) : Type 0 where
   equal : a ≡ b → ButCopies t e f a b
-  copies : (to kind : ℕ) → Copied t e to kind → a ≡ record { to = to; says = got kind (argumentsOf e) } → b ≡ record { to = to; says = got kind (argumentsOf f) } → ButCopies t e f a b
+  copies : (to kind : ℕ) → Copied t e to kind → messageIn a ≡ record { to = to; says = got kind (argumentsOf e) } → messageIn b ≡ record { to = to; says = got kind (argumentsOf f) } → ButCopies t e f a b
+
+-- two packets that two exceptions send: the same one, to the byte; or WORK_EXCEPTION to one connection, which has set the option
+pub data ButExceptions (t : Table) (a b : Addressed) : Type 0 where
+  equal : a ≡ b → ButExceptions t a b
+  thrown : (to : ℕ) → connectionAt t to .exceptions ≡ true → (xs ys : List Bytes) → messageIn a ≡ record { to = to; says = got 25 xs } → messageIn b ≡ record { to = to; says = got 25 ys } → ButExceptions t a b
 
 -- ---- the packets that carry a stored workload
 
@@ -75,6 +80,12 @@ pub data Later (n : ℕ) (m u v : Memory) (xs ys : List Call) : Type 0 where
 -- the calls x on m and y on w, alike, and then the calls xs and ys, with the same events
 pub record One (n : ℕ) (m w : Memory) (x y : Call) (xs ys : List Call) : Type 0 where
   pub itself : AlikeResults n x y (callOn n m x) (callOn n w y)
-  pub packets : Packets (ButCopies (tableIn n m) (x .event) (y .event)) x y (callOn n m x) (callOn n w y)
+  pub packets : All2 (ButCopies (tableIn n m) (x .event) (y .event)) (packetsIn (written (callOn n m x))) (packetsIn (written (callOn n w y)))
   pub others : Both (AlikeResults n) xs ys (resultsOf n xs (kept (callOn n m x))) (resultsOf n ys (kept (callOn n w y)))
   pub later : Later n m (kept (callOn n m x)) (kept (callOn n w y)) xs ys
+
+-- the calls x on m and y on w bring two exceptions that differ in opaque bytes alone, and the calls xs and ys have the same events. 02: "a
+-- changed exception may show only in the copies that carry it; the WORK_FAIL packets agree"
+pub record OneException (n : ℕ) (m w : Memory) (x y : Call) (xs ys : List Call) : Type 0 where
+  pub packets : All2 (ButExceptions (tableIn n m)) (packetsIn (written (callOn n m x))) (packetsIn (written (callOn n w y)))
+  pub later : Both (Packets (λ a b. a ≡ b)) xs ys (resultsOf n xs (kept (callOn n m x))) (resultsOf n ys (kept (callOn n w y)))

@@ -59,18 +59,23 @@ listens c h t = any (λ j. hasHandle h (j .row) && has (j .row .listeners) c) (t
 
 -- ---- results
 
--- 01: "25 ends the job and goes only to listeners that set `exceptions`"
+-- who gets the copy. 01: "25 ends the job and goes only to listeners that set `exceptions`"
 abbrev pub wants : Table → ℕ → ℕ → Bool
 wants t kind l = implies (eqb kind 25) (connectionAt t l .exceptions)
+
+-- what a worker packet of this type and with these arguments, of the job with handle h, tells connection l: it is the copy, or, 02: "all
+-- others get WORK_FAIL with the handle alone"
+abbrev pub resultFor : Table → ℕ → List Bytes → Bytes → ℕ → Reading
+resultFor t kind args h l = cond (wants t kind l) (got kind args) (got 14 (h ∷ []))
 
 -- the number stands in the list
 abbrev pub isIn : ℕ → List ℕ → Bool
 isIn l ls = any (λ k. eqb k l) ls
 
--- these packets are one packet each to some connections, in rising order, none twice: exactly to those of the set, by this type and with
--- these arguments
-pub record EachOnce (set : ℕ → Bool) (kind : ℕ) (args : List Bytes) (ms : List Message) : Type 0 where
+-- these packets are one packet each to some connections, in rising order, none twice: exactly to those of the set, and to each the one that
+-- is its own
+pub record EachOnce (set : ℕ → Bool) (own : ℕ → Reading) (ms : List Message) : Type 0 where
   pub to : List ℕ
-  pub packets : ms ≡ map (λ l. record { to = l; says = got kind args }) to
+  pub packets : ms ≡ map (λ l. record { to = l; says = own l }) to
   pub rising : pairwise ltb to ≡ true
   pub exactly : (l : ℕ) → isIn l to ≡ set l

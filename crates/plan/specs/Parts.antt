@@ -6,11 +6,11 @@ use mathlib.Core.Option.{none, some}
 use mathlib.Core.List.{List, [], _∷_, map}
 use lib.ListN.{getD, set}
 use Rattle.octets.specs.Bytes.{Bytes}
-use Rattle.sets.specs.Sets.{remove, members}
+use Rattle.sets.specs.Sets.{has, remove, members}
 use Rattle.server.specs.declared.Connection.{Connection}
 use Rattle.server.specs.declared.JobRow.{JobRow}
 use Rattle.server.specs.Table.{Function, Job, Table, noRow, noJob, noFunction, closed, jobAt, functionAt, setId, setFunction, setJob, withRow, withTexts, withHolder, live, heldBy, withLastSerial, withConnections, withFunctions, withJobs, withName, withAble, freshRow, unstarted}
-use Rattle.server.specs.Events.{Send, plain, copy, assign, created, statusOf, exceptionsName, submittedBy, deafTo}
+use Rattle.server.specs.Events.{Send, plain, copy, assign, created, failure, statusOf, exceptionsName, submittedBy, deafTo}
 use Rattle.plan.specs.declared.Values as V′
 use Rattle.plan.specs.declared.Change as C′
 use Rattle.plan.specs.declared.Change.the-variants as CV
@@ -94,6 +94,7 @@ ordered (OV.Created serial) n c kind h t = created c serial ∷ []
 ordered OV.NoJob n c kind h t = plain c 10 [] ∷ []
 ordered (OV.Assign uniq p) n c kind h t = assign uniq c p ∷ []
 ordered (OV.Copies to) n c kind h t = map (λ l. copy l kind) (members n to)
+ordered (OV.Told to heard serial) n c kind h t = map (λ l. cond (has heard l) (copy l kind) (failure serial l)) (members n to)
 ordered OV.Echo n c kind h t = copy c 17 ∷ []
 ordered (OV.Status p) n c kind h t = plain c 20 (statusOf (some p) h t) ∷ []
 ordered OV.Unknown n c kind h t = plain c 20 (statusOf none h t) ∷ []

@@ -64,7 +64,7 @@ planWork none how v = refusal 14
 planWork (some p) tells v = done SV.Nothing CV.Nothing (OV.Copies (rowIn v p .listeners))
 planWork (some p) reports v = done SV.Nothing (CV.Texts p) (OV.Copies (rowIn v p .listeners))
 planWork (some p) ends v = done (SV.End p) CV.Nothing (OV.Copies (rowIn v p .listeners))
-planWork (some p) throws v = done (SV.End p) CV.Nothing (OV.Copies (heard (v .connections) (rowIn v p .listeners)))
+planWork (some p) throws v = done (SV.End p) CV.Nothing (OV.Told (rowIn v p .listeners) (heard (v .connections) (rowIn v p .listeners)) (rowIn v p .serial))
 
 abbrev pub planStatus : Option ℕ → Plan
 planStatus none = done SV.Nothing CV.Nothing OV.Unknown

@@ -27,13 +27,15 @@ pub enum Change {
     Left { connection: usize }, // a close: `0` and `0` for the jobs that the connection held, and no client id
 }
 
-// The packets that an event sends before any NOOP: all to the sender, but copies, which go to a set.
+// The packets that an event sends before any NOOP: all to the sender, but what a worker says of its job. That goes to a set, as copies, or
+// as copies to some of them, who hear it, and WORK_FAIL to the others.
 pub enum Order {
     Nothing,
     Created { serial: u32 },
     NoJob,
     Assign { uniq: bool, place: usize },
     Copies { to: u32 },
+    Told { to: u32, heard: u32, serial: u32 },
     Echo,
     Status { place: usize },
     Unknown,

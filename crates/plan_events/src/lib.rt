@@ -93,7 +93,7 @@ pub fn close(c: usize) -> Plan
 }
 
 // What a worker says of the job at a place: 14 where the connection holds no such job. WORK_STATUS stores its two texts; WORK_COMPLETE,
-// WORK_FAIL and WORK_EXCEPTION end the job, and only listeners with the option hear the last.
+// WORK_FAIL and WORK_EXCEPTION end the job; only listeners with the option hear the last, and the others are told of a failure.
 pub fn worked(table: &[u8], held: Place, how: Work) -> Plan
     requires { ⌜ tableSize connectionCount ≤ length (now table) ⌝ }
     ensures { λ r. ⌜ r ≡ planWork (unplaced held) (workOf how) (valuesOf (tableOf connectionCount (now (table .entry)))) ⌝ }
@@ -120,8 +120,10 @@ pub fn worked(table: &[u8], held: Place, how: Work) -> Plan
                 Work::Throws => plan_jobs::done(
                     Step::End { place: p },
                     Change::Nothing,
-                    Order::Copies {
-                        to: heard(table, to),
+                    Order::Told {
+                        to,
+                        heard: heard(table, to),
+                        serial: row.serial,
                     },
                 ),
             }

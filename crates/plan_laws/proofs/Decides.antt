@@ -1,6 +1,6 @@
 -- A plan does what the server's definitions decide: the same number, the same packets in the same order, and the table that its
 -- numbers and texts make. Assumes nothing.
-use Prim.Native.Nat.{ℕ, suc, _+_, _≤_}
+use Prim.Native.Nat.{ℕ, suc, _≤_}
 use mathlib.Core.Path.{_≡_, refl, ap, ap₂, sym, _∙_, subst}
 use mathlib.Core.Bool.{Bool, true, false, not, cond}
 use mathlib.Core.Option.{Option, none, some}
@@ -11,15 +11,15 @@ use lib.Seq.{map-set-same}
 use lib.Dec.{eqb·suc-zero}
 use Rattle.octets.specs.Bytes.{Bytes, same}
 use Rattle.octets.proofs.Strings.{same-is}
-use Rattle.sets.specs.Sets.{insert, remove, members}
-use Rattle.lists.specs.Lists.{find, filter}
-use Rattle.lists.proofs.Maps.{map-set, map-map, filter-all}
+use Rattle.sets.specs.Sets.{has, insert, remove, members}
+use Rattle.lists.specs.Lists.{find}
+use Rattle.lists.proofs.Maps.{map-set, map-map}
 use Rattle.lists.proofs.Rows.{clash}
 use Rattle.server.specs.declared.JobRow.{JobRow}
-use Rattle.server.specs.Table.{Function, Job, Table, noRow, noJob, noFunction, closed, connectionAt, functionAt, jobAt, rowsOf, ablesOf, setConnection, setId, setFunction, setJob, withRow, withTexts, withHolder, live, heldBy, joined, withName}
+use Rattle.server.specs.Table.{Function, Job, Table, noRow, noJob, noFunction, closed, connectionAt, functionAt, jobAt, rowsOf, ablesOf, setConnection, setId, setFunction, setJob, withRow, withTexts, withHolder, live, heldBy, withName}
 use Rattle.server.specs.Rules.{obeys}
 use Rattle.server.specs.Requests.{Work, tells, reports, ends, throws, Request, reset, preSleep, echo, bad, canDo, cantDo, identify, grab, submit, work, getStatus, option}
-use Rattle.server.specs.Events.{Send, plain, copy, Decision, refuse, noop, settle, opening, closing, leftBy, deafTo, unable, ableTo, unableToAll, sleeping, submittedBy, created, newJob, accepted, holdsHandle, hears, worked, listenersOf, statusOf, exceptionsName, catching, served, toWakeIn}
+use Rattle.server.specs.Events.{Send, plain, copy, Decision, refuse, noop, settle, opening, closing, leftBy, deafTo, unable, ableTo, unableToAll, sleeping, submittedBy, created, newJob, accepted, holdsHandle, failure, tellAll, worked, listenersOf, statusOf, exceptionsName, catching, served, toWakeIn}
 use Rattle.server.specs.Refusals.{lastNumber}
 use Rattle.server_laws.proofs.Numbers.{row-at, able-at}
 use Rattle.server_laws.proofs.Going.{grabbed-live, joined-found, held-found}
@@ -38,10 +38,10 @@ use Rattle.plan.specs.Settling.{droppedRows, settledValues}
 use Rattle.plan.specs.Parts.{leftRow, newRow, heard, changed, finalTable, ordered, withConnection}
 use Rattle.plan.specs.Steps.{stepped}
 use Rattle.plan.specs.Plans as P
-use Rattle.plan.specs.Plans.{planCanDo, planCantDo, planGrab, planJoin, planWork, planStatus, planOption, planServed, planOpening, planClosing, refusal}
+use Rattle.plan.specs.Plans.{planCanDo, planCantDo, planGrab, planJoin, planWork, planStatus, planServed, planOpening, planClosing, refusal}
 use Rattle.plan_laws.proofs.Settled.{SameJob, SameTexts, settled-plan, final-values}
 use Rattle.plan_laws.proofs.Texts.{both-set, left-set, left-map, SameName, rowed-same, gone-same, live-same, own-texts, left-jobs}
-use Rattle.plan_laws.proofs.Hearing.{hears-option}
+use Rattle.plan_laws.proofs.Hearing.{told-option}
 use Rattle.plan_laws.proofs.Draws.{planOf, Draws, refused, done, draws}
 
 -- ---- the words of a request that a plan uses
@@ -140,13 +140,14 @@ module _ (w : Words) (c : ℕ) (t : Table) (ok : obeys t ≡ true) where
   able-values q x s e = ap (λ (l : List ℕ). withAbles l (valuesOf t)) (map-set (λ (y : Function). y .able) (t .functions) q x ∙ ap (set (ablesOf t) q) e)
 
   -- all listeners hear
-  to-all : (kind p : ℕ) → map (λ l. copy l kind) (members (length (t .connections)) (getD (rowsOf t) p noRow .listeners)) ≡ map (λ l. copy l kind) (filter (λ l. true) (listenersOf t (jobAt t p .row)))
-  to-all kind p = ap (map (λ l. copy l kind)) (ap (λ (r : JobRow). members (length (t .connections)) (r .listeners)) (row-at t p) ∙ sym (filter-all (listenersOf t (jobAt t p .row))))
+  to-all : (kind p : ℕ) → map (λ l. copy l kind) (members (length (t .connections)) (getD (rowsOf t) p noRow .listeners)) ≡ map (λ l. copy l kind) (listenersOf t (jobAt t p .row))
+  to-all kind p = ap (λ (r : JobRow). map (λ l. copy l kind) (members (length (t .connections)) (r .listeners))) (row-at t p)
 
-  -- those with the option hear
-  to-some : (kind p : ℕ) → map (λ l. copy l kind) (members (length (t .connections)) (heard (t .connections) (getD (rowsOf t) p noRow .listeners)))
-      ≡ map (λ l. copy l kind) (filter (λ l. connectionAt t l .exceptions) (listenersOf t (jobAt t p .row)))
-  to-some kind p = ap (map (λ l. copy l kind)) (ap (λ (r : JobRow). members (length (t .connections)) (heard (t .connections) (r .listeners))) (row-at t p) ∙ sym (hears-option (t .connections) (jobAt t p .row .listeners)))
+  -- those with the option hear, and the others are told of a failure
+  to-some : (kind p : ℕ) → let r = getD (rowsOf t) p noRow in
+      map (λ l. cond (has (heard (t .connections) (r .listeners)) l) (copy l kind) (failure (r .serial) l)) (members (length (t .connections)) (r .listeners)) ≡ tellAll throws kind t (jobAt t p .row)
+  unfolding tellAll
+  to-some kind p = rw (row-at t p) (told-option (λ l. copy l kind) (failure (jobAt t p .row .serial)) (t .connections) (jobAt t p .row .listeners))
 
   same-rows : (p : ℕ) (j : Job) → j .row ≡ jobAt t p .row → withRows (map (λ (k : Job). k .row) (set (t .jobs) p j)) (valuesOf t) ≡ withRows (rowsOf t) (valuesOf t)
   same-rows p j e = ap (λ (l : List JobRow). withRows l (valuesOf t)) (map-set-same (λ (k : Job). k .row) (t .jobs) p j noJob e)
@@ -155,8 +156,8 @@ module _ (w : Words) (c : ℕ) (t : Table) (ok : obeys t ≡ true) where
   other-rows v p j r e = ap (λ (l : List JobRow). withRows l v) (map-set (λ (k : Job). k .row) (t .jobs) p j ∙ ap (set (rowsOf t) p) e)
 
   p-work : {how : Work} {n d : Bytes} (h : Bytes) → Says w how n d → (p : ℕ) → find (λ j. holdsHandle c h (j .row)) (t .jobs) ≡ some p
-      → Planned w c t (planWork (some p) how (valuesOf t)) (settle (map (λ l. copy l (w .kind)) (filter (hears how t) (listenersOf t (jobAt t p .row)))) (setJob t p (worked how n d (jobAt t p))))
-  unfolding planWork changed ordered valuesOf stepped
+      → Planned w c t (planWork (some p) how (valuesOf t)) (settle (tellAll how (w .kind) t (jobAt t p .row)) (setJob t p (worked how n d (jobAt t p))))
+  unfolding planWork changed ordered valuesOf stepped tellAll
   p-work h (that-tells n d) p e =
       by-parts w c t (setJob t p (jobAt t p)) _ SV.Nothing CV.Nothing _ (same-rows p (jobAt t p) refl)
       (record { ids = refl; functions = texts .functions; jobs = left-set SameJob p noJob _ (live-same (jobAt t p) (held-found t c h p e)) (texts .jobs) })

@@ -9,10 +9,9 @@ use lib.Dec.{ltb}
 use borrow.Author.Tests.{ltb-true}
 use Rattle.octets.specs.Bytes.{Bytes, same}
 use Rattle.lists.specs.Lists.{find}
-use Rattle.lists.proofs.Cases.{cond-cases}
-use Rattle.server.specs.Table.{Table, hasHandle, known, roomFor, best, freePlace, joined}
+use Rattle.server.specs.Table.{Table, known, roomFor, best, freePlace, joined}
 use Rattle.server.specs.Requests.{Work, Request, reset, preSleep, echo, bad, canDo, cantDo, identify, grab, submit, work, getStatus, option}
-use Rattle.server.specs.Events.{Send, Decision, refuse, settle, created, newJob, accepted, canDoAt, cantDoAt, grabAt, submitNew, submitTo, holdsHandle, workAt, statusAt, exceptionsName, optionIf, served}
+use Rattle.server.specs.Events.{Send, Decision, refuse, settle, canDoAt, cantDoAt, grabAt, submitNew, submitTo, holdsHandle, workAt, statusAt, exceptionsName, optionIf, served}
 use Rattle.server_laws.proofs.Outcome.{Change, able, unknown, disabled, identified, cleared, slept, noJobFor, grabbed, joins, accepts, worker, status, optioned, echoed, Refuses, unread, noRoom, noFunction, noPlace, noSerial, notHeld, noOption}
 use Rattle.plan.specs.declared.Plan.{Plan}
 use Rattle.plan.specs.declared.Step.the-variants as SV

@@ -1,9 +1,9 @@
 -- What the end of an event does to a table, place by place: a connection wakes or sleeps on, a function is forgotten or stays. And who
 -- wakes and what is forgotten where one job, one connection or one function of a table that obeys the rules is changed. Assumes nothing.
-use Prim.Native.Nat.{ℕ, zero, suc, _<_}
+use Prim.Native.Nat.{ℕ, _<_}
 use mathlib.Core.Path.{_≡_, refl, ap, sym, _∙_, subst}
 use mathlib.Core.Bool.{Bool, true, false, not, cond, _&&_, _||_}
-use mathlib.Core.List.{List, [], _∷_}
+use mathlib.Core.List.{List, []}
 use native.Mathlib.Decide.{ℕ-discrete}
 use borrow.Author.Tests.{eq-eqb, eqb-true}
 use lib.ListN.{length, getD, set, length-set}
@@ -20,7 +20,7 @@ use Rattle.lists.proofs.Maps.{map-set}
 use Rattle.lists.proofs.Rows.{clash, never, iff, all-set, any-at, any-where, length-mapFrom, mapFrom-at}
 use Rattle.server.specs.declared.Connection.{Connection}
 use Rattle.server.specs.declared.JobRow.{JobRow}
-use Rattle.server.specs.Table.{Function, Job, Table, closed, noJob, noRow, noFunction, connectionAt, functionAt, jobAt, rowsOf, ablesOf, queued, names, wanted, able, grabbable, withConnections, withIds, withFunctions, setConnection, setJob}
+use Rattle.server.specs.Table.{Function, Job, Table, closed, noRow, noFunction, connectionAt, functionAt, jobAt, rowsOf, ablesOf, queued, names, wanted, able, grabbable, withConnections, withIds, withFunctions, setConnection, setJob}
 use Rattle.server.specs.Events.{dropped, wakes, awake, wokenIn, woken, forgot, toWakeIn, toWake}
 use Rattle.server.specs.Rules.{queuedAwaited}
 use Rattle.server_laws.proofs.Numbers.{row-at, able-at, rows-long, row-passes, row-where}

@@ -1,17 +1,16 @@
--- The listeners that hear of an exception: those that set the option. Assumes nothing.
-use Prim.Native.Nat.{ℕ, zero, suc, _+_, _<_, _≤_}
-use mathlib.Core.Path.{_≡_, refl, ap, ap₂, sym, _∙_}
+-- The listeners that hear an exception: those that set the option. Assumes nothing.
+use Prim.Native.Nat.{ℕ, zero, suc, _+_, _<_}
+use mathlib.Core.Path.{_≡_, refl, ap, sym, _∙_}
 use mathlib.Core.Logic.{_≢_}
 use mathlib.Core.Bool.{Bool, true, false, cond, _&&_}
-use mathlib.Core.List.{List, [], _∷_, _++_}
+use mathlib.Core.List.{List, [], _∷_, map}
 use native.Mathlib.Nat.{zero-add, add-zero, le-of-suc-le-suc}
 use native.Mathlib.Omega.{arith}
 use lib.ListN.{length, getD}
 use Rattle.sets.specs.Sets.{has, remove, members}
+use Rattle.sets.proofs.Members.{map-members}
 use Rattle.sets.proofs.Laws.{has-remove-same, has-remove-other}
 use Rattle.server.specs.declared.Connection.{Connection}
-use Rattle.lists.specs.Lists.{filter}
-use Rattle.lists.proofs.Maps.{filter-append}
 use Rattle.server.specs.Table.{closed}
 use Rattle.plan.specs.Parts.{heardFrom, heard}
 
@@ -49,19 +48,12 @@ heard-has (y ∷ cs) c s (suc k) h =
     ∙ heard-has cs (suc c) (cond (y .exceptions) s (remove s c)) k (le-of-suc-le-suc h)
     ∙ ap (λ (b : Bool). b && getD cs k closed .exceptions) (deaf-step (y .exceptions) s c (suc c + k) (λ q. omega arith) ∙ ap (has s) (sym e))
 
--- the listeners with the option, rising
-members-heard : (cs : List Connection) (s n : ℕ) → n ≤ length cs → filter (λ l. getD cs l closed .exceptions) (members n s) ≡ members n (heard cs s)
-unfolding members heard
-members-heard cs s zero h = refl
-members-heard cs s (suc n) h =
-    filter-append _ (members n s) (cond (has s n) (n ∷ []) [])
-    ∙ ap₂ (λ (l r : List ℕ). l ++ r) (members-heard cs s n (omega arith))
-    (one (has s n) (getD cs n closed .exceptions) ∙ ap (λ (b : Bool). cond b (n ∷ []) [])
-    (sym (ap (has (heardFrom 0 cs s)) (sym (zero-add n)) ∙ heard-has cs 0 s n h ∙ ap (λ (m : ℕ). has s m && getD cs n closed .exceptions) (zero-add n))))
-  where
-    one : (a b : Bool) → filter (λ l. getD cs l closed .exceptions) (cond a (n ∷ []) []) ≡ cond (a && getD cs n closed .exceptions) (n ∷ []) []
-    one true b = refl
-    one false b = refl
+-- of the listeners
+heard-option : (cs : List Connection) (s l : ℕ) → l < length cs → has s l ≡ true → has (heard cs s) l ≡ getD cs l closed .exceptions
+unfolding heard
+heard-option cs s l h e = ap (has (heardFrom 0 cs s)) (sym (zero-add l)) ∙ heard-has cs 0 s l h ∙ ap (λ (m : ℕ). has s m && getD cs l closed .exceptions) (zero-add l) ∙ ap (λ (b : Bool). b && getD cs l closed .exceptions) e
 
-pub hears-option : (cs : List Connection) (s : ℕ) → filter (λ l. getD cs l closed .exceptions) (members (length cs) s) ≡ members (length cs) (heard cs s)
-hears-option cs s = members-heard cs s (length cs) (omega arith)
+-- what each of them is sent, one thing or another
+pub told-option : {A : Type 0} (f g : ℕ → A) (cs : List Connection) (s : ℕ)
+    → map (λ l. cond (has (heard cs s) l) (f l) (g l)) (members (length cs) s) ≡ map (λ l. cond (getD cs l closed .exceptions) (f l) (g l)) (members (length cs) s)
+told-option f g cs s = map-members _ _ (length cs) s (λ l h e. ap (λ (b : Bool). cond b (f l) (g l)) (heard-option cs s l h e))

@@ -364,7 +364,7 @@ module _ (w : Words) (c : ℕ) (t : Table) (ok : obeys t ≡ true) where
   work-leans h (that-tells n d) p e = nothing-leans 0 (OV.Copies (rowIn (valuesOf t) p .listeners))
   work-leans h that-reports p e = report-leans h p (OV.Copies (rowIn (valuesOf t) p .listeners)) e
   work-leans h (that-ends n d) p e = end-leans h p (OV.Copies (rowIn (valuesOf t) p .listeners)) e
-  work-leans h (that-throws n d) p e = end-leans h p (OV.Copies (heard (valuesOf t .connections) (rowIn (valuesOf t) p .listeners))) e
+  work-leans h (that-throws n d) p e = end-leans h p (OV.Told (rowIn (valuesOf t) p .listeners) (heard (valuesOf t .connections) (rowIn (valuesOf t) p .listeners)) (rowIn (valuesOf t) p .serial)) e
 
   status-leans : (o : Option ℕ) → Leans (planStatus o)
   status-leans none = nothing-leans 0 OV.Unknown

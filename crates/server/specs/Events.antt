@@ -1,6 +1,6 @@
 -- What is done: the number, the packets to send and the next table. 01, "Refusal numbers" and "Jobs and the queue". Nothing here sees
 -- an opaque byte. Assumes nothing.
-use Prim.Native.Nat.{ℕ, suc, _+_, _-_, _/_, _%_}
+use Prim.Native.Nat.{ℕ, suc, _+_, _/_, _%_}
 use mathlib.Core.Bool.{Bool, true, false, not, cond, _&&_}
 use mathlib.Core.Option.{Option, none, some}
 use mathlib.Core.List.{List, [], _∷_, _++_, map}
@@ -180,12 +180,31 @@ submitTo none c priority background f u size t = submitNew (roomFor (t .function
 unfoldable pub holdsHandle : ℕ → Bytes → JobRow → Bool
 holdsHandle c h r = heldBy c r && hasHandle h r
 
--- 01: "Worker packets go to all listeners. [..] 25 ends the job and goes only to listeners that set `exceptions`."
+-- who gets the copy. 01: "Worker packets go to all listeners. [..] 25 ends the job and goes only to listeners that set `exceptions`."
 abbrev pub hears : Work → Table → ℕ → Bool
 hears tells t l = true
 hears reports t l = true
 hears ends t l = true
 hears throws t l = connectionAt t l .exceptions
+
+-- 02: "WORK_FAIL with the handle alone"
+abbrev pub failure : ℕ → ℕ → Send
+failure serial l = plain l 14 (handle lap serial ∷ [])
+
+abbrev pub listenersOf : Table → JobRow → List ℕ
+listenersOf t r = members (length (t .connections)) (r .listeners)
+
+-- WORK_FAIL to all listeners of a job: what an exception sends where nobody has set the option
+abbrev pub failures : Table → JobRow → List Send
+failures t r = map (failure (r .serial)) (listenersOf t r)
+
+-- 02, of type 25: "all others get WORK_FAIL with the handle alone, in one rising order of connection": all other listeners
+abbrev pub tell : Work → ℕ → Table → JobRow → ℕ → Send
+tell how kind t r l = cond (hears how t l) (copy l kind) (failure (r .serial) l)
+
+-- one packet to each listener of a job
+unfoldable pub tellAll : Work → ℕ → Table → JobRow → List Send
+tellAll how kind t r = map (tell how kind t r) (listenersOf t r)
 
 -- 01: "12 also stores its two texts as they came. 13 and 14 end the job. 25 ends the job"
 abbrev pub worked : Work → Bytes → Bytes → Job → Job
@@ -194,13 +213,10 @@ worked reports n d j = withTexts n d j
 worked ends n d j = noJob
 worked throws n d j = noJob
 
-abbrev pub listenersOf : Table → JobRow → List ℕ
-listenersOf t r = members (length (t .connections)) (r .listeners)
-
 unfoldable pub workAt : Option ℕ → Work → ℕ → ℕ → Bytes → Bytes → Table → Decision
 workAt none how kind c n d t = refuse c 14 t
 workAt (some p) how kind c n d t =
-    settle (map (λ l. copy l kind) (filter (hears how t) (listenersOf t (jobAt t p .row)))) (setJob t p (worked how n d (jobAt t p)))
+    settle (tellAll how kind t (jobAt t p .row)) (setJob t p (worked how n d (jobAt t p)))
 
 -- ---- status, options
 

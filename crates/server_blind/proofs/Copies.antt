@@ -1,5 +1,6 @@
 -- Who may see the opaque bytes of an event's own packet: an echo's sender, and the listeners of the job of which a worker packet
--- tells. Every other packet that the event sends is the same whatever those bytes are. Assumes nothing.
+-- tells, of an exception those that set the option. Every other packet that the event sends is the same whatever those bytes are.
+-- Assumes nothing.
 use Prim.Native.Nat.{ℕ}
 use mathlib.Core.Path.{_≡_, refl, sym, subst}
 use mathlib.Core.Bool.{Bool, true}
@@ -10,7 +11,7 @@ use Rattle.sets.specs.Sets.{has}
 use Rattle.lists.specs.Lists.{find}
 use Rattle.server.specs.Table.{Table, jobAt}
 use Rattle.server.specs.Requests.{Event, sends, Work, Request, echo, work, requestIn}
-use Rattle.server.specs.Events.{Send, plain, copy, assign, holdsHandle}
+use Rattle.server.specs.Events.{Send, plain, copy, assign, holdsHandle, hears}
 use Rattle.server.specs.Server.{Server, Sent, render, answer}
 use Rattle.lists.proofs.Cases.{All, All2, all-more}
 use Rattle.server_laws.proofs.Packets.{Sends, why-sent}
@@ -22,10 +23,11 @@ pub record Listens (c : ℕ) (t : Table) (h : Bytes) (l : ℕ) : Type 0 where
   pub held : find (λ j. holdsHandle c h (j .row)) (t .jobs) ≡ some place
   pub listens : has (jobAt t place .row .listeners) l ≡ true
 
--- connection l may see the opaque bytes of what connection c asks: its own echo, and what is told of a job to which it listens
+-- connection l may see the opaque bytes of what connection c asks: its own echo, and what is told of a job to which it listens; 02: "a changed
+-- exception may show only in the copies that carry it"
 pub data Sees (c : ℕ) (t : Table) : Request → ℕ → Type 0 where
   sees-echo : Sees c t echo c
-  sees-work : {how : Work} {kind : ℕ} {h n d : Bytes} {l : ℕ} → Listens c t h l → Sees c t (work how kind h n d) l
+  sees-work : {how : Work} {kind : ℕ} {h n d : Bytes} {l : ℕ} → Listens c t h l → hears how t l ≡ true → Sees c t (work how kind h n d) l
 
 -- the same of an event: only a packet has opaque bytes
 pub data MaySee (t : Table) : Event → ℕ → Type 0 where
@@ -46,7 +48,8 @@ carries (Sends.no-job c b uniq q r) = a-plain
 carries (Sends.the-job c b uniq q p r) = an-assignment
 carries (Sends.handle-joined c b priority background f u size q p r) = a-plain
 carries (Sends.handle-made c b priority background f u size q l m) = a-plain
-carries {t} (Sends.a-copy c b how kind h n d q p r l m w) = a-copy (sees c b (subst (λ (a : Request). Sees c t a l) (sym q) (sees-work (record { place = p; held = r; listens = m }))))
+carries {t} (Sends.a-copy c b how kind h n d q p r l m w) = a-copy (sees c b (subst (λ (a : Request). Sees c t a l) (sym q) (sees-work (record { place = p; held = r; listens = m }) w)))
+carries (Sends.a-failure c b how kind h n d q p r l m w) = a-plain
 carries (Sends.a-status c b h q o r) = a-plain
 carries (Sends.an-option c b name q r) = a-plain
 carries {t} (Sends.an-echo c b q) = a-copy (sees c b (subst (λ (a : Request). Sees c t a c) (sym q) sees-echo))

@@ -1,7 +1,7 @@
 -- Demand 3, its sentences on one packet: one submission, one worker packet or one echo has other opaque bytes, and all other events
 -- are equal. What may then differ, at that event and at any events after it; from any server. Assumes nothing.
 use Prim.Native.Nat.{ℕ, suc}
-use mathlib.Core.Path.{_≡_, refl, ap, ap₂, _∙_, subst}
+use mathlib.Core.Path.{_≡_, refl, ap, ap₂, _∙_}
 use mathlib.Core.List.{List, [], _∷_, _++_}
 use Rattle.octets.specs.Bytes.{Bytes}
 use Rattle.server.specs.Table.{Table}
@@ -67,7 +67,7 @@ later-by a s (one d i m c g) = made-one c (lone-created a s _ c)
 
 submits-unseen : {a : Request} {c l : ℕ} {t : Table} → IsSubmit a → ¬ Sees c t a l
 submits-unseen i sees-echo = elim i [ ]
-submits-unseen i (sees-work x) = elim i [ ]
+submits-unseen i (sees-work x w) = elim i [ ]
 
 nobody-sees : {e : Event} {d : ℕ} → Submits e d → (t : Table) (l : ℕ) → ¬ MaySee t e l
 nobody-sees (submits c b i) t l (sees x y z) = submits-unseen i z

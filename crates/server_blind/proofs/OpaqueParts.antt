@@ -166,6 +166,7 @@ fits-sent n s h (Sends.the-job c b uniq q p r) =
 fits-sent n s h (Sends.handle-joined c b priority background f u size q p r) = fits-plain _ s c 8 _ (omega arith) refl
 fits-sent n s h (Sends.handle-made c b priority background f u size q l m) = fits-plain _ s c 8 _ (omega arith) refl
 fits-sent n s h (Sends.a-copy c b how kind j x y q p r l m w) = fits-copy _ s l kind (work-forwarded c b how kind j x y q)
+fits-sent n s h (Sends.a-failure c b how kind j x y q p r l m w) = fits-plain _ s l 14 _ (omega arith) refl
 fits-sent n s h (Sends.a-status c b j q o r) = fits-plain _ s c 20 _ (omega arith) refl
 fits-sent n s h (Sends.an-option c b name q r) = fits-plain _ s c 27 _ (omega arith) refl
 fits-sent n s h (Sends.an-echo c b q) = fits-copy _ s c 17 (echo-forwarded c b q)

@@ -1,6 +1,6 @@
 -- The output always fits: with a table of n connections that obeys the rules, what an event sends has at most `outputSize n` bytes: a
 -- copy of the longest request for each connection, or one answer and a NOOP for each. Assumes nothing.
-use Prim.Native.Nat.{ℕ, zero, suc, _+_, _-_, _*_, _<_, _≤_}
+use Prim.Native.Nat.{ℕ, zero, suc, _+_, _*_, _<_, _≤_}
 use mathlib.Core.Path.{_≡_, refl, ap}
 use mathlib.Core.Bool.{Bool, true, false, not}
 use mathlib.Core.Option.{Option, none, some}
@@ -9,7 +9,7 @@ use native.Mathlib.Nat.{mul-suc}
 use native.Mathlib.Omega.{arith}
 use borrow.Author.Tests.{leb-true}
 use lib.ListN.{length, getD, length-append}
-use lib.Dec.{leb, ltb, eqb}
+use lib.Dec.{leb, eqb}
 use Rattle.octets.specs.Bytes.{Bytes, same}
 use Rattle.octets.proofs.Strings.{same-is}
 use Rattle.handle.specs.Handle.{handle, lap}
@@ -18,11 +18,12 @@ use Rattle.packet.specs.Arguments.{join}
 use Rattle.sets.specs.Sets.{has, members}
 use Rattle.lists.specs.Lists.{find, filter, numbers}
 use Rattle.server.specs.Sizes.{outputSize}
+use Rattle.server.specs.declared.JobRow.{JobRow}
 use Rattle.server.specs.Table.{Table, noJob, connectionAt, functionAt, jobAt, rowsOf, ablesOf, setJob, hasHandle}
 use Rattle.server.specs.Rules.{together}
 use Rattle.server.specs.Refusals.{refusalTexts, isTold}
-use Rattle.server.specs.Requests.{Event, sends, Work, Request, echo, work, getStatus, requestIn}
-use Rattle.server.specs.Events.{Send, plain, copy, assign, Decision, refuse, settle, dropped, wakes, toWake, noop, created, exceptionsName, flag, hears, listenersOf, worked, statusAt, silence, toWakeIn}
+use Rattle.server.specs.Requests.{Event, sends, Work, Request, echo, work, requestIn}
+use Rattle.server.specs.Events.{Send, plain, copy, assign, Decision, refuse, settle, dropped, wakes, toWake, noop, created, exceptionsName, flag, hears, failure, tell, tellAll, listenersOf, worked, statusAt, silence, toWakeIn}
 use Rattle.server.specs.Server.{Server, shownBy, opaqueOf, render, decided, answer}
 use Rattle.server.specs.Call.{sentBytes}
 use Rattle.lists.proofs.Lists.{length-numbers, length-fit}
@@ -65,12 +66,19 @@ module _ (e : Event) (s : Server) where
   unfolding render
   plain-weight to kind args = rw (weigh-more e s (plain to kind args) [], weigh-none e s) (omega arith)
 
-  copies-weight : (kind : ℕ) (ls : List ℕ) → length (shownBy e) + length (opaqueOf e) ≤ 1024 → weighs e s (map (λ l. copy l kind) ls) ≤ 1037 * length ls
+  copy-weight : (to kind : ℕ) → length (shownBy e) + length (opaqueOf e) ≤ 1024 → weighs e s (copy to kind ∷ []) ≤ 1037
   unfolding render
-  copies-weight kind [] h = rw (weigh-none e s) (omega arith)
-  copies-weight kind (l ∷ ls) h =
-      let r = copies-weight kind ls h in
-      rw (weigh-more e s (copy l kind) (map (λ l. copy l kind) ls), mul-suc) (omega arith)
+  copy-weight to kind h = rw (weigh-more e s (copy to kind) [], weigh-none e s) (omega arith)
+
+  -- one packet to each listener: the copy, or WORK_FAIL with the handle
+  tell-weight : (how : Work) (kind : ℕ) (r : JobRow) (ls : List ℕ) → length (shownBy e) + length (opaqueOf e) ≤ 1024 → weighs e s (map (tell how kind (s .table) r) ls) ≤ 1037 * length ls
+  unfolding render join
+  tell-weight how kind r [] h = rw (weigh-none e s) (omega arith)
+  tell-weight how kind r (l ∷ ls) h =
+      let rest = tell-weight how kind r ls h in
+      let m = handle-most lap (r .serial) in
+      cond-both (λ (x : Send). weighs e s (x ∷ map (tell how kind (s .table) r) ls) ≤ 1037 * suc (length ls)) (hears how (s .table) l)
+      (rw (weigh-more e s (copy l kind) _, mul-suc) (omega arith)) (rw (weigh-more e s (failure (r .serial) l) _, mul-suc) (omega arith))
 
   -- a job's handle, function, unique and workload
   assign-weight : (uniq : Bool) (to p : ℕ) → together (s .table) (jobAt (s .table) p) ≤ 1022 → weighs e s (assign uniq to p ∷ []) ≤ 1054
@@ -146,18 +154,18 @@ module _ (n : ℕ) (few : n ≤ 256) (e : Event) (s : Server) (h : Running n s) 
   job-together : (p : ℕ) → p < length (s .table .jobs) → together (s .table) (jobAt (s .table) p) ≤ 1022
   job-together p i = leb-true _ 1022 (all-at (λ j. leb (together (s .table) j) 1022) (s .table .jobs) p noJob (obeyed (s .table) (h .rules) .sound .sizes) i)
 
-  -- a worker packet: at most one copy for each connection, and no NOOP
+  -- a worker packet: one packet to each listener, and no NOOP
   worker-weight : (how : Work) (kind : ℕ) (x y : Bytes) (p : ℕ) → length (shownBy e) + length (opaqueOf e) ≤ 1024
-      → weighs e s (settle (map (λ l. copy l kind) (filter (hears how (s .table)) (listenersOf (s .table) (jobAt (s .table) p .row)))) (setJob (s .table) p (worked how x y (jobAt (s .table) p))) .packets) ≤ outputSize n
-  unfolding settle
+      → weighs e s (settle (tellAll how kind (s .table) (jobAt (s .table) p .row)) (setJob (s .table) p (worked how x y (jobAt (s .table) p))) .packets) ≤ outputSize n
+  unfolding settle tellAll
   worker-weight how kind x y p q =
       let t = s .table in
-      let ls = listenersOf t (jobAt t p .row) in
-      let a = length-filter (hears how t) ls in
-      let b = length-members (length (t .connections)) (jobAt t p .row .listeners) in
-      let c = copies-weight e s kind (filter (hears how t) ls) q in
+      let r = jobAt t p .row in
+      let ls = listenersOf t r in
+      let b = length-members (length (t .connections)) (r .listeners) in
+      let c = tell-weight e s how kind r ls q in
       let k = h .shaped .connections in
-      rw (worker-wakes-nobody t p how x y (obeyed t (h .rules) .idle), weigh-append e s (map (λ l. copy l kind) (filter (hears how t) ls)) [], weigh-none e s) (omega arith)
+      rw (worker-wakes-nobody t p how x y (obeyed t (h .rules) .idle), weigh-append e s (map (tell how kind t r) ls) [], weigh-none e s) (omega arith)
 
   status-at-weight : (c : ℕ) (j : Bytes) (o : Option ℕ) → find (λ k. hasHandle j (k .row)) (s .table .jobs) ≡ o → length j ≤ 1024
       → decided e s ≡ statusAt o c j (s .table) → weighs e s (statusAt o c j (s .table) .packets) ≤ outputSize n
@@ -190,7 +198,7 @@ module _ (n : ℕ) (few : n ≤ 256) (s : Server) (h : Running n s) where
   served-weight c b p q (Served.done a ss u (Change.worker how kind j x y k r)) = worker-weight n few (sends c b) s h how kind x y k (data-short c b (work how kind j x y) p refl)
   served-weight c b p q (Served.done a ss u (Change.status j o r)) = status-at-weight n few (sends c b) s h c j o r (handle-short b j p) q
   served-weight c b p q (Served.done a ss u (Change.optioned name r)) = one-weight n few (sends c b) s h _ _ q (option-weight (sends c b) s c name r)
-  served-weight c b p q (Served.done a ss u Change.echoed) = one-weight n few (sends c b) s h _ _ q (omega (arith, copies-weight (sends c b) s 17 (c ∷ []) (data-short c b echo p refl)))
+  served-weight c b p q (Served.done a ss u Change.echoed) = one-weight n few (sends c b) s h _ _ q (omega (arith, copy-weight (sends c b) s c 17 (data-short c b echo p refl)))
 
   event-weight : (e : Event) {d : Decision} → decided e s ≡ d → Outcome (s .table) e d → weighs e s (d .packets) ≤ outputSize n
   unfolding silence

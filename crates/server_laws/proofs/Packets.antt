@@ -2,18 +2,19 @@
 -- reason. Assumes nothing.
 use Prim.Native.Nat.{ℕ, zero, suc, _<_}
 use mathlib.Core.Path.{_≡_, refl}
-use mathlib.Core.Bool.{Bool, true}
+use mathlib.Core.Bool.{Bool, true, false}
 use mathlib.Core.Option.{Option, none, some}
 use mathlib.Core.List.{List, [], _∷_}
 use lib.ListN.{length}
 use Rattle.octets.specs.Bytes.{Bytes, same}
 use Rattle.sets.specs.Sets.{has, members}
-use Rattle.lists.specs.Lists.{find, filter}
+use Rattle.lists.specs.Lists.{find}
 use Rattle.lists.proofs.Cases.{All, cond-cases, all-append, all-map, all-any}
+use Rattle.server.specs.declared.JobRow.{JobRow}
 use Rattle.server.specs.Table.{Table, jobAt, hasHandle, best, joined}
 use Rattle.server.specs.Requests.{Event, sends, Work, Request, grab, submit, work, getStatus, option, echo, requestIn}
 use Rattle.server.specs.Refusals.{isTold}
-use Rattle.server.specs.Events.{Send, plain, copy, assign, Decision, silence, refuse, settle, error, noop, created, dropped, toWake, unableToAll, sleeping, holdsHandle, hears, statusOf, exceptionsName}
+use Rattle.server.specs.Events.{Send, plain, copy, assign, Decision, silence, refuse, settle, error, noop, created, dropped, toWake, unableToAll, sleeping, holdsHandle, hears, failure, tell, tellAll, statusOf, exceptionsName}
 use Rattle.server.specs.Server.{Server, decided}
 use Rattle.server_laws.proofs.Outcome.{Change, Served, Outcome, outcome}
 use Rattle.server_laws.proofs.Places.{settled-last}
@@ -29,6 +30,8 @@ pub data Sends (t : Table) (last : ℕ) : Event → Send → Type 0 where
       → Sends t last (sends c b) (created c (suc (t .last)))
   a-copy : (c : ℕ) (b : Bytes) (how : Work) (kind : ℕ) (h n d : Bytes) → requestIn b ≡ work how kind h n d → (p : ℕ) → find (λ j. holdsHandle c h (j .row)) (t .jobs) ≡ some p
       → (l : ℕ) → has (jobAt t p .row .listeners) l ≡ true → hears how t l ≡ true → Sends t last (sends c b) (copy l kind)
+  a-failure : (c : ℕ) (b : Bytes) (how : Work) (kind : ℕ) (h n d : Bytes) → requestIn b ≡ work how kind h n d → (p : ℕ) → find (λ j. holdsHandle c h (j .row)) (t .jobs) ≡ some p
+      → (l : ℕ) → has (jobAt t p .row .listeners) l ≡ true → hears how t l ≡ false → Sends t last (sends c b) (failure (jobAt t p .row .serial) l)
   a-status : (c : ℕ) (b h : Bytes) → requestIn b ≡ getStatus h → (o : Option ℕ) → find (λ j. hasHandle h (j .row)) (t .jobs) ≡ o → Sends t last (sends c b) (plain c 20 (statusOf o h t))
   an-option : (c : ℕ) (b name : Bytes) → requestIn b ≡ option name → same name exceptionsName ≡ true → Sends t last (sends c b) (plain c 27 (name ∷ []))
   an-echo : (c : ℕ) (b : Bytes) → requestIn b ≡ echo → Sends t last (sends c b) (copy c 17)
@@ -36,15 +39,16 @@ pub data Sends (t : Table) (last : ℕ) : Event → Send → Type 0 where
 
 -- ---- the listeners of a job
 
--- those who belong to the set, and to the list by a test of their own
-pub members-have : (n s : ℕ) → All (λ (l : ℕ). has s l ≡ true) (members n s)
+members-have : (n s : ℕ) → All (λ (l : ℕ). has s l ≡ true) (members n s)
 unfolding members
 members-have zero s = All.none
 members-have (suc n) s = all-append (members-have n s) (cond-cases (All (λ (l : ℕ). has s l ≡ true)) (has s n) (λ e. All.more e All.none) (λ e. All.none))
 
-filter-passes : {P : ℕ → Type 0} (f : ℕ → Bool) {xs : List ℕ} → All P xs → All (λ l. P l × (f l ≡ true)) (filter f xs)
-filter-passes f All.none = All.none
-filter-passes {P} f (All.more {a = x} q qs) = cond-cases (All (λ l. P l × (f l ≡ true))) (f x) (λ e. All.more (q, e) (filter-passes f qs)) (λ e. filter-passes f qs)
+-- each gets the copy, or WORK_FAIL
+pub told-each : (how : Work) (kind : ℕ) (t : Table) (r : JobRow) {P : Send → Type 0} → ((l : ℕ) → has (r .listeners) l ≡ true → hears how t l ≡ true → P (copy l kind))
+    → ((l : ℕ) → has (r .listeners) l ≡ true → hears how t l ≡ false → P (failure (r .serial) l)) → All P (tellAll how kind t r)
+unfolding tellAll
+told-each how kind t r {P} f g = all-map (tell how kind t r) (λ l m. cond-cases P (hears how t l) (f l m) (g l m)) (members-have (length (t .connections)) (r .listeners))
 
 -- ---- the walk
 
@@ -62,7 +66,7 @@ module _ (c : ℕ) (b : Bytes) (t : Table) where
   change-sends q (Change.joins priority background f u size p r) = All.more (handle-joined c b priority background f u size q p r) All.none
   change-sends q (Change.accepts priority background f u size k p r₁ r₂ r₃ l) = All.more (handle-made c b priority background f u size q l refl) All.none
   change-sends q (Change.worker how kind h n d p r) =
-      all-map (λ l. copy l kind) (λ l m. a-copy c b how kind h n d q p r l (m .0) (m .1)) (filter-passes (hears how t) (members-have (length (t .connections)) (jobAt t p .row .listeners)))
+      told-each how kind t (jobAt t p .row) (a-copy c b how kind h n d q p r) (a-failure c b how kind h n d q p r)
   change-sends q (Change.status h o r) = All.more (a-status c b h q o r) All.none
   change-sends q (Change.optioned name r) = All.more (an-option c b name q r) All.none
   change-sends q Change.echoed = All.more (an-echo c b q) All.none

@@ -1,6 +1,6 @@
--- 01: "Worker packets go to all listeners", and "25 [..] goes only to listeners that set `exceptions`"; "Packets to several connections
--- go in rising connection order". Each listener that hears of it gets exactly one copy, and nothing else is sent. For a table that
--- obeys the rules. Assumes nothing.
+-- 01: "Worker packets go to all listeners"; 02, of type 25: to those that set `exceptions`, and "all others get WORK_FAIL with the handle
+-- alone, in one rising order of connection". Each listener gets exactly one packet, and nothing else is sent. For a table that obeys the
+-- rules. Assumes nothing.
 use Prim.Native.Nat.{ℕ, zero, suc, _<_, _≤_}
 use mathlib.Core.Path.{_≡_, refl, ap, sym, _∙_}
 use mathlib.Core.Logic.{_≢_}
@@ -9,22 +9,24 @@ use mathlib.Core.Option.{some}
 use mathlib.Core.List.{List, [], _∷_, _++_, map, append-nil}
 use native.Mathlib.Decide.{ℕ-discrete}
 use native.Mathlib.Omega.{arith}
-use borrow.Author.Tests.{eq-eqb, ne-eqb, eqb-true, lt-ltb, le-ltb, ltb-true}
+use borrow.Author.Tests.{eq-eqb, ne-eqb, lt-ltb, le-ltb, ltb-true}
 use lib.ListN.{length}
 use lib.Dec.{eqb, ltb}
 use Rattle.octets.specs.Bytes.{Bytes}
 use Rattle.octets.proofs.Strings.{and-left, and-right, and-both}
 use Rattle.sets.specs.Sets.{has, members}
-use Rattle.lists.specs.Lists.{any, all, pairwise, find, filter}
-use Rattle.server.specs.Table.{Function, Job, Table, noJob, jobAt, setJob, grabbable}
+use Rattle.sets.proofs.Members.{map-members}
+use Rattle.lists.specs.Lists.{any, all, pairwise, find}
+use Rattle.server.specs.declared.JobRow.{JobRow}
+use Rattle.server.specs.Table.{Job, Table, noJob, connectionAt, jobAt, setJob, grabbable}
 use Rattle.server.specs.Requests.{Work, tells, reports, ends, throws, work}
-use Rattle.server.specs.Events.{Decision, copy, holdsHandle, hears, listenersOf, worked, workAt, served}
+use Rattle.server.specs.Events.{Decision, copy, holdsHandle, failure, failures, tell, tellAll, listenersOf, worked, workAt, served}
 use Rattle.server.specs.Rules.{obeys}
 use Rattle.lists.proofs.Cases.{cond-both}
 use Rattle.lists.proofs.Searches.{found}
 use Rattle.lists.proofs.Rows.{clash, iff, all-at}
 use Rattle.server_laws.proofs.Obeyed.{obeyed}
-use Rattle.server_words.proofs.Quiet.{and-off, Quiet, awaited, one-job-quiet}
+use Rattle.server_words.proofs.Quiet.{Quiet, awaited, one-job-quiet}
 
 -- ---- members of a set, in order
 
@@ -55,18 +57,6 @@ pub members-rise : (n s : ℕ) → pairwise ltb (members n s) ≡ true
 unfolding members
 members-rise zero s = refl
 members-rise (suc n) s = rising-more n s (has s n) (members-rise n s)
-
-all-filter : (p q : ℕ → Bool) (xs : List ℕ) → all p xs ≡ true → all p (filter q xs) ≡ true
-all-filter p q [] e = refl
-all-filter p q (x ∷ xs) e =
-    let r = all-filter p q xs (and-right (p x) _ e) in
-    cond-both (λ (l : List ℕ). all p l ≡ true) (q x) (and-both (p x) _ (and-left (p x) _ e) r) r
-
-rising-filter : (q : ℕ → Bool) (xs : List ℕ) → pairwise ltb xs ≡ true → pairwise ltb (filter q xs) ≡ true
-rising-filter q [] e = refl
-rising-filter q (x ∷ xs) e =
-    let r = rising-filter q xs (and-right (all (ltb x) xs) _ e) in
-    cond-both (λ (l : List ℕ). pairwise ltb l ≡ true) (q x) (and-both (all (ltb x) (filter q xs)) _ (all-filter (ltb x) q xs (and-left (all (ltb x) xs) _ e)) r) r
 
 -- ---- who is in the list
 
@@ -104,24 +94,14 @@ members-are (suc n) s l =
     ∙ ap (λ (b : Bool). b || isIn l (cond (has s n) (n ∷ []) [])) (members-are n s l)
     ∙ one-more n s l (ℕ-discrete n l) (has s n) refl
 
-filter-in : (q : ℕ → Bool) (l : ℕ) (xs : List ℕ) → isIn l (filter q xs) ≡ isIn l xs && q l
-filter-in q l [] = refl
-filter-in q l (x ∷ xs) = go (q x) refl (eqb x l) refl (filter-in q l xs)
-  where
-    go : (b : Bool) → q x ≡ b → (e : Bool) → eqb x l ≡ e → isIn l (filter q xs) ≡ isIn l xs && q l → isIn l (cond b (x ∷ filter q xs) (filter q xs)) ≡ (e || isIn l xs) && q l
-    go true z true w r = let i : x ≡ l = eqb-true x l w in rw (w, ← i, z)
-    go true z false w r = rw (w, r)
-    go false z true w r = let i : x ≡ l = eqb-true x l w in r ∙ rw (← i, z) (and-off (isIn x xs))
-    go false z false w r = r
-
 -- ---- worker packets
 
--- a worker packet: exactly these copies go out, each listener that hears of it comes once, and nobody else
+-- a worker packet: one packet to each of these, each listener comes once, and nobody else
 pub record ToldOnce (t : Table) (how : Work) (kind p : ℕ) (d : Decision) : Type 0 where
   pub listeners : List ℕ
-  pub packets : d .packets ≡ map (λ l. copy l kind) listeners
+  pub packets : d .packets ≡ map (tell how kind t (jobAt t p .row)) listeners
   pub rising : pairwise ltb listeners ≡ true
-  pub exactly : (l : ℕ) → isIn l listeners ≡ (ltb l (length (t .connections)) && has (jobAt t p .row .listeners) l) && hears how t l
+  pub exactly : (l : ℕ) → isIn l listeners ≡ ltb l (length (t .connections)) && has (jobAt t p .row .listeners) l
 
 worked-awaited : (how : Work) (n d : Bytes) (j : Job) → awaited (j .row) ≡ true → awaited (worked how n d j .row) ≡ true
 worked-awaited tells n d j e = e
@@ -136,23 +116,28 @@ worked-grabbable ends n d j ables k e = clash e refl
 worked-grabbable throws n d j ables k e = clash e refl
 
 module _ (t : Table) (c : ℕ) (how : Work) (kind : ℕ) (job n d : Bytes) (p : ℕ) (here : find (λ j. holdsHandle c job (j .row)) (t .jobs) ≡ some p) (h : obeys t ≡ true) where
-  abbrev heard : List ℕ
-  heard = filter (hears how t) (listenersOf t (jobAt t p .row))
-
-  work-quiet : Quiet (map (λ l. copy l kind) heard) (setJob t p (worked how n d (jobAt t p))) (served c (work how kind job n d) t)
+  work-quiet : Quiet (tellAll how kind t (jobAt t p .row)) (setJob t p (worked how n d (jobAt t p))) (served c (work how kind job n d) t)
   unfolding served workAt
   work-quiet =
       let o = obeyed t h in
       let i : p < length (t .jobs) = found (λ j. holdsHandle c job (j .row)) noJob (t .jobs) (some p) here .inside in
       rw here
       (one-job-quiet t (o .awaited) (o .idle) p (worked how n d (jobAt t p)) i
-      (worked-awaited how n d (jobAt t p) (all-at (λ j. awaited (j .row)) (t .jobs) p noJob (o .awaited) i)) (worked-grabbable how n d (jobAt t p)) (map (λ l. copy l kind) heard))
+      (worked-awaited how n d (jobAt t p) (all-at (λ j. awaited (j .row)) (t .jobs) p noJob (o .awaited) i)) (worked-grabbable how n d (jobAt t p)) (tellAll how kind t (jobAt t p .row)))
 
   pub work-told : ToldOnce t how kind p (served c (work how kind job n d) t)
+  unfolding tellAll
   work-told =
       record {
-        listeners = heard;
+        listeners = listenersOf t (jobAt t p .row);
         packets = work-quiet .packets;
-        rising = rising-filter (hears how t) (listenersOf t (jobAt t p .row)) (members-rise (length (t .connections)) (jobAt t p .row .listeners));
-        exactly = λ l. filter-in (hears how t) l (listenersOf t (jobAt t p .row)) ∙ ap (λ (b : Bool). b && hears how t l) (members-are (length (t .connections)) (jobAt t p .row .listeners) l);
+        rising = members-rise (length (t .connections)) (jobAt t p .row .listeners);
+        exactly = members-are (length (t .connections)) (jobAt t p .row .listeners);
       }
+
+-- ---- WORK_FAIL alone
+
+-- an exception of a job of which no listener has set the option: WORK_FAIL goes to all of them
+pub exception-fails : (t : Table) (kind : ℕ) (r : JobRow) → ((l : ℕ) → has (r .listeners) l ≡ true → connectionAt t l .exceptions ≡ false) → tellAll throws kind t r ≡ failures t r
+unfolding tellAll
+exception-fails t kind r f = map-members _ _ (length (t .connections)) (r .listeners) (λ l i m. ap (λ (b : Bool). cond b (copy l kind) (failure (r .serial) l)) (f l m))

@@ -1,7 +1,7 @@
 -- `carry_output::send_order` meets its contract, by the cases of the order and the bytes of each. Assumes nothing.
 use Rattle.carry_packet.proofs.Answers.{no-job-sendable, zero-fits}
 use Rattle.carry_packet.proofs.Forwarding.{forward-long}
-use Rattle.carry_output.proofs.Orders.{room-as, laid-as, fit-as, same-as, nothing-laid, created-order, no-job-order, unknown-order, optioned-order, copies-order, echo-order, assign-order, status-order}
+use Rattle.carry_output.proofs.Orders.{room-as, laid-as, fit-as, same-as, nothing-laid, created-order, no-job-order, unknown-order, optioned-order, copies-order, told-order, echo-order, assign-order, status-order}
 use borrow.Author.Needs.{needs}
 use Rattle.carry_output.proofs.send_order.Statement.{statement}
 use Rattle.carry_output.proofs.send_order.Tie as tie
@@ -43,6 +43,16 @@ forward-all-requires c κs =
     let o = rw e at (p .3) in
     (o, room-as _ _ _ (copies-order _ _ _ _ _ _ _ _ (forward-long _ _ _ o) e) (p .4))
 
+enum-known-order-4 : tie.Need-enum-known-order-4
+enum-known-order-4 c = search needs
+
+tell-all-requires : tie.Need-tell-all-requires
+tell-all-requires c κs =
+    let p = c .before .before .before .before .before .before .before .before .before .pre in
+    let e = c .before .before .order4 .given .1 in
+    let o = rw e at (p .3) in
+    (o, room-as _ _ _ (told-order _ _ _ _ _ _ _ _ _ _ (forward-long _ _ _ o) e) (p .4))
+
 enum-told-3 : tie.Need-enum-told-3
 enum-told-3 c = search needs
 
@@ -53,13 +63,13 @@ forward-requires c κs =
     let o = rw e at (p .3) in
     (o, room-as _ _ _ (echo-order _ _ _ _ _ _ _ (forward-long _ _ _ o) e) (p .4))
 
-enum-known-order-4 : tie.Need-enum-known-order-4
-enum-known-order-4 c = search needs
+enum-known-order-5 : tie.Need-enum-known-order-5
+enum-known-order-5 c = search needs
 
 send-progress-requires : tie.Need-send-progress-requires
 send-progress-requires c κs =
     let p = c .before .before .before .before .before .before .before .before .before .pre in
-    let e = c .before .before .order4 .given .1 in
+    let e = c .before .before .order5 .given .1 in
     let o = rw e at (p .3) in
     (p .0, p .1, o .0, o .1, o .2, fit-as _ _ _ (status-order _ _ _ _ _ _ _ _ e) (p .4))
 
@@ -125,29 +135,38 @@ same-length-5 c = search needs
 
 returns-6 : tie.Need-returns-6
 returns-6 c =
-    let e = c .before .before .before .before .enum-told3 .given .1 in
-    let o = rw e at (c .before .before .before .before .before .before .before .before .before .before .before .pre .3) in
-    laid-as _ _ _ _ _ (echo-order _ _ _ _ _ _ _ (forward-long _ _ _ o) e) (c .before .before .forward .ensures)
+    let e = c .before .before .before .before .before .order4 .given .1 in
+    let o = rw e at (c .before .before .before .before .before .before .before .before .before .before .before .before .pre .3) in
+    laid-as _ _ _ _ _ (told-order _ _ _ _ _ _ _ _ _ _ (forward-long _ _ _ o) e) (c .before .before .tell-all .ensures)
 
 same-length-6 : tie.Need-same-length-6
 same-length-6 c = search needs
 
 returns-7 : tie.Need-returns-7
 returns-7 c =
-    same-as _ _ _ _ _ (status-order _ _ _ _ _ _ _ _ (c .before .before .before .before .before .order4 .given .1)) (c .before .before .send-progress .ensures)
+    let e = c .before .before .before .before .enum-told3 .given .1 in
+    let o = rw e at (c .before .before .before .before .before .before .before .before .before .before .before .pre .3) in
+    laid-as _ _ _ _ _ (echo-order _ _ _ _ _ _ _ (forward-long _ _ _ o) e) (c .before .before .forward .ensures)
 
 same-length-7 : tie.Need-same-length-7
 same-length-7 c = search needs
 
 returns-8 : tie.Need-returns-8
 returns-8 c =
-    laid-as _ _ _ _ _ (unknown-order _ _ _ _ _ _ _ (c .before .before .before .before .before .before .enum-told4 .given .1)) (c .before .before .send-status .ensures)
+    same-as _ _ _ _ _ (status-order _ _ _ _ _ _ _ _ (c .before .before .before .before .before .order5 .given .1)) (c .before .before .send-progress .ensures)
 
 same-length-8 : tie.Need-same-length-8
 same-length-8 c = search needs
 
 returns-9 : tie.Need-returns-9
 returns-9 c =
+    laid-as _ _ _ _ _ (unknown-order _ _ _ _ _ _ _ (c .before .before .before .before .before .before .enum-told4 .given .1)) (c .before .before .send-status .ensures)
+
+same-length-9 : tie.Need-same-length-9
+same-length-9 c = search needs
+
+returns-10 : tie.Need-returns-10
+returns-10 c =
     laid-as _ _ _ _ _ (optioned-order _ _ _ _ _ _ _ (c .before .before .before .before .enum-told5 .given .1)) (c .before .before .send-option .ensures)
 
 pub send-order-spec : {M : Type 1} → statement M
@@ -163,9 +182,11 @@ send-order-spec =
     send-job-requires
     enum-known-order-3
     forward-all-requires
+    enum-known-order-4
+    tell-all-requires
     enum-told-3
     forward-requires
-    enum-known-order-4
+    enum-known-order-5
     send-progress-requires
     enum-told-4
     slice-aggregate-send-status
@@ -189,4 +210,6 @@ send-order-spec =
     same-length-7
     returns-8
     same-length-8
-    returns-9)
+    returns-9
+    same-length-9
+    returns-10)

@@ -6,7 +6,7 @@ use native.Mathlib.Omega.{arith}
 use lib.ListN.{length}
 use Rattle.octets.specs.Put.{put}
 use Rattle.sets.specs.Sets.{members}
-use Rattle.carry_packet.specs.Messages.{messages}
+use Rattle.carry_packet.specs.Messages.{toldMessages}
 use Rattle.carry_packet.proofs.Several.{start-place, start-laid, turn-below, turn-room, turn-place, turn-laid, end-place, end-laid}
 use borrow.Author.Needs.{needs}
 use Rattle.server.specs.Sizes.{connectionCount}
@@ -14,10 +14,10 @@ use Rattle.carry_packet.proofs.send_all.Statement.{statement}
 use Rattle.carry_packet.proofs.send_all.Tie as tie
 
 abbrev Inv-loop : tie.InvT-loop
-Inv-loop out₀ at to kind d place₀ listener₀ out place listener = (listener ≤ connectionCount) × (length out ≡ length out₀) × (place ≡ at + length (messages (members listener to) kind d)) × (out ≡ put at (messages (members listener to) kind d) out₀)
+Inv-loop out₀ at to heard kind d failed place₀ listener₀ out place listener = (listener ≤ connectionCount) × (length out ≡ length out₀) × (place ≡ at + length (toldMessages (members listener to) heard kind d failed)) × (out ≡ put at (toldMessages (members listener to) heard kind d failed) out₀)
 
 abbrev μ-loop : tie.MeasureT-loop
-μ-loop out₀ at to kind d place₀ listener₀ out place listener = connectionCount - listener
+μ-loop out₀ at to heard kind d failed place₀ listener₀ out place listener = connectionCount - listener
 
 loop-holds : tie.Need-loop-holds Inv-loop μ-loop
 loop-holds c = search (needs, start-place, start-laid)
@@ -32,10 +32,10 @@ add-listener : tie.Need-add-listener Inv-loop μ-loop
 add-listener c = search needs
 
 loop-less : tie.Need-loop-less Inv-loop μ-loop
-loop-less c = let below = turn-below (c .before .before .before .before .before .before .before .before .before .args .to) (c .before .before .before .before .before .before .loop .listener) (c .before .before .before .before .before .has-more .result) (c .before .before .before .before .before .has-more .ensures) (c .before .before .before .before .if1 .taken) in omega arith
+loop-less c = let below = turn-below (c .before .before .before .before .before .before .before .before .before .before .args .to) (c .before .before .before .before .before .before .loop .listener) (c .before .before .before .before .before .has-more .result) (c .before .before .before .before .before .has-more .ensures) (c .before .before .before .before .if1 .taken) in omega arith
 
 loop-again : tie.Need-loop-again Inv-loop μ-loop
-loop-again c = let below = turn-below (c .before .before .before .before .before .before .before .before .before .args .to) (c .before .before .before .before .before .before .loop .listener) (c .before .before .before .before .before .has-more .result) (c .before .before .before .before .before .has-more .ensures) (c .before .before .before .before .if1 .taken) in search (needs, turn-place, turn-laid)
+loop-again c = let below = turn-below (c .before .before .before .before .before .before .before .before .before .before .args .to) (c .before .before .before .before .before .before .loop .listener) (c .before .before .before .before .before .has-more .result) (c .before .before .before .before .before .has-more .ensures) (c .before .before .before .before .if1 .taken) in search (needs, turn-place, turn-laid)
 
 same-length : tie.Need-same-length Inv-loop μ-loop
 same-length c = search needs
