@@ -25,7 +25,7 @@ use Rattle.command.specs.Say.{say}
 use Rattle.demands.specs.Messages.{told, argumentsOf}
 use Rattle.demands.specs.Answered.{Answered}
 use Rattle.demands.specs.Conditions.{first, conditions, lineConditions, typeOf}
-use Rattle.demands.specs.Listening.{heard, listens, resultFor, EachOnce}
+use Rattle.demands.specs.Listening.{heard, listens, catches, optionIn, resultFor, EachOnce}
 use Rattle.demands.specs.Exact.{Walk}
 use Rattle.demands.specs.Blind.{AlikeResults, One, OneException}
 use Rattle.demands.specs.Commands.{Said, Listed, Counted, SameText}
@@ -37,6 +37,7 @@ use Rattle.demands.proofs.Numbers.{number-first}
 use Rattle.demands.proofs.Walking.{walk-hub}
 use Rattle.demands.proofs.Handles.{call-stands, call-makes, call-unheard, calls-gone}
 use Rattle.demands.proofs.Restart.{restart-hub, told-restart}
+use Rattle.demands.proofs.Options.{calls-option}
 use Rattle.demands.proofs.Results.{calls-heard, call-tells-each, fresh-results}
 use Rattle.demands.proofs.Unmasked.{request-read}
 use Rattle.demands.proofs.Agreeing.{histories-agree}
@@ -116,16 +117,22 @@ module _ (n : ℕ) (m : Memory) (hub : Hub n m) where
       → listens c h (tableIn n (afterCalls n xs m)) ≡ heard c h (listens c h (tableIn n m)) xs (resultsOf n xs m)
   listeners-told c h xs = calls-heard n c h xs m hub
 
+  -- who has set the option is exactly who sent OPTION_REQ since it opened its connection, and was not refused, by the events and the numbers
+  -- of the history alone (`catches`); who had set it when it began counts
+  pub options-set : (c : ℕ) (xs : List Call) → LongOutputs n xs → optionIn (tableIn n (afterCalls n xs m)) c ≡ catches c (optionIn (tableIn n m) c) xs (resultsOf n xs m)
+  options-set c xs = calls-option c n xs m hub
+
   -- a worker packet that is done: one packet to each listener of the very job that it names, in rising order, and no other packet at all. It
   -- is a copy, with the data as it came; of type 25 only where the listener set the option, and otherwise WORK_FAIL with the handle
   pub results-go : (x : Call) → Long n x → (d : ℕ) (b h : Bytes) → x .event ≡ sends d b → readingTells h (read requests b) ≡ true → callOn n m x .number ≡ 0
-      → EachOnce (λ l. listens l h (tableIn n m)) (resultFor (tableIn n m) (typeOf b) (argumentsOf (sends d b)) h) (told (callOn n m x))
+      → EachOnce (λ l. listens l h (tableIn n m)) (resultFor (optionIn (tableIn n m)) (typeOf b) (argumentsOf (sends d b)) h) (told (callOn n m x))
   results-go = call-tells-each n m hub
 
--- both together, from a fresh table on: a result goes exactly to those who were told this very handle since their open
+-- all together, from a fresh table on: a result goes exactly to those who were told this very handle since their open, and an exception to those
+-- of them who asked for exceptions since then; the others hear WORK_FAIL
 pub results-told : (n : ℕ) (t w : Bytes) → Room n t w → (xs : List Call) → LongOutputs n xs → let m = freshMemory n t w in let u = afterCalls n xs m in
     (x : Call) → Long n x → (d : ℕ) (b h : Bytes) → x .event ≡ sends d b → readingTells h (read requests b) ≡ true → callOn n u x .number ≡ 0
-    → EachOnce (λ l. heard l h false xs (resultsOf n xs m)) (resultFor (tableIn n u) (typeOf b) (argumentsOf (sends d b)) h) (told (callOn n u x))
+    → EachOnce (λ l. heard l h false xs (resultsOf n xs m)) (resultFor (λ l. catches l false xs (resultsOf n xs m)) (typeOf b) (argumentsOf (sends d b)) h) (told (callOn n u x))
 results-told n t w r = fresh-results n (r .few) t w (r .longTable) (r .longWorkloads)
 
 -- ---- demand 3

@@ -15,6 +15,7 @@ pub mod OneChanged
 pub mod Exceptions
 pub mod Submissions
 pub mod Listeners
+pub mod Options
 pub mod Results
 pub mod Commands
 pub mod Demands

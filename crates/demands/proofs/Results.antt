@@ -14,11 +14,13 @@ use Rattle.handle.specs.Handle.{handle, lap}
 use Rattle.handle.proofs.Handles.{handle-one-to-one}
 use Rattle.sets.specs.Sets.{has}
 use Rattle.packet.specs.Packet.{Reading, refused, got, read, requests}
-use Rattle.lists.specs.Lists.{find}
+use Rattle.lists.specs.Lists.{find, implies}
 use Rattle.lists.proofs.Cases.{All}
-use Rattle.lists.proofs.Rows.{clash, never, or-left, any-imp}
+use Rattle.lists.proofs.Rows.{clash, never, or-left, any-imp, replicate-default}
+use Rattle.lists.proofs.Maps.{map-each}
 use Rattle.lists.proofs.Searches.{found}
-use Rattle.server.specs.Table.{Table, noJob, jobAt, live, heldBy, hasHandle, fresh}
+use Rattle.server.specs.declared.Connection.{Connection}
+use Rattle.server.specs.Table.{Table, closed, noJob, jobAt, live, heldBy, hasHandle, fresh}
 use Rattle.server.specs.Requests.{Event, sends, Work, tells, reports, ends, throws, Request, work, requestIn}
 use Rattle.server.specs.Events.{copy, Decision, refuse, silence, holdsHandle, hears, failure, tell, served, workAt, onlyIfOpen}
 use Rattle.server.specs.Rules.{isOpen}
@@ -34,11 +36,12 @@ use Rattle.demands.specs.Messages.{Message, told, argumentsOf, messageOf
 use Rattle.demands.specs.Handles.{givesHandle, readingGives, readingTells, given, stands}
 use Rattle.demands.specs.Hub.{Hub, Long, callOn, kept, afterCalls, resultsOf, tableIn, serverOf, freshMemory}
 use Rattle.demands.specs.Conditions.{typeOf}
-use Rattle.demands.specs.Listening.{createdIs, tellsCreated, submits, turns, heardAfter, heard, listens, wants, resultFor, EachOnce}
+use Rattle.demands.specs.Listening.{createdIs, tellsCreated, submits, turns, heardAfter, heard, listens, catches, optionIn, wants, resultFor, EachOnce}
 use Rattle.demands.proofs.Given.{At, at-stands}
 use Rattle.demands.proofs.Numbers.{throwing}
 use Rattle.demands.proofs.Gone.{Used, given-used, stands-used, used-next, made-newest, AsksWork, asks-work}
 use Rattle.demands.proofs.Hubs.{hub-fresh, fresh-server, hub-runs, call-number, call-tells, call-hub, call-next, calls-hub}
+use Rattle.demands.proofs.Options.{calls-option}
 use Rattle.demands.proofs.Listeners.{listens-at, nobody-listens, listener-inside, step-heard}
 
 -- ---- who was told has heard of a used handle
@@ -119,7 +122,7 @@ unfolding workAt refuse
 work-done none how kind c n d t e = absurd (omega arith)
 work-done (some p) how kind c n d t e = (p, refl)
 
-hears-wants : (how : Work) (kind : ℕ) (t : Table) (l : ℕ) → throwing how ≡ eqb kind 25 → hears how t l ≡ wants t kind l
+hears-wants : (how : Work) (kind : ℕ) (t : Table) (l : ℕ) → throwing how ≡ eqb kind 25 → hears how t l ≡ wants (optionIn t) kind l
 hears-wants tells kind t l e = rw (← e)
 hears-wants reports kind t l e = rw (← e)
 hears-wants ends kind t l e = rw (← e)
@@ -132,7 +135,7 @@ module _ (e : Event) (s : Server) (how : Work) (kind p : ℕ) (h : Bytes) (t : t
   told-one l true = refl
   told-one l false = rw q
 
-  map-told : (ls : List ℕ) → map (messageOf e s) (map (tell how kind (s .table) (jobAt (s .table) p .row)) ls) ≡ map (λ l. record { to = l; says = resultFor (s .table) kind (argumentsOf e) h l }) ls
+  map-told : (ls : List ℕ) → map (messageOf e s) (map (tell how kind (s .table) (jobAt (s .table) p .row)) ls) ≡ map (λ l. record { to = l; says = resultFor (optionIn (s .table)) kind (argumentsOf e) h l }) ls
   map-told [] = refl
   map-told (l ∷ ls) =
       ap₂ _∷_ (told-one l (hears how (s .table) l) ∙ ap (λ (b : Bool). record { to = l; says = cond b (got kind (argumentsOf e)) (got 14 (h ∷ [])) }) (hears-wants how kind (s .table) l t)) (map-told ls)
@@ -181,7 +184,7 @@ module _ (n : ℕ) (s : Server) (r : Running n s) (d : ℕ) (b h : Bytes) (w : r
   pub held-stands : stands h t ≡ true
   held-stands = at-stands h t held-at
 
-  pub tells-each : EachOnce (λ l. listens l h t) (resultFor t (typeOf b) (argumentsOf (sends d b)) h) (messagesOf (sends d b) s)
+  pub tells-each : EachOnce (λ l. listens l h t) (resultFor (optionIn t) (typeOf b) (argumentsOf (sends d b)) h) (messagesOf (sends d b) s)
   unfolding messagesOf
   tells-each =
       let a = asked in
@@ -198,12 +201,12 @@ module _ (n : ℕ) (s : Server) (r : Running n s) (d : ℕ) (b h : Bytes) (w : r
 
 -- what a call with a worker packet tells, if it is done
 pub call-tells-each : (n : ℕ) (m : Memory) → Hub n m → (x : Call) → Long n x → (d : ℕ) (b h : Bytes) → x .event ≡ sends d b → readingTells h (read requests b) ≡ true → callOn n m x .number ≡ 0
-    → EachOnce (λ l. listens l h (tableIn n m)) (resultFor (tableIn n m) (typeOf b) (argumentsOf (sends d b)) h) (told (callOn n m x))
+    → EachOnce (λ l. listens l h (tableIn n m)) (resultFor (optionIn (tableIn n m)) (typeOf b) (argumentsOf (sends d b)) h) (told (callOn n m x))
 unfolding serverIn
 call-tells-each n m hub x l d b h e w z =
     let s = serverOf n m in
     let y : answer (sends d b) s .number ≡ 0 = sym (ap (λ (v : Event). answer v s .number) e) ∙ sym (call-number n m hub x l) ∙ z in
-    subst (EachOnce (λ i. listens i h (tableIn n m)) (resultFor (tableIn n m) (typeOf b) (argumentsOf (sends d b)) h)) (sym (call-tells n m hub x l ∙ ap (λ (v : Event). messagesOf v s) e))
+    subst (EachOnce (λ i. listens i h (tableIn n m)) (resultFor (optionIn (tableIn n m)) (typeOf b) (argumentsOf (sends d b)) h)) (sym (call-tells n m hub x l ∙ ap (λ (v : Event). messagesOf v s) e))
     (tells-each n s (hub-runs n m hub) d b h w y)
 
 pub call-held-stands : (n : ℕ) (m : Memory) → Hub n m → (x : Call) → Long n x → (d : ℕ) (b h : Bytes) → x .event ≡ sends d b → readingTells h (read requests b) ≡ true → callOn n m x .number ≡ 0
@@ -213,31 +216,38 @@ call-held-stands n m hub x l d b h e w z =
     let s = serverOf n m in
     held-stands n s (hub-runs n m hub) d b h w (sym (ap (λ (v : Event). answer v s .number) e) ∙ sym (call-number n m hub x l) ∙ z)
 
--- after calls from a memory in which nobody listens to the job, as in a fresh one: exactly those who were told
-pub results-told : (n : ℕ) (xs : List Call) (m : Memory) → Hub n m → LongOutputs n xs → (h : Bytes) → ((l : ℕ) → listens l h (tableIn n m) ≡ false)
+-- after calls from a memory in which nobody listens to the job and nobody has set the option, as in a fresh one: exactly those who were told,
+-- and the exception to those who asked for it
+pub results-told : (n : ℕ) (xs : List Call) (m : Memory) → Hub n m → LongOutputs n xs → (h : Bytes) → ((l : ℕ) → listens l h (tableIn n m) ≡ false) → ((l : ℕ) → optionIn (tableIn n m) l ≡ false)
     → let u = afterCalls n xs m in (x : Call) → Long n x → (d : ℕ) (b : Bytes) → x .event ≡ sends d b → readingTells h (read requests b) ≡ true → callOn n u x .number ≡ 0
-    → EachOnce (λ l. heard l h false xs (resultsOf n xs m)) (resultFor (tableIn n u) (typeOf b) (argumentsOf (sends d b)) h) (told (callOn n u x))
-results-told n xs m hub ls h f x l d b e w z =
+    → EachOnce (λ l. heard l h false xs (resultsOf n xs m)) (resultFor (λ l. catches l false xs (resultsOf n xs m)) (typeOf b) (argumentsOf (sends d b)) h) (told (callOn n u x))
+results-told n xs m hub ls h f g x l d b e w z =
     let u = afterCalls n xs m in
     let hu = calls-hub n xs m hub ls in
     let y = call-held-stands n u hu x l d b h e w z in
     let o = call-tells-each n u hu x l d b h e w z in
+    let set : (i : ℕ) → optionIn (tableIn n u) i ≡ catches i false xs (resultsOf n xs m) = λ i. calls-option i n xs m hub ls ∙ ap (λ (q : Bool). catches i q xs (resultsOf n xs m)) (g i) in
     record {
       to = o .to;
-      packets = o .packets;
+      packets = o .packets ∙ map-each _ _ (λ i. ap (λ (q : Bool). record { to = i; says = cond (implies (eqb (typeOf b) 25) q) (got (typeOf b) (argumentsOf (sends d b))) (got 14 (h ∷ [])) }) (set i)) (o .to);
       rising = o .rising;
       exactly = λ i. o .exactly i ∙ calls-heard n i h xs m hub ls y ∙ ap (λ (q : Bool). heard i h q xs (resultsOf n xs m)) (f i);
     }
 
--- in a fresh memory nobody listens
+-- in a fresh memory nobody listens, and nobody has set the option
 fresh-silent : (n l : ℕ) (h : Bytes) → listens l h (start n .table) ≡ false
 unfolding start fresh listens hasHandle
 fresh-silent n l h = refl
 
+fresh-unset : (n l : ℕ) → optionIn (start n .table) l ≡ false
+unfolding start fresh
+fresh-unset n l = ap (λ (x : Connection). x .exceptions) (replicate-default n l closed)
+
 pub fresh-results : (n : ℕ) → n ≤ 256 → (t w : Bytes) → tableSize n ≤ length t → workloadsSize ≤ length w → (xs : List Call) → LongOutputs n xs
     → let m = freshMemory n t w in let u = afterCalls n xs m in
     (x : Call) → Long n x → (d : ℕ) (b h : Bytes) → x .event ≡ sends d b → readingTells h (read requests b) ≡ true → callOn n u x .number ≡ 0
-    → EachOnce (λ l. heard l h false xs (resultsOf n xs m)) (resultFor (tableIn n u) (typeOf b) (argumentsOf (sends d b)) h) (told (callOn n u x))
+    → EachOnce (λ l. heard l h false xs (resultsOf n xs m)) (resultFor (λ l. catches l false xs (resultsOf n xs m)) (typeOf b) (argumentsOf (sends d b)) h) (told (callOn n u x))
 unfolding serverIn
 fresh-results n few t w lt lw xs ls x l d b h e z y =
-    results-told n xs (freshMemory n t w) (hub-fresh n few t w lt lw) ls h (λ i. ap (λ (s : Server). listens i h (s .table)) (fresh-server n few t w lt lw) ∙ fresh-silent n i h) x l d b e z y
+    results-told n xs (freshMemory n t w) (hub-fresh n few t w lt lw) ls h (λ i. ap (λ (s : Server). listens i h (s .table)) (fresh-server n few t w lt lw) ∙ fresh-silent n i h)
+    (λ i. ap (λ (s : Server). optionIn (s .table) i) (fresh-server n few t w lt lw) ∙ fresh-unset n i) x l d b e z y

@@ -1,5 +1,5 @@
--- Who has been told a job's handle since it opened its connection, from a history's events and answers alone; and whose name stands in the
--- table as a listener. Assumes nothing.
+-- Who has been told a job's handle since it opened its connection, and who has set the option `exceptions`, from a history's events and
+-- answers alone; and what the table says of both. Assumes nothing.
 use Prim.Native.Nat.{ℕ}
 use mathlib.Core.Bool.{Bool, true, false, cond, _||_, _&&_}
 use mathlib.Core.Path.{_≡_}
@@ -57,16 +57,39 @@ heard c h before (x ∷ xs) (r ∷ rs) = heard c h (heardAfter c h before (x .ev
 unfoldable pub listens : ℕ → Bytes → Table → Bool
 listens c h t = any (λ j. hasHandle h (j .row) && has (j .row .listeners) c) (t .jobs)
 
+-- ---- who asked for exceptions
+
+-- the event is OPTION_REQ, type 26, from connection c
+abbrev pub setsOption : ℕ → Event → Bool
+setsOption c (opens d) = false
+setsOption c (closes d) = false
+setsOption c (sends d b) = eqb d c && eqb (typeOf b) 26
+
+-- whether connection c has set the option since its open, after one more event with this number: an open or a close that is done begins
+-- anew; OPTION_REQ that is done sets it, the only option there is
+abbrev pub catchesAfter : ℕ → Bool → Event → ℕ → Bool
+catchesAfter c before e number = cond (eqb number 0 && turns c e) false (before || (eqb number 0 && setsOption c e))
+
+-- so over a history
+unfoldable pub catches : ℕ → Bool → List Call → List Result → Bool
+catches c before [] rs = before
+catches c before (x ∷ xs) [] = before
+catches c before (x ∷ xs) (r ∷ rs) = catches c (catchesAfter c before (x .event) (r .number)) xs rs
+
+-- connection l has set it, by the table
+abbrev pub optionIn : Table → ℕ → Bool
+optionIn t l = connectionAt t l .exceptions
+
 -- ---- results
 
--- who gets the copy. 01: "25 ends the job and goes only to listeners that set `exceptions`"
-abbrev pub wants : Table → ℕ → ℕ → Bool
-wants t kind l = implies (eqb kind 25) (connectionAt t l .exceptions)
+-- who gets the copy, where these have set the option. 01: "25 ends the job and goes only to listeners that set `exceptions`"
+abbrev pub wants : (ℕ → Bool) → ℕ → ℕ → Bool
+wants set kind l = implies (eqb kind 25) (set l)
 
 -- what a worker packet of this type and with these arguments, of the job with handle h, tells connection l: it is the copy, or, 02: "all
 -- others get WORK_FAIL with the handle alone"
-abbrev pub resultFor : Table → ℕ → List Bytes → Bytes → ℕ → Reading
-resultFor t kind args h l = cond (wants t kind l) (got kind args) (got 14 (h ∷ []))
+abbrev pub resultFor : (ℕ → Bool) → ℕ → List Bytes → Bytes → ℕ → Reading
+resultFor set kind args h l = cond (wants set kind l) (got kind args) (got 14 (h ∷ []))
 
 -- the number stands in the list
 abbrev pub isIn : ℕ → List ℕ → Bool

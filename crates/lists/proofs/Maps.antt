@@ -6,6 +6,11 @@ use mathlib.Core.List.{List, [], _∷_, _++_, map}
 use lib.ListN.{getD, set}
 use Rattle.lists.specs.Lists.{any, filter}
 
+-- two functions that agree make the same list
+pub map-each : {A B : Type 0} (f g : A → B) → ((x : A) → f x ≡ g x) → (l : List A) → map f l ≡ map g l
+map-each f g h [] = refl
+map-each f g h (x ∷ l) = ap₂ _∷_ (h x) (map-each f g h l)
+
 pub map-set : {A B : Type 0} (f : A → B) (l : List A) (i : ℕ) (x : A) → map f (set l i x) ≡ set (map f l) i (f x)
 map-set f [] i x = refl
 map-set f (y ∷ l) zero x = refl
