@@ -13,9 +13,10 @@ import subprocess
 import sys
 import time
 
-from hub_client import (CAN_DO, ECHO_REQ, ECHO_RES, ERROR, FUNCTION, GRAB_JOB, GRAB_JOB_ALL, JOB_ASSIGN_UNIQ, NO_JOB, NOOP, PRE_SLEEP,
-                        SET_CLIENT_ID, SUBMIT_JOB, SUBMIT_JOB_BG, WORK_COMPLETE, WORK_DATA, Client, Fault, Hub, asleep, compare, expect,
-                        grab, header, lives, request, serial_in, submit, worker_of)
+from hub_client import (CAN_DO, ECHO_REQ, ECHO_RES, ERROR, FUNCTION, GRAB_JOB, GRAB_JOB_ALL, JOB_ASSIGN_UNIQ, JOB_CREATED, NO_JOB, NOOP,
+                        OPTION_REQ, OPTION_RES, PRE_SLEEP, SET_CLIENT_ID, SUBMIT_JOB, SUBMIT_JOB_BG, WORK_COMPLETE, WORK_DATA,
+                        WORK_EXCEPTION, WORK_FAIL, Client, Fault, Hub, asleep, compare, expect, grab, header, lives, request, serial_in,
+                        submit, worker_of)
 from hub_streams import bad_streams, technician
 
 LIMIT = 180
@@ -88,6 +89,21 @@ def killed_worker(board, workers):
     asleep(workers[1])
 
 
+def exception(boards, worker):
+    """No board waits after an exception: it goes to the one that set the option, and WORK_FAIL to the others that wait for the job."""
+    boards[1].send(request(OPTION_REQ, b"exceptions"))
+    boards[1].reads(OPTION_RES, b"exceptions")
+    shared = request(SUBMIT_JOB, FUNCTION, b"shared", b"no seats")
+    handles = {board.ask(shared, JOB_CREATED) for board in boards}
+    worker.reads(NOOP)
+    handle, _workload = grab(worker)
+    expect("the boards' one job", handles, {handle})
+    worker.send(request(WORK_EXCEPTION, handle, b"why"))
+    for board, told in zip(boards, ((WORK_FAIL, handle), (WORK_EXCEPTION, handle, b"why"), (WORK_FAIL, handle))):
+        board.reads(*told)
+    asleep(worker)
+
+
 def slow_reader(hub, board, worker):
     """A board that does not read is closed when its queue is full; the others are served. The next board gets its number, not its bytes."""
     slow = hub.client("slow board", receive_buffer=4096)
@@ -134,6 +150,7 @@ def first_life(start, replay, serial):
     technician(hub, workers)
     bad_streams(hub)
     killed_worker(boards[1], workers)
+    exception(boards, workers[1])
     slow_reader(hub, boards[2], workers[1])
     seventeenth(hub)
     late = submit(boards[0], b"the pupil's profile")
