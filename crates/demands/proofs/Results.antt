@@ -22,7 +22,7 @@ use Rattle.lists.proofs.Searches.{found}
 use Rattle.server.specs.declared.Connection.{Connection}
 use Rattle.server.specs.Table.{Table, closed, noJob, jobAt, live, heldBy, hasHandle, fresh}
 use Rattle.server.specs.Requests.{Event, sends, Work, tells, reports, ends, throws, Request, work, requestIn}
-use Rattle.server.specs.Events.{copy, Decision, refuse, silence, holdsHandle, hears, failure, tell, served, workAt, onlyIfOpen}
+use Rattle.server.specs.Events.{copy, Decision, refuse, silence, holdsHandle, hears, failure, toListener, served, workAt, onlyIfOpen}
 use Rattle.server.specs.Rules.{isOpen}
 use Rattle.server.specs.Sizes.{workloadsSize}
 use Rattle.server.specs.Layout.{tableSize}
@@ -135,7 +135,7 @@ module _ (e : Event) (s : Server) (how : Work) (kind p : ℕ) (h : Bytes) (t : t
   told-one l true = refl
   told-one l false = rw q
 
-  map-told : (ls : List ℕ) → map (messageOf e s) (map (tell how kind (s .table) (jobAt (s .table) p .row)) ls) ≡ map (λ l. record { to = l; says = resultFor (optionIn (s .table)) kind (argumentsOf e) h l }) ls
+  map-told : (ls : List ℕ) → map (messageOf e s) (map (toListener how kind (s .table) (jobAt (s .table) p .row)) ls) ≡ map (λ l. record { to = l; says = resultFor (optionIn (s .table)) kind (argumentsOf e) h l }) ls
   map-told [] = refl
   map-told (l ∷ ls) =
       ap₂ _∷_ (told-one l (hears how (s .table) l) ∙ ap (λ (b : Bool). record { to = l; says = cond b (got kind (argumentsOf e)) (got 14 (h ∷ [])) }) (hears-wants how kind (s .table) l t)) (map-told ls)

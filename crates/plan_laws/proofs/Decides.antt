@@ -19,7 +19,7 @@ use Rattle.server.specs.declared.JobRow.{JobRow}
 use Rattle.server.specs.Table.{Function, Job, Table, noRow, noJob, noFunction, closed, connectionAt, functionAt, jobAt, rowsOf, ablesOf, setConnection, setId, setFunction, setJob, withRow, withTexts, withHolder, live, heldBy, withName}
 use Rattle.server.specs.Rules.{obeys}
 use Rattle.server.specs.Requests.{Work, tells, reports, ends, throws, Request, reset, preSleep, echo, bad, canDo, cantDo, identify, grab, submit, work, getStatus, option}
-use Rattle.server.specs.Events.{Send, plain, copy, Decision, refuse, noop, settle, opening, closing, leftBy, deafTo, unable, ableTo, unableToAll, sleeping, submittedBy, created, newJob, accepted, holdsHandle, failure, tellAll, worked, listenersOf, statusOf, exceptionsName, catching, served, toWakeIn}
+use Rattle.server.specs.Events.{Send, plain, copy, Decision, refuse, noop, settle, opening, closing, leftBy, deafTo, unable, ableTo, unableToAll, sleeping, submittedBy, created, newJob, accepted, holdsHandle, failure, toListeners, worked, listenersOf, statusOf, exceptionsName, catching, served, toWakeIn}
 use Rattle.server.specs.Refusals.{lastNumber}
 use Rattle.server_laws.proofs.Numbers.{row-at, able-at}
 use Rattle.server_laws.proofs.Going.{grabbed-live, joined-found, held-found}
@@ -145,8 +145,8 @@ module _ (w : Words) (c : ℕ) (t : Table) (ok : obeys t ≡ true) where
 
   -- those with the option hear, and the others are told of a failure
   to-some : (kind p : ℕ) → let r = getD (rowsOf t) p noRow in
-      map (λ l. cond (has (heard (t .connections) (r .listeners)) l) (copy l kind) (failure (r .serial) l)) (members (length (t .connections)) (r .listeners)) ≡ tellAll throws kind t (jobAt t p .row)
-  unfolding tellAll
+      map (λ l. cond (has (heard (t .connections) (r .listeners)) l) (copy l kind) (failure (r .serial) l)) (members (length (t .connections)) (r .listeners)) ≡ toListeners throws kind t (jobAt t p .row)
+  unfolding toListeners
   to-some kind p = rw (row-at t p) (told-option (λ l. copy l kind) (failure (jobAt t p .row .serial)) (t .connections) (jobAt t p .row .listeners))
 
   same-rows : (p : ℕ) (j : Job) → j .row ≡ jobAt t p .row → withRows (map (λ (k : Job). k .row) (set (t .jobs) p j)) (valuesOf t) ≡ withRows (rowsOf t) (valuesOf t)
@@ -156,8 +156,8 @@ module _ (w : Words) (c : ℕ) (t : Table) (ok : obeys t ≡ true) where
   other-rows v p j r e = ap (λ (l : List JobRow). withRows l v) (map-set (λ (k : Job). k .row) (t .jobs) p j ∙ ap (set (rowsOf t) p) e)
 
   p-work : {how : Work} {n d : Bytes} (h : Bytes) → Says w how n d → (p : ℕ) → find (λ j. holdsHandle c h (j .row)) (t .jobs) ≡ some p
-      → Planned w c t (planWork (some p) how (valuesOf t)) (settle (tellAll how (w .kind) t (jobAt t p .row)) (setJob t p (worked how n d (jobAt t p))))
-  unfolding planWork changed ordered valuesOf stepped tellAll
+      → Planned w c t (planWork (some p) how (valuesOf t)) (settle (toListeners how (w .kind) t (jobAt t p .row)) (setJob t p (worked how n d (jobAt t p))))
+  unfolding planWork changed ordered valuesOf stepped toListeners
   p-work h (that-tells n d) p e =
       by-parts w c t (setJob t p (jobAt t p)) _ SV.Nothing CV.Nothing _ (same-rows p (jobAt t p) refl)
       (record { ids = refl; functions = texts .functions; jobs = left-set SameJob p noJob _ (live-same (jobAt t p) (held-found t c h p e)) (texts .jobs) })

@@ -13,7 +13,7 @@ use lib.Dec.{eqb, eqb·suc-zero}
 use Rattle.octets.specs.Bytes.{Bytes, same}
 use Rattle.octets.proofs.Strings.{and-left, and-right, and-both, and-false}
 use Rattle.sets.specs.Sets.{has, isEmpty, insert, remove, members}
-use Rattle.sets.proofs.Laws.{has-insert-same, has-only, nonempty}
+use Rattle.sets.proofs.Laws.{has-only}
 use Rattle.lists.specs.Lists.{any, find, implies}
 use Rattle.lists.specs.declared.Place.the-variants.{At, Nowhere}
 use Rattle.lists.proofs.Cases.{cond-both}
@@ -33,7 +33,7 @@ use Rattle.server_laws.proofs.Sound.{rowMeans}
 use Rattle.server_laws.proofs.AtRest.{drops-none}
 use Rattle.server_laws.proofs.Functions.{room}
 use Rattle.server_laws.proofs.Going.{best-found, grabbed-live, joined-found, held-found}
-use Rattle.server_laws.proofs.Accepting.{Kept, submitted-keeps}
+use Rattle.server_laws.proofs.Accepting.{Kept, submitted-keeps, submitted-awaited}
 use Rattle.server_laws.proofs.Outcome.{Change, unknown, disabled, identified, cleared, slept, noJobFor, grabbed, joins, accepts, worker, status, optioned, echoed}
 use Rattle.server_laws.proofs.Outcome as O
 use Rattle.plan.specs.declared.Values as V′
@@ -55,7 +55,7 @@ use Rattle.plan_laws.proofs.Settled.{SameJob, SameTexts, settled-table}
 use Rattle.plan_laws.proofs.Texts.{both-set, left-set, SameName, rowed-same, gone-same, live-same, own-texts}
 use Rattle.plan_laws.proofs.Draws.{planOf, Draws, refused, draws}
 use Rattle.plan_laws.proofs.Decides.{Words, Says, that-tells, that-reports, that-ends, that-throws, Suits, for-can, for-submit, for-work}
-use Rattle.plan_laws.proofs.Ends.{Settles, settles, wakes-members, Awaited, all-kept, nothing-settles, job-settles, connection-settles, one-kept, one-rouses}
+use Rattle.plan_laws.proofs.Ends.{Settles, settles, wakes-members, all-kept, nothing-settles, job-settles, connection-settles, one-kept, one-rouses}
 
 -- ---- what a step and its ending leave, by the table u between them
 
@@ -76,20 +76,11 @@ set-set [] i x y = refl
 set-set (z ∷ l) zero x y = refl
 set-set (z ∷ l) (suc i) x y = ap (λ (r : List _). z ∷ r) (set-set l i x y)
 
-implies-true : (a : Bool) → implies a true ≡ true
-implies-true true = refl
-implies-true false = refl
-
 -- a row of another function does not name this one
 names-other : (q : ℕ) (r : JobRow) → ¬ (r .function ≡ q) → names q r ≡ false
 names-other q r d = ap (λ (b : Bool). live r && b) (ne-eqb (r .function) q d) ∙ and-false (live r)
 
--- a submitter more: the job is awaited, and as grabbable as before
-submitted-awaited : (c : ℕ) (b : Bool) (r : JobRow) → Awaited (submittedBy c b r)
-submitted-awaited c true r = implies-true (queued r)
-submitted-awaited c false r =
-    ap (λ (x : Bool). implies (queued r) x) (or-right (r .background) _ (ap not (nonempty (insert (r .listeners) c) c (has-insert-same (r .listeners) c)))) ∙ implies-true (queued r)
-
+-- a submitter more: the job is as grabbable as before
 submitted-queued : (c : ℕ) (b : Bool) (r : JobRow) → queued (submittedBy c b r) ≡ queued r
 submitted-queued c true r = refl
 submitted-queued c false r = refl

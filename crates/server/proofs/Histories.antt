@@ -12,7 +12,7 @@ use Rattle.server.specs.Sizes.{connectionCount}
 use Rattle.server.specs.Table.{Table, fresh, hasHandle, rank, bestRow, freeRow, joined}
 use Rattle.server.specs.Requests.{Event, sends, requested, requestIn}
 use Rattle.server.specs.Refusals.{isTold}
-use Rattle.server.specs.Events.{silence, refuse, dropped, wokenIn, toWakeIn, forgot, settle, opening, closing, canDoAt, cantDoAt, unableToAll, sleeping, grabAt, submitNew, submitTo, holdsHandle, tellAll, workAt, statusAt, optionIf, served, onlyIfOpen, onlyIfClosed}
+use Rattle.server.specs.Events.{silence, refuse, dropped, wokenIn, toWakeIn, forgot, settle, opening, closing, canDoAt, cantDoAt, unableToAll, sleeping, grabAt, submitNew, submitTo, holdsHandle, toListeners, workAt, statusAt, optionIf, served, onlyIfOpen, onlyIfClosed}
 use Rattle.server.specs.Server.{Server, Answer, Sent, addressed, shownBy, opaqueOf, render, decided, next, answer, start, after, answers}
 
 -- a request with these arguments, from connection c
@@ -34,7 +34,7 @@ sentOf a = a .sent
 
 -- from any server on: the answers, and the server afterwards
 unfoldable pub ranFrom : Server → List Event → List Answer × Server
-unfolding same startsWith firstZero every has insert remove members handle decimal decimalIn rulesOf requestShape responseShape priorityOf backgroundOf fits fitAll join split packet header body read hasZeros past hides seen visible opaque masked hasHandle rank bestRow freeRow joined requested requestIn isTold silence refuse dropped wokenIn toWakeIn forgot settle opening closing canDoAt cantDoAt unableToAll sleeping grabAt submitNew submitTo holdsHandle tellAll workAt statusAt optionIf served onlyIfOpen onlyIfClosed shownBy opaqueOf render decided next answer after answers
+unfolding same startsWith firstZero every has insert remove members handle decimal decimalIn rulesOf requestShape responseShape priorityOf backgroundOf fits fitAll join split packet header body read hasZeros past hides seen visible opaque masked hasHandle rank bestRow freeRow joined requested requestIn isTold silence refuse dropped wokenIn toWakeIn forgot settle opening closing canDoAt cantDoAt unableToAll sleeping grabAt submitNew submitTo holdsHandle toListeners workAt statusAt optionIf served onlyIfOpen onlyIfClosed shownBy opaqueOf render decided next answer after answers
 ranFrom s h = (answers s h, after s h)
 
 unfoldable pub answeredFrom : Server → List Event → List Answer

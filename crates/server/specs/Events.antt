@@ -199,12 +199,12 @@ abbrev pub failures : Table → JobRow → List Send
 failures t r = map (failure (r .serial)) (listenersOf t r)
 
 -- 02, of type 25: "all others get WORK_FAIL with the handle alone, in one rising order of connection": all other listeners
-abbrev pub tell : Work → ℕ → Table → JobRow → ℕ → Send
-tell how kind t r l = cond (hears how t l) (copy l kind) (failure (r .serial) l)
+abbrev pub toListener : Work → ℕ → Table → JobRow → ℕ → Send
+toListener how kind t r l = cond (hears how t l) (copy l kind) (failure (r .serial) l)
 
 -- one packet to each listener of a job
-unfoldable pub tellAll : Work → ℕ → Table → JobRow → List Send
-tellAll how kind t r = map (tell how kind t r) (listenersOf t r)
+unfoldable pub toListeners : Work → ℕ → Table → JobRow → List Send
+toListeners how kind t r = map (toListener how kind t r) (listenersOf t r)
 
 -- 01: "12 also stores its two texts as they came. 13 and 14 end the job. 25 ends the job"
 abbrev pub worked : Work → Bytes → Bytes → Job → Job
@@ -216,7 +216,7 @@ worked throws n d j = noJob
 unfoldable pub workAt : Option ℕ → Work → ℕ → ℕ → Bytes → Bytes → Table → Decision
 workAt none how kind c n d t = refuse c 14 t
 workAt (some p) how kind c n d t =
-    settle (tellAll how kind t (jobAt t p .row)) (setJob t p (worked how n d (jobAt t p)))
+    settle (toListeners how kind t (jobAt t p .row)) (setJob t p (worked how n d (jobAt t p)))
 
 -- ---- status, options
 

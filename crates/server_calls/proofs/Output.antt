@@ -23,7 +23,7 @@ use Rattle.server.specs.Table.{Table, noJob, connectionAt, functionAt, jobAt, r
 use Rattle.server.specs.Rules.{together}
 use Rattle.server.specs.Refusals.{refusalTexts, isTold}
 use Rattle.server.specs.Requests.{Event, sends, Work, Request, echo, work, requestIn}
-use Rattle.server.specs.Events.{Send, plain, copy, assign, Decision, refuse, settle, dropped, wakes, toWake, noop, created, exceptionsName, flag, hears, failure, tell, tellAll, listenersOf, worked, statusAt, silence, toWakeIn}
+use Rattle.server.specs.Events.{Send, plain, copy, assign, Decision, refuse, settle, dropped, wakes, toWake, noop, created, exceptionsName, flag, hears, failure, toListener, toListeners, listenersOf, worked, statusAt, silence, toWakeIn}
 use Rattle.server.specs.Server.{Server, shownBy, opaqueOf, render, decided, answer}
 use Rattle.server.specs.Call.{sentBytes}
 use Rattle.lists.proofs.Lists.{length-numbers, length-fit}
@@ -71,13 +71,13 @@ module _ (e : Event) (s : Server) where
   copy-weight to kind h = rw (weigh-more e s (copy to kind) [], weigh-none e s) (omega arith)
 
   -- one packet to each listener: the copy, or WORK_FAIL with the handle
-  tell-weight : (how : Work) (kind : ℕ) (r : JobRow) (ls : List ℕ) → length (shownBy e) + length (opaqueOf e) ≤ 1024 → weighs e s (map (tell how kind (s .table) r) ls) ≤ 1037 * length ls
+  listeners-weight : (how : Work) (kind : ℕ) (r : JobRow) (ls : List ℕ) → length (shownBy e) + length (opaqueOf e) ≤ 1024 → weighs e s (map (toListener how kind (s .table) r) ls) ≤ 1037 * length ls
   unfolding render join
-  tell-weight how kind r [] h = rw (weigh-none e s) (omega arith)
-  tell-weight how kind r (l ∷ ls) h =
-      let rest = tell-weight how kind r ls h in
+  listeners-weight how kind r [] h = rw (weigh-none e s) (omega arith)
+  listeners-weight how kind r (l ∷ ls) h =
+      let rest = listeners-weight how kind r ls h in
       let m = handle-most lap (r .serial) in
-      cond-both (λ (x : Send). weighs e s (x ∷ map (tell how kind (s .table) r) ls) ≤ 1037 * suc (length ls)) (hears how (s .table) l)
+      cond-both (λ (x : Send). weighs e s (x ∷ map (toListener how kind (s .table) r) ls) ≤ 1037 * suc (length ls)) (hears how (s .table) l)
       (rw (weigh-more e s (copy l kind) _, mul-suc) (omega arith)) (rw (weigh-more e s (failure (r .serial) l) _, mul-suc) (omega arith))
 
   -- a job's handle, function, unique and workload
@@ -156,16 +156,16 @@ module _ (n : ℕ) (few : n ≤ 256) (e : Event) (s : Server) (h : Running n s) 
 
   -- a worker packet: one packet to each listener, and no NOOP
   worker-weight : (how : Work) (kind : ℕ) (x y : Bytes) (p : ℕ) → length (shownBy e) + length (opaqueOf e) ≤ 1024
-      → weighs e s (settle (tellAll how kind (s .table) (jobAt (s .table) p .row)) (setJob (s .table) p (worked how x y (jobAt (s .table) p))) .packets) ≤ outputSize n
-  unfolding settle tellAll
+      → weighs e s (settle (toListeners how kind (s .table) (jobAt (s .table) p .row)) (setJob (s .table) p (worked how x y (jobAt (s .table) p))) .packets) ≤ outputSize n
+  unfolding settle toListeners
   worker-weight how kind x y p q =
       let t = s .table in
       let r = jobAt t p .row in
       let ls = listenersOf t r in
       let b = length-members (length (t .connections)) (r .listeners) in
-      let c = tell-weight e s how kind r ls q in
+      let c = listeners-weight e s how kind r ls q in
       let k = h .shaped .connections in
-      rw (worker-wakes-nobody t p how x y (obeyed t (h .rules) .idle), weigh-append e s (map (tell how kind t r) ls) [], weigh-none e s) (omega arith)
+      rw (worker-wakes-nobody t p how x y (obeyed t (h .rules) .idle), weigh-append e s (map (toListener how kind t r) ls) [], weigh-none e s) (omega arith)
 
   status-at-weight : (c : ℕ) (j : Bytes) (o : Option ℕ) → find (λ k. hasHandle j (k .row)) (s .table .jobs) ≡ o → length j ≤ 1024
       → decided e s ≡ statusAt o c j (s .table) → weighs e s (statusAt o c j (s .table) .packets) ≤ outputSize n

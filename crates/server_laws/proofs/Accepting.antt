@@ -2,7 +2,7 @@
 -- otherwise it would have joined that one. Assumes nothing.
 use Prim.Native.Nat.{ℕ, suc, _+_, _<_}
 use mathlib.Core.Path.{_≡_, refl, ap, sym, _∙_}
-use mathlib.Core.Bool.{Bool, true, false, not, and-false}
+use mathlib.Core.Bool.{Bool, true, false, not, _||_, and-false}
 use mathlib.Core.Option.{none, some}
 use mathlib.Core.List.{[]}
 use borrow.Author.Tests.{le-leb, not-true}
@@ -12,15 +12,16 @@ use Rattle.octets.specs.Bytes.{Bytes, same, every, zeroFree, within}
 use Rattle.octets.proofs.Strings.{and-left, and-right, and-both, same-refl}
 use Rattle.packet.specs.Layout.{function, unique}
 use Rattle.packet.specs.Arguments.{fits}
-use Rattle.sets.specs.Sets.{insert}
+use Rattle.sets.specs.Sets.{insert, isEmpty}
 use Rattle.sets.proofs.Laws.{nonempty, has-insert-same}
 use Rattle.server.specs.declared.JobRow.{JobRow}
 use Rattle.server.specs.Sizes.{uniqueSize}
 use Rattle.server.specs.Table.{Function, Job, Table, noFunction, noJob, functionAt, jobAt, setFunction, live, queued, roomFor, joins, joined, freshRow, withName}
 use Rattle.server.specs.Events.{lost, submittedBy, newJob, accepted}
 use Rattle.server.specs.Rules.{textWithin, together, numbersInRange, isOpen, onlyOpen}
+use Rattle.lists.specs.Lists.{implies}
 use Rattle.lists.proofs.Searches.{found}
-use Rattle.lists.proofs.Rows.{clash, all-at, all-row}
+use Rattle.lists.proofs.Rows.{clash, implies-by, or-right, all-at, all-row}
 use Rattle.server.proofs.Rows.{range-fresh}
 use Rattle.server_laws.proofs.Requests.{Submitted}
 use Rattle.server_laws.proofs.Openness.{none-open, open-insert}
@@ -48,6 +49,11 @@ submitted-range m n c false r e = e
 pub submitted-unlost : (c : ℕ) (b : Bool) (r : JobRow) → lost (submittedBy c b r) ≡ false
 submitted-unlost c true r = and-false (queued (submittedBy c true r))
 submitted-unlost c false r = simp (nonempty (insert (r .listeners) c) c (has-insert-same (r .listeners) c), and-false)
+
+-- so it is awaited, if it is queued
+pub submitted-awaited : (c : ℕ) (b : Bool) (r : JobRow) → implies (queued (submittedBy c b r)) (submittedBy c b r .background || not (isEmpty (submittedBy c b r .listeners))) ≡ true
+submitted-awaited c true r = implies-by (queued (submittedBy c true r)) _ (λ e. refl)
+submitted-awaited c false r = implies-by (queued (submittedBy c false r)) _ (λ e. or-right (r .background) _ (ap not (nonempty (insert (r .listeners) c) c (has-insert-same (r .listeners) c))))
 
 -- its listeners stay open connections: one more, if any, is the submitter
 pub submitted-open : (t : Table) (c : ℕ) → c < length (t .connections) → isOpen t c ≡ true → (b : Bool) (r : JobRow) → onlyOpen t (r .listeners) ≡ true → onlyOpen t (submittedBy c b r .listeners) ≡ true

@@ -13,7 +13,7 @@ use Rattle.lists.specs.Lists.{find}
 use Rattle.lists.proofs.Cases.{cond-cases}
 use Rattle.server.specs.Table.{Table, connectionAt, functionAt, jobAt, setConnection, setId, setFunction, setJob, withRow, withHolder, hasHandle, known, roomFor, best, freePlace, joined}
 use Rattle.server.specs.Requests.{Event, opens, closes, sends, Work, Request, reset, preSleep, echo, bad, canDo, cantDo, identify, grab, submit, work, getStatus, option, requestIn}
-use Rattle.server.specs.Events.{Send, plain, copy, assign, Decision, silence, refuse, settle, opening, closing, ableTo, unable, canDoAt, cantDoAt, unableToAll, sleeping, grabAt, submittedBy, created, newJob, accepted, submitNew, submitTo, holdsHandle, tellAll, worked, workAt, statusOf, statusAt, exceptionsName, catching, optionIf, served, isConnection, onlyIfOpen, onlyIfClosed}
+use Rattle.server.specs.Events.{Send, plain, copy, assign, Decision, silence, refuse, settle, opening, closing, ableTo, unable, canDoAt, cantDoAt, unableToAll, sleeping, grabAt, submittedBy, created, newJob, accepted, submitNew, submitTo, holdsHandle, toListeners, worked, workAt, statusOf, statusAt, exceptionsName, catching, optionIf, served, isConnection, onlyIfOpen, onlyIfClosed}
 use Rattle.server.specs.Server.{Server, decided}
 
 -- ---- what a request that is done changes and sends, before the table is settled
@@ -33,7 +33,7 @@ pub data Change (c : ℕ) (t : Table) : Request → List Send → Table → Type
   accepts : (priority : ℕ) (background : Bool) (f u : Bytes) (size q p : ℕ) → joined t f u ≡ none → roomFor (t .functions) f ≡ some q → freePlace t ≡ some p → t .last < 4294967295
       → Change c t (submit priority background f u size) (created c (suc (t .last)) ∷ []) (accepted q f p (newJob c priority background q u size (suc (t .last))) t)
   worker : (how : Work) (kind : ℕ) (h n d : Bytes) (p : ℕ) → find (λ j. holdsHandle c h (j .row)) (t .jobs) ≡ some p
-      → Change c t (work how kind h n d) (tellAll how kind t (jobAt t p .row)) (setJob t p (worked how n d (jobAt t p)))
+      → Change c t (work how kind h n d) (toListeners how kind t (jobAt t p .row)) (setJob t p (worked how n d (jobAt t p)))
   status : (h : Bytes) (o : Option ℕ) → find (λ j. hasHandle h (j .row)) (t .jobs) ≡ o → Change c t (getStatus h) (plain c 20 (statusOf o h t) ∷ []) t
   optioned : (name : Bytes) → same name exceptionsName ≡ true → Change c t (option name) (plain c 27 (name ∷ []) ∷ []) (setConnection t c (catching (connectionAt t c)))
   echoed : Change c t echo (copy c 17 ∷ []) t

@@ -14,7 +14,7 @@ use Rattle.server.specs.declared.JobRow.{JobRow}
 use Rattle.server.specs.Table.{Table, jobAt, hasHandle, best, joined}
 use Rattle.server.specs.Requests.{Event, sends, Work, Request, grab, submit, work, getStatus, option, echo, requestIn}
 use Rattle.server.specs.Refusals.{isTold}
-use Rattle.server.specs.Events.{Send, plain, copy, assign, Decision, silence, refuse, settle, error, noop, created, dropped, toWake, unableToAll, sleeping, holdsHandle, hears, failure, tell, tellAll, statusOf, exceptionsName}
+use Rattle.server.specs.Events.{Send, plain, copy, assign, Decision, silence, refuse, settle, error, noop, created, dropped, toWake, unableToAll, sleeping, holdsHandle, hears, failure, toListener, toListeners, statusOf, exceptionsName}
 use Rattle.server.specs.Server.{Server, decided}
 use Rattle.server_laws.proofs.Outcome.{Change, Served, Outcome, outcome}
 use Rattle.server_laws.proofs.Places.{settled-last}
@@ -46,9 +46,9 @@ members-have (suc n) s = all-append (members-have n s) (cond-cases (All (λ (l :
 
 -- each gets the copy, or WORK_FAIL
 pub told-each : (how : Work) (kind : ℕ) (t : Table) (r : JobRow) {P : Send → Type 0} → ((l : ℕ) → has (r .listeners) l ≡ true → hears how t l ≡ true → P (copy l kind))
-    → ((l : ℕ) → has (r .listeners) l ≡ true → hears how t l ≡ false → P (failure (r .serial) l)) → All P (tellAll how kind t r)
-unfolding tellAll
-told-each how kind t r {P} f g = all-map (tell how kind t r) (λ l m. cond-cases P (hears how t l) (f l m) (g l m)) (members-have (length (t .connections)) (r .listeners))
+    → ((l : ℕ) → has (r .listeners) l ≡ true → hears how t l ≡ false → P (failure (r .serial) l)) → All P (toListeners how kind t r)
+unfolding toListeners
+told-each how kind t r {P} f g = all-map (toListener how kind t r) (λ l m. cond-cases P (hears how t l) (f l m) (g l m)) (members-have (length (t .connections)) (r .listeners))
 
 -- ---- the walk
 

@@ -4,32 +4,24 @@
 use Prim.Native.Nat.{ℕ, _<_}
 use mathlib.Core.Path.{_≡_, refl, ap, sym, _∙_}
 use mathlib.Core.Logic.{_≢_}
-use mathlib.Core.Bool.{Bool, true, false, not}
+use mathlib.Core.Bool.{Bool, true, false}
 use mathlib.Core.Option.{some}
 use mathlib.Core.List.{List, [], _∷_}
 use borrow.Author.Tests.{eq-eqb, lt-ltb}
 use lib.ListN.{length, getD, set}
 use lib.Seq.{getD-set-same, getD-set-other}
 use Rattle.octets.specs.Bytes.{Bytes}
-use Rattle.sets.specs.Sets.{insert}
-use Rattle.sets.proofs.Laws.{has-insert-same, nonempty}
-use Rattle.server.specs.Table.{Function, Job, Table, noJob, connectionAt, jobAt, setJob, withRow, queued, grabbable, joins, joined}
+use Rattle.server.specs.Table.{Job, Table, noJob, jobAt, setJob, withRow, grabbable, joins, joined}
 use Rattle.server.specs.Requests.{sends, requestIn, submit}
 use Rattle.server.specs.Events.{Decision, created, submittedBy, submitTo, served, onlyIfOpen}
 use Rattle.server.specs.Server.{Server, opaqueOf, rework, decided, next}
 use Rattle.server.specs.Rules.{obeys}
 use Rattle.lists.proofs.Cases.{All2, all2-set}
 use Rattle.lists.proofs.Searches.{found}
-use Rattle.lists.proofs.Rows.{implies-by, or-right}
 use Rattle.server_laws.proofs.Outcome.{Stands}
-use Rattle.server_laws.proofs.Accepting.{Kept, submitted-keeps}
+use Rattle.server_laws.proofs.Accepting.{Kept, submitted-keeps, submitted-awaited}
 use Rattle.server_laws.proofs.Obeyed.{obeyed}
 use Rattle.server_words.proofs.Quiet.{Quiet, awaited, one-job-quiet}
-
--- the job is awaited after the join: the submitter listens, or it is background
-joined-awaited : (c : ℕ) (background : Bool) (j : Job) → awaited (submittedBy c background (j .row)) ≡ true
-joined-awaited c true j = implies-by (queued (submittedBy c true (j .row))) _ (λ e. refl)
-joined-awaited c false j = implies-by (queued (submittedBy c false (j .row))) _ (λ e. or-right (j .row .background) _ (ap not (nonempty (insert (j .row .listeners) c) c (has-insert-same (j .row .listeners) c))))
 
 joined-grabbable : (c : ℕ) (background : Bool) (j : Job) (ables : List ℕ) (k : ℕ) → grabbable ables k (submittedBy c background (j .row)) ≡ true → grabbable ables k (j .row) ≡ true
 joined-grabbable c true j ables k e = e
@@ -51,7 +43,7 @@ module _ (t : Table) (c priority : ℕ) (background : Bool) (f u : Bytes) (size 
   unfolding served submitTo
   join-quiet =
       rw here
-      (one-job-quiet t (obeyed t h .awaited) (obeyed t h .idle) p joiner inside (joined-awaited c background (jobAt t p)) (joined-grabbable c background (jobAt t p)) (created c (jobAt t p .row .serial) ∷ []))
+      (one-job-quiet t (obeyed t h .awaited) (obeyed t h .idle) p joiner inside (submitted-awaited c background (jobAt t p .row)) (joined-grabbable c background (jobAt t p)) (created c (jobAt t p .row .serial) ∷ []))
 
   row-after : (i : ℕ) → jobAt (answered .table) i ≡ getD (set (t .jobs) p joiner) i noJob
   row-after i = ap (λ (js : List Job). getD js i noJob) (join-quiet .jobs)

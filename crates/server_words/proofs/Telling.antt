@@ -20,7 +20,7 @@ use Rattle.lists.specs.Lists.{any, all, pairwise, find}
 use Rattle.server.specs.declared.JobRow.{JobRow}
 use Rattle.server.specs.Table.{Job, Table, noJob, connectionAt, jobAt, setJob, grabbable}
 use Rattle.server.specs.Requests.{Work, tells, reports, ends, throws, work}
-use Rattle.server.specs.Events.{Decision, copy, holdsHandle, failure, failures, tell, tellAll, listenersOf, worked, workAt, served}
+use Rattle.server.specs.Events.{Decision, copy, holdsHandle, failure, failures, toListener, toListeners, listenersOf, worked, workAt, served}
 use Rattle.server.specs.Rules.{obeys}
 use Rattle.lists.proofs.Cases.{cond-both}
 use Rattle.lists.proofs.Searches.{found}
@@ -99,7 +99,7 @@ members-are (suc n) s l =
 -- a worker packet: one packet to each of these, each listener comes once, and nobody else
 pub record ToldOnce (t : Table) (how : Work) (kind p : ℕ) (d : Decision) : Type 0 where
   pub listeners : List ℕ
-  pub packets : d .packets ≡ map (tell how kind t (jobAt t p .row)) listeners
+  pub packets : d .packets ≡ map (toListener how kind t (jobAt t p .row)) listeners
   pub rising : pairwise ltb listeners ≡ true
   pub exactly : (l : ℕ) → isIn l listeners ≡ ltb l (length (t .connections)) && has (jobAt t p .row .listeners) l
 
@@ -116,17 +116,17 @@ worked-grabbable ends n d j ables k e = clash e refl
 worked-grabbable throws n d j ables k e = clash e refl
 
 module _ (t : Table) (c : ℕ) (how : Work) (kind : ℕ) (job n d : Bytes) (p : ℕ) (here : find (λ j. holdsHandle c job (j .row)) (t .jobs) ≡ some p) (h : obeys t ≡ true) where
-  work-quiet : Quiet (tellAll how kind t (jobAt t p .row)) (setJob t p (worked how n d (jobAt t p))) (served c (work how kind job n d) t)
+  work-quiet : Quiet (toListeners how kind t (jobAt t p .row)) (setJob t p (worked how n d (jobAt t p))) (served c (work how kind job n d) t)
   unfolding served workAt
   work-quiet =
       let o = obeyed t h in
       let i : p < length (t .jobs) = found (λ j. holdsHandle c job (j .row)) noJob (t .jobs) (some p) here .inside in
       rw here
       (one-job-quiet t (o .awaited) (o .idle) p (worked how n d (jobAt t p)) i
-      (worked-awaited how n d (jobAt t p) (all-at (λ j. awaited (j .row)) (t .jobs) p noJob (o .awaited) i)) (worked-grabbable how n d (jobAt t p)) (tellAll how kind t (jobAt t p .row)))
+      (worked-awaited how n d (jobAt t p) (all-at (λ j. awaited (j .row)) (t .jobs) p noJob (o .awaited) i)) (worked-grabbable how n d (jobAt t p)) (toListeners how kind t (jobAt t p .row)))
 
   pub work-told : ToldOnce t how kind p (served c (work how kind job n d) t)
-  unfolding tellAll
+  unfolding toListeners
   work-told =
       record {
         listeners = listenersOf t (jobAt t p .row);
@@ -138,6 +138,6 @@ module _ (t : Table) (c : ℕ) (how : Work) (kind : ℕ) (job n d : Bytes) (p : 
 -- ---- WORK_FAIL alone
 
 -- an exception of a job of which no listener has set the option: WORK_FAIL goes to all of them
-pub exception-fails : (t : Table) (kind : ℕ) (r : JobRow) → ((l : ℕ) → has (r .listeners) l ≡ true → connectionAt t l .exceptions ≡ false) → tellAll throws kind t r ≡ failures t r
-unfolding tellAll
+pub exception-fails : (t : Table) (kind : ℕ) (r : JobRow) → ((l : ℕ) → has (r .listeners) l ≡ true → connectionAt t l .exceptions ≡ false) → toListeners throws kind t r ≡ failures t r
+unfolding toListeners
 exception-fails t kind r f = map-members _ _ (length (t .connections)) (r .listeners) (λ l i m. ap (λ (b : Bool). cond b (copy l kind) (failure (r .serial) l)) (f l m))
