@@ -3,7 +3,7 @@
 # The archive does what an ordinary job server in Rust does, written from the documents alone: the same number, length, output, table and
 # workloads, byte for byte, in fixed, random and twin histories, on damaged tables and on buffers that are too short; lines for the text
 # entry are asked between the events. The ordinary server passes its own tests first. The program show prints what the ordinary server's
-# show prints, on random captures; SHOW names it, or else it is target/bin/show. Last, the comparing program must find each of the 22
+# show prints, on random captures; SHOW names it, or else it is target/bin/show. Last, the comparing program must find each of the 31
 # faults of host/peer/tests/faults.c.
 set -euo pipefail
 cd "$(dirname "$0")/../.."
@@ -48,7 +48,7 @@ export CARGO_TARGET_DIR=$faulty/cargo
 LAP_ARCHIVE_DIR=$faulty "${cross[@]}" cargo build --release "${options[@]}" --features archive --bin compare
 compare=$CARGO_TARGET_DIR/$programs_of/compare
 LAP_FAULT=0 "${run[@]}" "$compare" --events 2000 > "$faulty/printed"
-for fault in $(seq 1 22); do
+for fault in $(seq 1 31); do
   status=0
   LAP_FAULT=$fault "${run[@]}" "$compare" --events 60000 > "$faulty/printed" || status=$?
   if [ "$status" != 1 ]; then
@@ -56,7 +56,7 @@ for fault in $(seq 1 22); do
     exit 1
   fi
 done
-echo "22 faults found, 0 missed"
+echo "31 faults found, 0 missed"
 
 status=0
 wait "$comparing" || status=$?

@@ -28,6 +28,8 @@ pub struct Counts {
     pub numbers: [u64; 17],
     pub done: [u64; TYPES],
     pub sent: [u64; TYPES],
+    /// Exceptions that were done: to nobody, to listeners with the option alone, to those without it alone, to both.
+    pub exceptions: [u64; 4],
     pub damaged: Tables,
     pub made: Tables,
     pub short: u64,
@@ -47,6 +49,7 @@ impl Default for Counts {
             numbers: [0; 17],
             done: [0; TYPES],
             sent: [0; TYPES],
+            exceptions: [0; 4],
             damaged: Tables::default(),
             made: Tables::default(),
             short: 0,
@@ -64,6 +67,10 @@ impl Counts {
         self.numbers[number as usize] += 1;
         if let (Event::Packet(_, packet), 0) = (event, number) {
             self.done[packet[7] as usize] += 1;
+            if packet[7] == 25 {
+                let [copies, fails] = [25, 14].map(|kind| usize::from(out.count(kind) > 0));
+                self.exceptions[copies + 2 * fails] += 1;
+            }
         }
         for packet in out.addressed() {
             self.sent[packet[8] as usize] += 1;
@@ -94,7 +101,8 @@ impl std::fmt::Display for Counts {
             f,
             "{} random and {} fixed events, {} damaged tables ({} still obey), {} made tables ({} obey), \
              {} calls on shortest or short buffers, {} fresh tables, {} events of twin histories; \
-             {} lines asked (status {}, workers {}, version {}, unknown {}); numbers {}; \
+             {} lines asked (status {}, workers {}, version {}, unknown {}); \
+             {} exceptions (to nobody {}, with the option {}, without it {}, to both {}); numbers {}; \
              requests done by type {}; packets sent by type {}",
             self.events,
             self.fixed,
@@ -110,6 +118,11 @@ impl std::fmt::Display for Counts {
             self.texts[1],
             self.texts[2],
             self.texts[3],
+            self.exceptions.iter().sum::<u64>(),
+            self.exceptions[0],
+            self.exceptions[1],
+            self.exceptions[2],
+            self.exceptions[3],
             list(&self.numbers),
             list(&self.done),
             list(&self.sent),

@@ -7,7 +7,7 @@ mod packets;
 use crate::event::Event;
 use crate::packet::Side;
 use crate::random::Random;
-use crate::server::{Server, CONNECTIONS, JOBS};
+use crate::server::{Job, Server, CONNECTIONS, JOBS};
 use crate::state::has;
 use crate::text::Text;
 
@@ -24,9 +24,10 @@ enum Mood {
     Idle,
     Forgetting,
     Grabbing,
+    Failing,
 }
 
-const MOODS: [Mood; 13] = [
+const MOODS: [Mood; 14] = [
     Mood::Mixed,
     Mood::Mixed,
     Mood::Filling,
@@ -40,11 +41,14 @@ const MOODS: [Mood; 13] = [
     Mood::Idle,
     Mood::Forgetting,
     Mood::Grabbing,
+    Mood::Failing,
 ];
 
 pub const SUBMISSIONS: [u32; 6] = [7, 18, 21, 32, 33, 34];
 /// All of them, high priority more often: such jobs are grabbed first, and several must wait for a choice among them.
 const MANY_HIGH: [u32; 8] = [7, 18, 21, 21, 32, 32, 33, 34];
+/// Those whose sender becomes a listener.
+const FOREGROUND: [u32; 3] = [7, 21, 33];
 const ENDINGS: [u32; 3] = [13, 14, 25];
 const WORKER_PACKETS: [u32; 6] = [12, 13, 14, 25, 28, 29];
 const SERVED: [u32; 22] = [1, 2, 3, 4, 7, 9, 12, 13, 14, 15, 16, 18, 21, 22, 25, 26, 28, 29, 30, 32, 33, 34];
@@ -133,11 +137,12 @@ impl History {
         Event::Packet(connection, packet)
     }
 
-    /// A percentage in most moods, a higher one while connections come and go, and one between where many sleep.
+    /// A percentage in most moods, a higher one while connections come and go, and one between where many sleep or set
+    /// the option, which a close ends.
     fn share(&self, usual: usize, churning: usize) -> usize {
         match self.mood {
             Mood::Churning => churning,
-            Mood::Sleeping => usual * 2,
+            Mood::Sleeping | Mood::Failing => usual * 2,
             _ => usual,
         }
     }
@@ -161,6 +166,11 @@ impl History {
             self.functions = *self.random.pick(&[2, 3, 5, 16]);
             self.connections = *self.random.pick(&[8, 16]);
             self.left += EMPTYING + 40;
+        }
+        if self.mood == Mood::Failing {
+            self.functions = *self.random.pick(&[1, 2]);
+            self.uniques = *self.random.pick(&[1, 2]);
+            self.connections = *self.random.pick(&[4, 8, 16]);
         }
     }
 
@@ -187,10 +197,15 @@ impl History {
     }
 
     /// Mostly a connection for which a packet of this type can do something: a holder, one with a job to grab or with an
-    /// ability to give up; while workers are idle, one that can go to sleep, or a sleeper.
+    /// ability to give up; while workers are idle, one that can go to sleep, or a sleeper; while jobs fail, the holder
+    /// of one that several wait for, or one without the option.
     fn suited(&mut self, server: &Server, kind: u32) -> usize {
         let suited: Vec<usize> = match kind {
             9 | 30 => (0..CONNECTIONS).filter(|&c| server.grabbable(c).is_some()).collect(),
+            25 if self.mood == Mood::Failing => awaited(server).filter_map(|job| job.holder).collect(),
+            26 if self.mood == Mood::Failing => {
+                (0..CONNECTIONS).filter(|&c| server.connections[c].open && !server.connections[c].exceptions).collect()
+            }
             _ if WORKER_PACKETS.contains(&kind) => server.jobs.iter().flatten().filter_map(|job| job.holder).collect(),
             1 | 22 | 26 if self.mood == Mood::Idle => {
                 (0..CONNECTIONS).filter(|&c| server.connections[c].asleep).collect()
@@ -229,6 +244,7 @@ impl History {
             // Few can do a function, and they give it up while they hold its jobs.
             (Mood::Forgetting, 0..=84) => *self.random.pick(&[1, 1, 1, 2, 2, 2, 7, 18, 9, 30, 13, 14, 25]),
             (Mood::Grabbing, 0..=89) => self.grabbing_kind(server),
+            (Mood::Failing, 0..=89) => self.failing_kind(server),
             (Mood::Learning, 0..=49) => 1,
             (Mood::Learning, 50..=54) => *self.random.pick(&[2, 3]),
             (_, 70..=79) => *self.random.pick(&SUBMISSIONS),
@@ -274,6 +290,26 @@ impl History {
             _ => *self.random.pick(&[1, 1, 1, 1, 2, 3]),
         }
     }
+
+    /// Many connections wait for the same few jobs, up to half of them with the option; the holders send exceptions.
+    fn failing_kind(&mut self, server: &Server) -> u32 {
+        let open = server.connections.iter().filter(|connection| connection.open).count();
+        let options = server.connections.iter().filter(|connection| connection.exceptions).count();
+        let grabbable = (0..CONNECTIONS).any(|c| server.grabbable(c).is_some());
+        match self.random.below(20) {
+            0..=3 if awaited(server).next().is_some() => 25,
+            0..=5 if grabbable => *self.random.pick(&[9, 30]),
+            0..=5 => 1,
+            6..=8 if options < open / 2 => 26,
+            9 => *self.random.pick(&[18, 32, 34]),
+            _ => *self.random.pick(&FOREGROUND),
+        }
+    }
+}
+
+/// The held jobs that several connections wait for.
+fn awaited(server: &Server) -> impl Iterator<Item = &Job> {
+    server.jobs.iter().flatten().filter(|job| job.holder.is_some() && job.listeners.count_ones() > 2)
 }
 
 /// The names of the functions that the connection can do.

@@ -1,5 +1,5 @@
-//! An ordinary job server with the limits of document 01 and the text commands of document 02, request 1, written from
-//! the documents alone, to compare the core with.
+//! An ordinary job server with the limits of document 01, and of document 02 the text commands (request 1) and the
+//! exceptions (request 3), written from the documents alone, to compare the core with.
 //! It shares no code with the core. Only the module `archive` holds unsafe code: it calls the core's archive.
 #![deny(unsafe_code)]
 #![cfg_attr(not(feature = "archive"), forbid(unsafe_code))]

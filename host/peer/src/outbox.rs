@@ -46,6 +46,11 @@ impl Outbox {
         self.starts.iter().zip(ends).map(|(&start, end)| &self.bytes[start..end])
     }
 
+    /// How many packets are of this type.
+    pub fn count(&self, kind: u8) -> usize {
+        self.addressed().filter(|packet| packet[8] == kind).count()
+    }
+
     /// Each packet apart from its connection.
     pub fn packets(&self) -> Vec<(u8, Vec<u8>)> {
         self.addressed().map(|packet| (packet[0], packet[1..].to_vec())).collect()

@@ -1,5 +1,6 @@
 //! Fixed histories for what random ones meet too rarely: the example, the largest output, full queues, all asleep, grabs
-//! of a whole queue in order, client ids, the longest texts and names whose order is easily mistaken.
+//! of a whole queue in order, exceptions to every mix of listeners, client ids, the longest texts and names whose order
+//! is easily mistaken.
 #![forbid(unsafe_code)]
 
 use crate::event::Event;
@@ -25,6 +26,7 @@ pub fn all() -> Vec<Script> {
         client_of_all_leaves(),
         sizes(),
         priorities(),
+        exceptions(),
         client_ids(),
         longest_texts(),
         names_in_reverse(),
@@ -221,6 +223,53 @@ fn priorities() -> Script {
 /// The worker ends the job with this serial.
 fn ended(worker: usize, serial: u32) -> Event {
     packet(worker, 13, &[handle::print(serial).bytes(), b"r"])
+}
+
+/// Exceptions to listeners with the option and without it, mixed and apart, the holder among them, and to nobody; empty
+/// ones and largest ones. The option counts at the moment of the exception, and a close ends it.
+fn exceptions() -> Script {
+    const HOLDER: usize = 5;
+    let option = |connection: usize| packet(connection, 26, &[b"exceptions"]);
+    let mut events = open_all();
+    events.push(packet(HOLDER, 1, &[b"f"]));
+    events.extend([0, 2, 4, 9, 15].map(option));
+    let everyone: Vec<usize> = (0..CONNECTIONS).collect();
+    let again = |connection: u32| vec![Event::Close(connection), Event::Open(connection)];
+    // Who submits the job; what comes while it is held; the exception.
+    let rounds: [(Vec<Event>, Vec<Event>, &[u8]); 14] = [
+        (all_submit(7, &[0, 1, 2, 3, 4]), vec![], b"text"),
+        (all_submit(7, &[3, 2, 1, 4]), vec![], b"te\0xt\0"),
+        (all_submit(21, &[1, 3, 14]), vec![], b"text"),
+        (all_submit(33, &[0, 2, 15]), vec![], b"text"),
+        (all_submit(18, &[12]), vec![], b"text"),
+        ([all_submit(32, &[12]), all_submit(7, &[0, 1])].concat(), vec![], b"text"),
+        (all_submit(7, &[HOLDER]), vec![], b"text"),
+        (all_submit(7, &[6, HOLDER, 4]), all_submit(34, &[7]), b"text"),
+        (all_submit(7, &[0, 1]), vec![], b""),
+        (all_submit(7, &everyone), vec![], &[0xee; 1_024 - 9]),
+        // The option set by a listener; then by the holder, and by one that does not listen.
+        (all_submit(7, &[8, 9, 10]), vec![option(8)], b"text"),
+        (all_submit(7, &[HOLDER, 10]), vec![option(HOLDER), option(11)], b"text"),
+        // A close of one that listens again, and of one that does not.
+        (all_submit(7, &[8, 9]), [again(8), all_submit(33, &[8])].concat(), b"text"),
+        (all_submit(7, &[9, 10, 15]), again(15), b"text"),
+    ];
+    for (serial, (submissions, between, data)) in (10..).zip(rounds) {
+        let handle = handle::print(serial);
+        events.extend(submissions);
+        events.push(packet(HOLDER, 9, &[]));
+        events.extend(between);
+        // By one that does not hold it, by its holder, and three packets that come too late.
+        events.extend([13, HOLDER, HOLDER].map(|sender| packet(sender, 25, &[handle.bytes(), data])));
+        events.extend([packet(HOLDER, 13, &[handle.bytes(), b"late"]), packet(HOLDER, 14, &[handle.bytes()])]);
+        events.push(packet(1, 15, &[handle.bytes()]));
+    }
+    Script { name: "exceptions", last_serial: 9, events }
+}
+
+/// These connections submit one job: the first makes it, the others join it.
+fn all_submit(kind: u32, connections: &[usize]) -> Vec<Event> {
+    connections.iter().map(|&connection| packet(connection, kind, &[b"f", b"u", b"w"])).collect()
 }
 
 /// Ids at their limits and beyond, sent again, kept over RESET_ABILITIES and in sleep, and cleared by a close.

@@ -1,5 +1,5 @@
-//! What the ordinary job server does with each event: the rules of document 01, and document 02's SET_CLIENT_ID, over
-//! the plain structs of `state`.
+//! What the ordinary job server does with each event: the rules of document 01, and document 02's SET_CLIENT_ID
+//! (request 1) and exceptions (request 3), over the plain structs of `state`.
 //! Job places, function places and workload places are kept as document 01 says, since the table's bytes show them.
 #![forbid(unsafe_code)]
 
@@ -22,11 +22,13 @@ pub const SERIALS_USED_UP: u32 = 13;
 pub const NOT_HELD: u32 = 14;
 pub const UNKNOWN_OPTION: u32 = 15;
 
-// The types that the server sends of its own; worker packets go on with the type they came with.
+// The types that the server sends of its own; worker packets go on with the type they came with, but for an exception,
+// of which some listeners hear as WORK_FAIL.
 const NOOP: u32 = 6;
 const JOB_CREATED: u32 = 8;
 const NO_JOB: u32 = 10;
 const JOB_ASSIGN: u32 = 11;
+const WORK_FAIL: u32 = 14;
 const ECHO_RES: u32 = 17;
 const ERROR: u32 = 19;
 const STATUS_RES: u32 = 20;
@@ -268,15 +270,24 @@ impl Server {
             job.numerator = Text::new(request.arguments[1]);
             job.denominator = Text::new(request.arguments[2]);
         }
-        for listener in members(job.listeners) {
-            if request.kind != 25 || self.connections[listener].exceptions {
-                out.send(listener, request.kind, &[request.data]);
-            }
-        }
+        let listeners = job.listeners;
+        self.tell(listeners, request, out);
         if matches!(request.kind, 13 | 14 | 25) {
             self.end(place);
         }
         Ok(())
+    }
+
+    /// Each listener gets the packet as it came, in rising order. Of an exception one without the option gets WORK_FAIL
+    /// instead, with the handle alone (document 02, request 3); the holder is a listener like the others.
+    fn tell(&self, listeners: Set, request: &Packet, out: &mut Outbox) {
+        for listener in members(listeners) {
+            if request.kind == 25 && !self.connections[listener].exceptions {
+                out.send(listener, WORK_FAIL, &[request.arguments[0]]);
+            } else {
+                out.send(listener, request.kind, &[request.data]);
+            }
+        }
     }
 
     fn status(&self, sender: usize, asked: &[u8], out: &mut Outbox) {

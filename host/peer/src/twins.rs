@@ -61,6 +61,8 @@ mod tests {
             (7, &[b"f", b"u"], None),
             (13, &[b"h", b"r\0"], Some(14)),
             (13, &[b"h"], None),
+            (25, &[b"h", b"x"], Some(14)),
+            (14, &[b"h"], None),
             (22, &[b"id"], None),
             (1, &[b"f"], None),
             (5, &[b"f", b"u", b"w"], None),

@@ -280,19 +280,6 @@ fn options() {
 // ---- Jobs and the queue.
 
 #[test]
-fn exceptions_go_only_to_those_that_set_the_option() {
-    let mut server = with_a_held_job();
-    done(&mut server, 1, 7, &[b"f", b"u", b""], &[created(1, "H:lap:1")]);
-    done(&mut server, 1, 26, &[b"exceptions"], &[response(1, 27, &[b"exceptions"])]);
-    done(&mut server, 1, 25, &[b"H:lap:1", b"x"], &[response(1, 25, &[b"H:lap:1", b"x"])]);
-    refused(&mut server, 1, 13, &[b"H:lap:1", b""], 14);
-    // With no such listener the job ends silently.
-    let mut server = with_a_held_job();
-    done(&mut server, 1, 25, &[b"H:lap:1", b"x"], &[]);
-    done(&mut server, 0, 15, &[b"H:lap:1"], &[response(0, 20, &[b"H:lap:1", b"0", b"0", b"0", b"0"])]);
-}
-
-#[test]
 fn a_new_job_wakes_every_able_sleeper_once() {
     let mut server = opened(&[0, 1, 2, 3, 4]);
     for worker in [1, 2, 4] {

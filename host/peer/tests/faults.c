@@ -29,7 +29,17 @@ enum fault {
     UNKNOWN_LINE_BEFORE_THE_TABLE,
     SPACE_AFTER_THE_COLON,
     FUNCTIONS_ORDERED_AS_PRINTED,
-    TEXT_DEPENDS_ON_A_WORKLOAD
+    TEXT_DEPENDS_ON_A_WORKLOAD,
+    /* The rest are faults of exceptions. */
+    LISTENERS_WITHOUT_THE_OPTION_NOT_TOLD,
+    FAILS_AFTER_ALL_COPIES,
+    COPY_AND_FAIL_TO_ONE_LISTENER,
+    FAIL_CARRIES_THE_EXCEPTION,
+    FAIL_TO_THOSE_THAT_DO_NOT_LISTEN,
+    HOLDER_NOT_TOLD_OF_ITS_OWN_EXCEPTION,
+    OPTION_OF_THE_HOLDER_COUNTS,
+    EMPTY_EXCEPTION_FAILS_NOBODY,
+    JOB_KEPT_WHERE_NOBODY_GOT_A_COPY
 };
 
 #define LENT \
@@ -47,13 +57,14 @@ uint32_t core_text(LENT_TO_READ, uint32_t connection, const uint8_t *line, size_
 
 /* Where the table holds what the faults look at: docs/TABLE.md. */
 enum { SERIALS = 4, HOLDERS = 196, PRIORITIES = 260, FUNCTIONS = 324 };
-enum { ABLE = 3556, OPEN = 3748, ASLEEP = 3764, IDS = 3796 };
+enum { ABLE = 3556, OPEN = 3748, ASLEEP = 3764, EXCEPTIONS = 3780, IDS = 3796 };
 enum { JOBS = 32, PLACE = 1024, HIGH = 2, ID = 64, SET_CLIENT_ID = 22 };
 _Static_assert(LAP_TABLE_BYTES == IDS + ID * LAP_CONNECTIONS, "the client ids stand last");
 
-/* Table, workloads and length as they were before the call. */
+/* Table, workloads, output and length as they were before the call. */
 static uint8_t old_table[LAP_TABLE_BYTES];
 static uint8_t old_workloads[LAP_WORKLOADS_BYTES];
+static uint8_t old_output[LAP_OUTPUT_BYTES];
 static uint32_t old_length;
 
 static int fault(void) {
@@ -66,9 +77,9 @@ static uint32_t connection_taken(uint32_t connection) {
 }
 
 static void remember(LENT, const uint32_t *length) {
-    (void)output, (void)output_len;
     memcpy(old_table, table, table_len < LAP_TABLE_BYTES ? table_len : LAP_TABLE_BYTES);
     memcpy(old_workloads, workloads, workloads_len < LAP_WORKLOADS_BYTES ? workloads_len : LAP_WORKLOADS_BYTES);
+    memcpy(old_output, output, output_len < LAP_OUTPUT_BYTES ? output_len : LAP_OUTPUT_BYTES);
     old_length = *length;
 }
 
@@ -146,6 +157,89 @@ static void spoil_id(uint8_t *table, uint32_t connection, const uint8_t *packet,
     if (fault() == REST_OF_A_LONGER_ID_KEPT && is_type(packet, packet_len, SET_CLIENT_ID)) {
         size_t length = packet_len - LAP_HEADER_BYTES;
         memcpy(id + length, old + length, ID - length);
+    }
+}
+
+/* What a connection is told of an exception: nothing, a copy of it, WORK_FAIL, or both. */
+enum { COPY = 1, FAIL = 2 };
+
+/* An exception that was done: its data, how much of that is the handle, and what each connection was told. */
+struct exception {
+    uint32_t holder;
+    const uint8_t *data;
+    size_t size, handle;
+    uint8_t told[LAP_CONNECTIONS];
+};
+
+static struct exception exception_of(uint32_t holder, const uint8_t *data, size_t size, const uint8_t *output,
+                                     uint32_t length) {
+    struct exception exception = {holder, data, size, (const uint8_t *)memchr(data, 0, size) - data, {0}};
+    for (uint32_t at = 0; at < length; at += 1 + LAP_HEADER_BYTES + lap_size_of(output + at + 1)) {
+        exception.told[output[at]] = lap_type_of(output + at + 1) == LAP_TYPE_WORK_FAIL ? FAIL : COPY;
+    }
+    return exception;
+}
+
+/* What the fault has a connection told. */
+static int wrongly_told(const struct exception *exception, uint32_t connection) {
+    int told = exception->told[connection];
+    switch (fault()) {
+    case LISTENERS_WITHOUT_THE_OPTION_NOT_TOLD:
+        return told & COPY;
+    case COPY_AND_FAIL_TO_ONE_LISTENER:
+        return told == COPY ? COPY | FAIL : told;
+    case FAIL_TO_THOSE_THAT_DO_NOT_LISTEN:
+        return told == 0 && old_table[OPEN + connection] ? FAIL : told;
+    case HOLDER_NOT_TOLD_OF_ITS_OWN_EXCEPTION:
+        return connection == exception->holder ? 0 : told;
+    case OPTION_OF_THE_HOLDER_COUNTS:
+        return told == 0 ? 0 : old_table[EXCEPTIONS + exception->holder] ? COPY : FAIL;
+    case EMPTY_EXCEPTION_FAILS_NOBODY:
+        return exception->handle + 1 == exception->size ? told & COPY : told;
+    }
+    return told;
+}
+
+/* One more packet in the output, if there is room for it. */
+static void put_packet(uint8_t *output, uint32_t *length, int connection, int type, const uint8_t *data, size_t size) {
+    const uint8_t header[1 + LAP_HEADER_BYTES] = {connection, 0, 'R', 'E', 'S', 0, 0, 0, type, 0, 0, size >> 8, size};
+    if (*length + sizeof header + size <= LAP_OUTPUT_BYTES) {
+        memcpy(output + *length, header, sizeof header);
+        memcpy(output + *length + sizeof header, data, size);
+        *length += sizeof header + size;
+    }
+}
+
+/* The copies, the WORK_FAIL packets or both, to all that are told so. */
+static void put_told(uint8_t *output, uint32_t *length, const struct exception *exception, int kinds) {
+    size_t size = fault() == FAIL_CARRIES_THE_EXCEPTION ? exception->size : exception->handle;
+    for (uint32_t c = 0; c < LAP_CONNECTIONS; c++) {
+        int told = wrongly_told(exception, c) & kinds;
+        if (told & COPY) {
+            put_packet(output, length, c, LAP_TYPE_WORK_EXCEPTION, exception->data, exception->size);
+        }
+        if (told & FAIL) {
+            put_packet(output, length, c, LAP_TYPE_WORK_FAIL, exception->data, size);
+        }
+    }
+}
+
+/* The fault in what an exception has left; its packets are written anew, with nothing changed behind them. */
+static void spoil_exception(uint8_t *table, uint8_t *workloads, uint8_t *output, uint32_t *length, uint32_t holder,
+                            const uint8_t *packet, size_t packet_len) {
+    struct exception exception =
+        exception_of(holder, packet + LAP_HEADER_BYTES, packet_len - LAP_HEADER_BYTES, output, *length);
+    memcpy(output, old_output, *length);
+    *length = 0;
+    if (fault() == FAILS_AFTER_ALL_COPIES) {
+        put_told(output, length, &exception, COPY);
+        put_told(output, length, &exception, FAIL);
+    } else {
+        put_told(output, length, &exception, COPY | FAIL);
+    }
+    if (fault() == JOB_KEPT_WHERE_NOBODY_GOT_A_COPY && !memchr(exception.told, COPY, sizeof exception.told)) {
+        memcpy(table, old_table, sizeof old_table);
+        memcpy(workloads, old_workloads, sizeof old_workloads);
     }
 }
 
@@ -304,6 +398,10 @@ uint32_t lap_packet(LENT, uint32_t connection, const uint8_t *packet, size_t pac
     uint32_t number = core_packet(PASSED, connection_taken(connection), packet, packet_len, length);
     if (number == LAP_DONE && connection < LAP_CONNECTIONS) {
         spoil_id(table, connection, packet, packet_len);
+    }
+    int exception = number == LAP_DONE && is_type(packet, packet_len, LAP_TYPE_WORK_EXCEPTION);
+    if (exception && fault() >= LISTENERS_WITHOUT_THE_OPTION_NOT_TOLD) {
+        spoil_exception(table, workloads, output, length, connection, packet, packet_len);
     }
     return spoil(PASSED, number, length);
 }

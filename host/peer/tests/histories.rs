@@ -139,6 +139,37 @@ fn telling_id(event: &Event, before: &Server, after: &Server, _: &Outbox) -> Vec
     found.into_iter().filter(|(holds, _)| *holds).map(|(_, what)| what).collect()
 }
 
+/// Whom an exception reached and how, if one who is told wrongly or in another order would show there.
+fn telling_exception(event: &Event, before: &Server, _: &Server, out: &Outbox) -> Vec<&'static str> {
+    let Event::Packet(sender, packet) = event else { return vec![] };
+    if packet[7] != 25 {
+        return vec![];
+    }
+    let sent: Vec<(u8, u8)> = out.addressed().map(|packet| (packet[0], packet[8])).collect();
+    let copies = sent.iter().filter(|(_, kind)| *kind == 25).count();
+    let fails = sent.len() - copies;
+    let follows = |first: u8, second: u8| sent.windows(2).any(|pair| pair[0].1 == first && pair[1].1 == second);
+    let told = |connection: usize| sent.iter().any(|(other, _)| usize::from(*other) == connection);
+    let handle = packet[12..].split(|&byte| byte == 0).next().unwrap();
+    let job = before.jobs[before.find(handle).unwrap()].unwrap();
+    let found = [
+        (copies > 0 && fails > 0, "to both kinds of listener"),
+        (copies > 1 && fails > 1, "to several of both kinds"),
+        (follows(14, 25), "WORK_FAIL before a copy"),
+        (follows(25, 14), "WORK_FAIL after a copy"),
+        (copies == 0 && fails > 0, "to listeners without the option only"),
+        (fails == 0 && copies > 0, "to listeners with the option only"),
+        (sent.is_empty(), "to nobody"),
+        (sent.contains(&(*sender as u8, 14)), "WORK_FAIL to the holder"),
+        (sent.contains(&(*sender as u8, 25)), "a copy to the holder"),
+        (job.background && fails > 0, "WORK_FAIL for a background job"),
+        (fails > 0 && packet.len() == 12 + handle.len() + 1, "an empty one"),
+        ((0..16).any(|c| before.connections[c].open && !told(c)), "not to all connections"),
+        ((0..16).any(|c| before.connections[c].exceptions && !told(c)), "not to all with the option"),
+    ];
+    found.into_iter().filter(|(holds, _)| *holds).map(|(_, what)| what).collect()
+}
+
 /// Over 30 histories the events that are done show so many different things to `look`, each at least 40 times.
 fn rich_in(kinds: usize, look: fn(&Event, &Server, &Server, &Outbox) -> Vec<&'static str>) {
     let mut out = Outbox::default();
@@ -174,6 +205,11 @@ fn histories_are_rich_in_telling_grabs() {
 #[test]
 fn histories_are_rich_in_client_ids() {
     rich_in(9, telling_id);
+}
+
+#[test]
+fn histories_are_rich_in_exceptions() {
+    rich_in(13, telling_exception);
 }
 
 /// Ids of every length that is refused, and with a zero byte inside.

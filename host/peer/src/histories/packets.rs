@@ -1,10 +1,10 @@
 //! The packets of random histories: mostly right ones, with arguments from small sets, and damaged ones.
 #![forbid(unsafe_code)]
 
-use super::{abilities, request, History, Mood, NOT_SERVED, SERVED, SUBMISSIONS};
+use super::{abilities, awaited, request, History, Mood, NOT_SERVED, SERVED, SUBMISSIONS};
 use crate::handle;
 use crate::packet::Side;
-use crate::server::{Server, CONNECTIONS};
+use crate::server::{Job, Server, CONNECTIONS};
 
 impl History {
     /// A packet of a served type; its arguments are mostly right.
@@ -19,8 +19,7 @@ impl History {
                 request(2, &[&function])
             }
             kind if SUBMISSIONS.contains(&kind) => {
-                let function = self.submitted(server);
-                let unique = self.unique();
+                let (function, unique) = self.submitted(server);
                 let workload = self.opaque(1_022usize.saturating_sub(function.len() + unique.len()));
                 request(kind, &[&function, &unique, &workload])
             }
@@ -57,14 +56,22 @@ impl History {
         }
     }
 
-    /// The function of a submission: any one, or, while workers are idle, mostly one that a sleeper can do.
-    fn submitted(&mut self, server: &Server) -> Vec<u8> {
+    /// The function and the unique of a submission: any, or, while workers are idle, mostly a function that a sleeper
+    /// can do; while jobs fail, mostly both of one of the first held jobs, which many then wait for.
+    fn submitted(&mut self, server: &Server) -> (Vec<u8>, Vec<u8>) {
         let sleepers = (0..CONNECTIONS).filter(|&c| server.connections[c].asleep);
         let wanted: Vec<_> = sleepers.flat_map(|sleeper| abilities(server, sleeper)).collect();
         if self.mood == Mood::Idle && !wanted.is_empty() && self.random.chance(60) {
-            return self.random.pick(&wanted).bytes().to_vec();
+            return (self.random.pick(&wanted).bytes().to_vec(), self.unique());
         }
-        self.function()
+        let held = server.jobs.iter().flatten().filter(|job| job.holder.is_some() && !job.unique.is_empty());
+        let first: Vec<_> = held.take(2).collect();
+        if self.mood == Mood::Failing && !first.is_empty() && self.random.chance(70) {
+            let job = self.random.pick(&first);
+            let name = server.functions[job.function].map_or(vec![], |known| known.name.bytes().to_vec());
+            return (name, job.unique.bytes().to_vec());
+        }
+        (self.function(), self.unique())
     }
 
     /// The function that a connection learns: any one, or, while workers grab, mostly that of a queued job.
@@ -170,11 +177,15 @@ impl History {
         (0..length).map(|_| if self.random.chance(20) { 0 } else { self.random.byte() }).collect()
     }
 
-    /// Mostly a handle of a job that the connection holds, if there is one; else other handles, old ones, and texts
-    /// that are nearly one.
+    /// Mostly a handle of a job that the connection holds, if there is one, while jobs fail one that several wait for;
+    /// else other handles, old ones, and texts that are nearly one.
     fn handle(&mut self, server: &Server, connection: u32) -> Vec<u8> {
         let jobs: Vec<_> = server.jobs.iter().flatten().collect();
-        let held: Vec<_> = jobs.iter().filter(|job| job.holder == Some(connection as usize)).collect();
+        let holds = |job: &&Job| job.holder == Some(connection as usize);
+        let mut held: Vec<_> = jobs.iter().copied().filter(holds).collect();
+        if self.mood == Mood::Failing && awaited(server).any(|job| holds(&job)) {
+            held = awaited(server).filter(holds).collect();
+        }
         let some_serial = if jobs.is_empty() { 1 } else { self.random.pick(&jobs).serial };
         match self.random.below(100) {
             0..=69 if !held.is_empty() => handle::print(self.random.pick(&held).serial).bytes().to_vec(),
