@@ -36,7 +36,7 @@ enum fault {
     COPY_AND_FAIL_TO_ONE_LISTENER,
     FAIL_CARRIES_THE_EXCEPTION,
     FAIL_TO_THOSE_THAT_DO_NOT_LISTEN,
-    HOLDER_NOT_TOLD_OF_ITS_OWN_EXCEPTION,
+    NO_FAIL_TO_THE_HOLDER,
     OPTION_OF_THE_HOLDER_COUNTS,
     EMPTY_EXCEPTION_FAILS_NOBODY,
     JOB_KEPT_WHERE_NOBODY_GOT_A_COPY
@@ -187,11 +187,12 @@ static int wrongly_told(const struct exception *exception, uint32_t connection) 
     case LISTENERS_WITHOUT_THE_OPTION_NOT_TOLD:
         return told & COPY;
     case COPY_AND_FAIL_TO_ONE_LISTENER:
-        return told == COPY ? COPY | FAIL : told;
+        /* Up to here the output has room for both to all connections. */
+        return told == COPY && exception->size <= 900 ? COPY | FAIL : told;
     case FAIL_TO_THOSE_THAT_DO_NOT_LISTEN:
         return told == 0 && old_table[OPEN + connection] ? FAIL : told;
-    case HOLDER_NOT_TOLD_OF_ITS_OWN_EXCEPTION:
-        return connection == exception->holder ? 0 : told;
+    case NO_FAIL_TO_THE_HOLDER:
+        return connection == exception->holder ? told & COPY : told;
     case OPTION_OF_THE_HOLDER_COUNTS:
         return told == 0 ? 0 : old_table[EXCEPTIONS + exception->holder] ? COPY : FAIL;
     case EMPTY_EXCEPTION_FAILS_NOBODY:
@@ -200,14 +201,12 @@ static int wrongly_told(const struct exception *exception, uint32_t connection) 
     return told;
 }
 
-/* One more packet in the output, if there is room for it. */
+/* One more packet in the output. */
 static void put_packet(uint8_t *output, uint32_t *length, int connection, int type, const uint8_t *data, size_t size) {
     const uint8_t header[1 + LAP_HEADER_BYTES] = {connection, 0, 'R', 'E', 'S', 0, 0, 0, type, 0, 0, size >> 8, size};
-    if (*length + sizeof header + size <= LAP_OUTPUT_BYTES) {
-        memcpy(output + *length, header, sizeof header);
-        memcpy(output + *length + sizeof header, data, size);
-        *length += sizeof header + size;
-    }
+    memcpy(output + *length, header, sizeof header);
+    memcpy(output + *length + sizeof header, data, size);
+    *length += sizeof header + size;
 }
 
 /* The copies, the WORK_FAIL packets or both, to all that are told so. */

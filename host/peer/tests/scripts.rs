@@ -107,7 +107,7 @@ fn a_whole_queue_is_given_out_in_order() {
     assert_eq!(grabbed[42..], [&[0], &in_order[..], &[0]].concat());
 }
 
-/// Whom each packet went to, and its type.
+/// The number, whom each packet went to and its type.
 fn told(number: u32, out: &Outbox) -> (u32, Vec<(u8, u8)>) {
     (number, out.addressed().map(|packet| (packet[0], packet[8])).collect())
 }
@@ -117,11 +117,11 @@ fn exceptions_meet_every_mix_of_listeners() {
     let all = scripts::all();
     let script = all.iter().find(|script| script.name == "exceptions").unwrap();
     let (answers, server) = run_with("exceptions", told);
-    assert!(answers.iter().all(|(number, _)| [0, 14].contains(number)));
-    let is = |event: &Event, kind: u8| matches!(event, Event::Packet(_, packet) if packet[7] == kind);
-    let answers_to = |kind: u8| script.events.iter().zip(&answers).filter(move |(event, _)| is(event, kind));
-    let done: Vec<&Vec<(u8, u8)>> =
-        answers_to(25).filter(|(_, (number, _))| *number == 0).map(|(_, (_, sent))| sent).collect();
+    let answers_to = |kind: u8, number: u32| -> Vec<&[(u8, u8)]> {
+        let is = |event: &Event| matches!(event, Event::Packet(_, packet) if packet[7] == kind);
+        let both = script.events.iter().zip(&answers);
+        both.filter(|(event, answer)| is(event) && answer.0 == number).map(|(_, answer)| &answer.1[..]).collect()
+    };
     let everyone: Vec<(u8, u8)> = (0..16).map(|c| (c, if [0, 2, 4, 9, 15].contains(&c) { 25 } else { 14 })).collect();
     let right: [&[(u8, u8)]; 14] = [
         &[(0, 25), (1, 14), (2, 25), (3, 14), (4, 25)],
@@ -139,12 +139,10 @@ fn exceptions_meet_every_mix_of_listeners() {
         &[(8, 14), (9, 25)],
         &[(9, 25), (10, 14)],
     ];
-    assert_eq!(done, right);
-    // One that does not hold the job is refused, and so is what comes too late.
-    assert_eq!(
-        [13, 14, 25].map(|kind| answers_to(kind).filter(|(_, (number, _))| *number == 14).count()),
-        [14, 14, 28]
-    );
+    assert_eq!(answers_to(25, 0), right);
+    // Refused are one that does not hold the job, and all that comes too late; the rest is done.
+    assert_eq!([13, 14, 25].map(|kind| answers_to(kind, 14).len()), [14, 14, 28]);
+    assert_eq!(answers.iter().filter(|(number, _)| *number != 0).count(), 56);
     assert!(server.jobs.iter().all(Option::is_none));
 }
 
