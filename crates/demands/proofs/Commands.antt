@@ -1,29 +1,28 @@
 -- The text entry on lent bytes: what it answers to any line, that a terminal can show it, when it refuses, and that no opaque byte can show
 -- in a text. Assumes nothing.
 use Prim.Native.Nat.{ℕ, _≤_}
-use mathlib.Core.Path.{_≡_, refl, ap, ap₂, sym, _∙_}
+use mathlib.Core.Path.{_≡_, refl, ap, sym, _∙_}
 use mathlib.Core.Bool.{Bool, true, false, not, cond, _||_}
-use mathlib.Core.List.{List, _∷_, _++_}
+use mathlib.Core.List.{List, _∷_}
 use native.Mathlib.Omega.{arith}
 use borrow.Author.Tests.{le-ltb, ltb-false, not-false}
 use lib.ListN.{length, take, drop}
 use lib.Dec.{ltb}
 use lib.Seq.{take-append-seam}
 use Rattle.octets.specs.Bytes.{Bytes, every}
-use Rattle.octets.specs.Put.{put}
 use Rattle.octets.proofs.Strings.{and-right}
 use Rattle.octets.proofs.Laying.{put-start}
 use Rattle.lists.proofs.Rows.{or-false}
 use Rattle.server.specs.Sizes.{workloadsSize, outputSize}
 use Rattle.server.specs.Table.{Table}
-use Rattle.server.specs.Rules.{isOpen, obeys}
+use Rattle.server.specs.Rules.{isOpen}
 use Rattle.server.specs.Events.{isConnection}
 use Rattle.server.specs.Server.{Server}
 use Rattle.server.specs.Layout.{tableSize, tableOf, isImage, connectionIn}
 use Rattle.server.specs.Call.{Result, left, serverIn, tooShort, isSound, refusedBy}
 use Rattle.table_laws.proofs.Columns.{length-places}
 use Rattle.server_laws.proofs.Obeyed.{obeyed}
-use Rattle.server_calls.specs.History.{Call, Memory, events}
+use Rattle.server_calls.specs.History.{Call, Memory}
 use Rattle.server_calls.proofs.Histories.{LongOutputs}
 use Rattle.server_blind.proofs.Blind.{tables-from}
 use Rattle.server_blind.proofs.Calls.{AlikeEvents, events-alike}
@@ -39,7 +38,7 @@ use Rattle.command_laws.proofs.Readable.{text-readable}
 use Rattle.demands.specs.Hub.{Hub, afterCalls, tableIn, serverOf}
 use Rattle.demands.specs.Conditions.{first, badMemory, lineConditions}
 use Rattle.demands.specs.Commands.{Said, tells, silent, Listed, Counted, SameText}
-use Rattle.demands.proofs.Hubs.{hub-runs, calls-hub, calls-after}
+use Rattle.demands.proofs.Hubs.{calls-hub, calls-after}
 
 -- ---- any line on any bytes
 

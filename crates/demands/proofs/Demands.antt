@@ -29,7 +29,7 @@ use Rattle.demands.specs.Listening.{heard, listens, catches, optionIn, r
 use Rattle.demands.specs.Exact.{Walk}
 use Rattle.demands.specs.Blind.{AlikeResults, One, OneException}
 use Rattle.demands.specs.Commands.{Said, Listed, Counted, SameText}
-use Rattle.demands.specs.Handles.{given, stands, isMade, readingTells, Spent}
+use Rattle.demands.specs.Handles.{isEnding, given, stands, isMade, readingTells, Spent}
 use Rattle.demands.specs.Hub.{Hub, Room, Long, callOn, kept, afterCalls, resultsOf, tableIn, serverOf, freshMemory, restarted}
 use Rattle.demands.proofs.Hubs.{hub-with, hub-fresh, fresh-server, calls-hub}
 use Rattle.demands.proofs.Answering.{call-answered}
@@ -38,7 +38,7 @@ use Rattle.demands.proofs.Walking.{walk-hub}
 use Rattle.demands.proofs.Handles.{call-stands, call-makes, call-unheard, calls-gone}
 use Rattle.demands.proofs.Restart.{restart-hub, told-restart}
 use Rattle.demands.proofs.Options.{calls-option}
-use Rattle.demands.proofs.Results.{calls-heard, call-tells-each, fresh-results}
+use Rattle.demands.proofs.Results.{calls-heard, call-tells-each, call-ends, fresh-results}
 use Rattle.demands.proofs.Unmasked.{request-read}
 use Rattle.demands.proofs.Agreeing.{histories-agree}
 use Rattle.demands.proofs.OneChanged.{one-changed}
@@ -127,6 +127,12 @@ module _ (n : ℕ) (m : Memory) (hub : Hub n m) where
   pub results-go : (x : Call) → Long n x → (d : ℕ) (b h : Bytes) → x .event ≡ sends d b → readingTells h (read requests b) ≡ true → callOn n m x .number ≡ 0
       → EachOnce (λ l. listens l h (tableIn n m)) (resultFor (optionIn (tableIn n m)) (typeOf b) (argumentsOf (sends d b)) h) (told (callOn n m x))
   results-go = call-tells-each n m hub
+
+  -- "13 and 14 end the job", "25 ends the job": once such a packet is done its job stands no more, whatever its listeners got; so `handle-gone`
+  -- is said of its handle
+  pub results-end : (x : Call) → Long n x → (d : ℕ) (b h : Bytes) → x .event ≡ sends d b → readingTells h (read requests b) ≡ true → isEnding (typeOf b) ≡ true → callOn n m x .number ≡ 0
+      → stands h (tableIn n (kept (callOn n m x))) ≡ false
+  results-end = call-ends n m hub
 
 -- all together, from a fresh table on: a result goes exactly to those who were told this very handle since their open, and an exception to those
 -- of them who asked for exceptions since then; the others hear WORK_FAIL

@@ -1,11 +1,10 @@
 -- One exception of a history has other opaque bytes. 02: "a changed exception may show only in the copies that carry it; the WORK_FAIL
 -- packets agree". Assumes nothing.
 use Prim.Native.Nat.{ℕ}
-use mathlib.Core.Path.{_≡_, refl, ap, sym, _∙_, subst}
+use mathlib.Core.Path.{_≡_, refl, sym, _∙_, subst}
 use mathlib.Core.Bool.{true}
 use mathlib.Core.List.{List}
 use native.Mathlib.Omega.{arith}
-use lib.Dec.{eqb}
 use Rattle.octets.specs.Bytes.{Bytes}
 use Rattle.handle.specs.Handle.{handle, lap}
 use Rattle.packet.specs.Layout.{requestShape}
@@ -13,8 +12,8 @@ use Rattle.packet.specs.Packet.{got, requests}
 use Rattle.packet_laws.proofs.Packets.{read-got}
 use Rattle.lists.proofs.Cases.{All2}
 use Rattle.lists.proofs.Rows.{clash}
-use Rattle.server.specs.Table.{Table, connectionAt}
-use Rattle.server.specs.Requests.{Event, sends, Work, tells, reports, ends, throws, Request, echo, work, fromReading, requestIn}
+use Rattle.server.specs.Table.{Table}
+use Rattle.server.specs.Requests.{Event, sends, Work, tells, reports, ends, throws, Request, echo, work, requestIn}
 use Rattle.server.specs.Events.{hears}
 use Rattle.server.specs.Server.{Server}
 use Rattle.server.specs.Call.{serverIn}
@@ -24,28 +23,21 @@ use Rattle.server_calls.proofs.Histories.{LongOutputs}
 use Rattle.server_blind.proofs.Alike.{Alike}
 use Rattle.server_blind.proofs.Outputs.{Both}
 use Rattle.server_blind.proofs.LoneCalls.{SameEvents}
-use Rattle.demands.specs.Messages.{Addressed, messageIn, packetsIn, written}
+use Rattle.demands.specs.Messages.{Addressed, messageIn, argumentsOf}
+use Rattle.demands.specs.Listening.{optionIn}
 use Rattle.demands.specs.Handles.{isMade}
 use Rattle.demands.specs.Conditions.{typeOf}
 use Rattle.demands.specs.Hub.{Hub, Long, callOn, kept, resultsOf, tableIn, serverOf}
-use Rattle.demands.specs.Blind.{Copied, echoed, forwarded, ButCopies, copies, ButExceptions, thrown, Packets, Later, made-none, made-one, One, OneException}
+use Rattle.demands.specs.Blind.{Copied, echoed, forwarded, ButCopies, copies, ButExceptions, thrown, Packets, Later, made-none, made-one, OneException}
 use Rattle.demands.specs.Blind as B
-use Rattle.demands.proofs.Unmasked.{request-read}
 use Rattle.demands.proofs.Arguments.{work-read, echo-read}
-use Rattle.demands.proofs.Numbers.{Asks, asks-at, throwing}
+use Rattle.demands.proofs.Numbers.{throwing}
 use Rattle.demands.proofs.Hubs.{call-next}
 use Rattle.demands.proofs.Submissions.{isSubmit, submission-typed}
-use Rattle.demands.proofs.Gone.{made-creates}
+use Rattle.demands.proofs.Gone.{work-kinds, made-creates}
 use Rattle.demands.proofs.OneChanged.{one-changed}
 
 -- ---- a packet of type 25
-
--- 25 is the type of an exception, and of no other worker packet
-work-throws : (b : Bytes) (how : Work) (kind : ℕ) (h n d : Bytes) → requestIn b ≡ work how kind h n d → throwing how ≡ eqb kind 25
-work-throws b how kind h n d q =
-    let r = work-read b how kind h n d q in
-    let z = sym (request-read b ∙ ap fromReading (r .reads)) ∙ q in
-    subst (Asks _ _ kind (requestShape kind)) z (asks-at kind _ _ _) .2
 
 module _ (b : Bytes) (type : typeOf b ≡ 25) where
   work-type : (how : Work) (kind : ℕ) (h n d : Bytes) → requestIn b ≡ work how kind h n d → kind ≡ 25
@@ -60,7 +52,7 @@ module _ (b : Bytes) (type : typeOf b ≡ 25) where
       absurd (omega arith)
 
 -- only a listener with the option hears of it
-hears-thrown : (how : Work) (t : Table) (l : ℕ) → throwing how ≡ true → hears how t l ≡ true → connectionAt t l .exceptions ≡ true
+hears-thrown : (how : Work) (t : Table) (l : ℕ) → throwing how ≡ true → hears how t l ≡ true → optionIn t l ≡ true
 hears-thrown tells t l e h = clash e refl
 hears-thrown reports t l e h = clash e refl
 hears-thrown ends t l e h = clash e refl
@@ -69,18 +61,18 @@ hears-thrown throws t l e h = h
 -- ---- its packets
 
 module _ (t : Table) (c : ℕ) (b : Bytes) (type : typeOf b ≡ 25) (f : Event) where
-  by-copy : {x y : Addressed} {to kind : ℕ} {xs ys : List Bytes} → Copied t (sends c b) to kind
-      → messageIn x ≡ record { to = to; says = got kind xs } → messageIn y ≡ record { to = to; says = got kind ys } → ButExceptions t x y
+  by-copy : {x y : Addressed} {to kind : ℕ} → Copied t (sends c b) to kind
+      → messageIn x ≡ record { to = to; says = got kind (argumentsOf (sends c b)) } → messageIn y ≡ record { to = to; says = got kind (argumentsOf f) } → ButExceptions t (sends c b) f x y
   by-copy (echoed c b q) e₁ e₂ = absurd (no-echo b type q)
   by-copy (forwarded c b how kind h n d q p r l m w) e₁ e₂ =
       let k = work-type b type how kind h n d q in
-      thrown l (hears-thrown how t l (work-throws b how kind h n d q ∙ rw k) w) _ _ (rw k at e₁) (rw k at e₂)
+      thrown l (rw k at (forwarded c b how kind h n d q p r l m w)) (hears-thrown how t l (work-kinds b how kind h n d q .0 ∙ rw k) w) (rw k at e₁) (rw k at e₂)
 
-  but-one : {x y : Addressed} → ButCopies t (sends c b) f x y → ButExceptions t x y
+  but-one : {x y : Addressed} → ButCopies t (sends c b) f x y → ButExceptions t (sends c b) f x y
   but-one (B.ButCopies.equal e) = B.ButExceptions.equal e
   but-one (copies to kind x e₁ e₂) = by-copy x e₁ e₂
 
-  but-exceptions : {xs ys : List Addressed} → All2 (ButCopies t (sends c b) f) xs ys → All2 (ButExceptions t) xs ys
+  but-exceptions : {xs ys : List Addressed} → All2 (ButCopies t (sends c b) f) xs ys → All2 (ButExceptions t (sends c b) f) xs ys
   but-exceptions All2.none = All2.none
   but-exceptions (All2.more p ps) = All2.more (but-one p) (but-exceptions ps)
 
@@ -103,10 +95,15 @@ module _ (n : ℕ) (m w : Memory) (hm : Hub n m) (hw : Hub n w) (same : serverOf
       let (i, e, d) = made-creates (x .event) (serverOf n m) (handle lap k) (subst (λ (s : Server). isMade (handle lap k) (tableIn n m) (s .table) ≡ true) (call-next n m hm x lx) z) in
       absurd (makes-none c b type (subst (λ (v : Event). Submits v (numbered d .sender)) q (numbered d .asks)))
 
+  but-all : (e : Event) → e ≡ sends c b → {ps qs : List Addressed} → All2 (ButCopies (tableIn n m) e (y .event)) ps qs → All2 (ButExceptions (tableIn n m) e (y .event)) ps qs
+  but-all e i {ps} {qs} p =
+      subst (λ (v : Event). All2 (ButExceptions (tableIn n m) v (y .event)) ps qs) (sym i)
+      (but-exceptions (tableIn n m) c b type (y .event) (subst (λ (v : Event). All2 (ButCopies (tableIn n m) v (y .event)) ps qs) i p))
+
   pub one-exception : OneException n m w x y xs ys
   one-exception =
       let o = one-changed n m w hm hw same x y lx ly a rest lxs lys in
       record {
-        packets = but-exceptions (tableIn n m) c b type (y .event) (subst (λ (v : Event). All2 (ButCopies (tableIn n m) v (y .event)) (packetsIn (written (callOn n m x))) (packetsIn (written (callOn n w y)))) q (o .packets));
+        packets = but-all (x .event) q (o .packets);
         later = later-same (o .later);
       }

@@ -16,7 +16,7 @@ use Rattle.lists.specs.Lists.{any}
 use Rattle.lists.proofs.Cases.{All, all-more}
 use Rattle.lists.proofs.Rows.{clash, never, any-at, any-where}
 use Rattle.server.specs.Table.{Table, noJob, jobAt, live, hasHandle}
-use Rattle.server.specs.Requests.{Event, sends, Work, requestIn, work}
+use Rattle.server.specs.Requests.{Event, Work, requestIn, work}
 use Rattle.server.specs.Events.{Send, plain, copy, assign, created}
 use Rattle.server.specs.Server.{Server, decided, next}
 use Rattle.server_laws.proofs.Packets.{Sends, why-sent}

@@ -29,9 +29,12 @@ use Rattle.server_laws.proofs.Serials.{Creates, Creation, nothing, one, creatio
 use Rattle.server_laws.proofs.Obeyed.{obeyed}
 use Rattle.server_calls.proofs.Follows.{Running, running-next}
 use Rattle.demands.specs.Messages.{messageOf, messagesOf}
-use Rattle.demands.specs.Handles.{given, stands, isMade, isWork, readingTells, firstIs, readingGives}
+use Rattle.demands.specs.Handles.{given, stands, isMade, isWork, isEnding, readingTells, firstIs, readingGives}
 use Rattle.demands.proofs.Unmasked.{request-read}
-use Rattle.demands.proofs.Numbers.{throwing}
+use Rattle.packet.specs.Layout.{requestShape}
+use Rattle.server_laws.proofs.Fates.{endsJob}
+use Rattle.demands.proofs.Numbers.{Asks, asks-at, throwing}
+use Rattle.demands.proofs.Arguments.{work-read}
 use Rattle.demands.proofs.Given.{At, stands-at, at-stands, Known, standing, newest, given-known}
 
 -- ---- handles that were given out
@@ -184,7 +187,15 @@ nobody-holds c h t g = go (find (λ j. holdsHandle c h (j .row)) (t .jobs)) refl
         let a : hasHandle h r ≡ true = and-right (heldBy c r) _ (f .passes) in
         clash (at-stands h t (record { place = p; inside = f .inside; live′ = and-left (live r) _ a; is = sym (same-is _ _ (and-right (live r) _ a)) })) g
 
--- a worker packet that names h asks for work on it; an exception is type 25
+-- what a worker packet asks, by its type: 25 is an exception, and 13, 14 and 25 end the job
+pub work-kinds : (b : Bytes) (how : Work) (kind : ℕ) (h n d : Bytes) → requestIn b ≡ work how kind h n d → (throwing how ≡ eqb kind 25) × (endsJob how ≡ isEnding kind)
+work-kinds b how kind h n d q =
+    let r = work-read b how kind h n d q in
+    let z = sym (request-read b ∙ ap fromReading (r .reads)) ∙ q in
+    let (tests, first, thrown, ending) = subst (Asks _ _ kind (requestShape kind)) z (asks-at kind _ _ _) in
+    (thrown, ending)
+
+-- a worker packet that names h asks for work on it
 pub record AsksWork (b h : Bytes) : Type 0 where
   pub how : Work
   pub kind : ℕ
@@ -193,19 +204,20 @@ pub record AsksWork (b h : Bytes) : Type 0 where
   pub is : requestIn b ≡ work how kind h n d
   pub typed : kind ≡ numberAt b 4
   pub thrown : throwing how ≡ eqb kind 25
+  pub ending : endsJob how ≡ isEnding kind
 
-work-requested : (kind : ℕ) (a b c : Bytes) → isWork kind ≡ true → (how : Work) × (n : Bytes) × (d : Bytes) × (requested kind a b c ≡ work how kind a n d) × (throwing how ≡ eqb kind 25)
+work-requested : (kind : ℕ) (a b c : Bytes) → isWork kind ≡ true → (how : Work) × (n : Bytes) × (d : Bytes) × (requested kind a b c ≡ work how kind a n d)
 unfolding requested
 work-requested kind a b c = go (eqb 12 kind) refl (eqb 13 kind) refl (eqb 14 kind) refl (eqb 25 kind) refl (eqb 28 kind) refl (eqb 29 kind) refl
   where
     go : (x : Bool) → eqb 12 kind ≡ x → (y : Bool) → eqb 13 kind ≡ y → (z : Bool) → eqb 14 kind ≡ z → (u : Bool) → eqb 25 kind ≡ u → (v : Bool) → eqb 28 kind ≡ v → (w : Bool) → eqb 29 kind ≡ w
-        → x || (y || (z || (u || (v || (w || false))))) ≡ true → (how : Work) × (n : Bytes) × (d : Bytes) × (requested kind a b c ≡ work how kind a n d) × (throwing how ≡ eqb kind 25)
-    go true e y e₁ z e₂ u e₃ v e₄ w e₅ q = let k = eqb-true 12 kind e in (reports, b, c, rw (← k), rw (← k))
-    go false e true e₁ z e₂ u e₃ v e₄ w e₅ q = let k = eqb-true 13 kind e₁ in (ends, [], [], rw (← k), rw (← k))
-    go false e false e₁ true e₂ u e₃ v e₄ w e₅ q = let k = eqb-true 14 kind e₂ in (ends, [], [], rw (← k), rw (← k))
-    go false e false e₁ false e₂ true e₃ v e₄ w e₅ q = let k = eqb-true 25 kind e₃ in (throws, [], [], rw (← k), rw (← k))
-    go false e false e₁ false e₂ false e₃ true e₄ w e₅ q = let k = eqb-true 28 kind e₄ in (tells, [], [], rw (← k), rw (← k))
-    go false e false e₁ false e₂ false e₃ false e₄ true e₅ q = let k = eqb-true 29 kind e₅ in (tells, [], [], rw (← k), rw (← k))
+        → x || (y || (z || (u || (v || (w || false))))) ≡ true → (how : Work) × (n : Bytes) × (d : Bytes) × (requested kind a b c ≡ work how kind a n d)
+    go true e y e₁ z e₂ u e₃ v e₄ w e₅ q = let k = eqb-true 12 kind e in (reports, b, c, rw (← k))
+    go false e true e₁ z e₂ u e₃ v e₄ w e₅ q = let k = eqb-true 13 kind e₁ in (ends, [], [], rw (← k))
+    go false e false e₁ true e₂ u e₃ v e₄ w e₅ q = let k = eqb-true 14 kind e₂ in (ends, [], [], rw (← k))
+    go false e false e₁ false e₂ true e₃ v e₄ w e₅ q = let k = eqb-true 25 kind e₃ in (throws, [], [], rw (← k))
+    go false e false e₁ false e₂ false e₃ true e₄ w e₅ q = let k = eqb-true 28 kind e₄ in (tells, [], [], rw (← k))
+    go false e false e₁ false e₂ false e₃ false e₄ true e₅ q = let k = eqb-true 29 kind e₅ in (tells, [], [], rw (← k))
     go false e false e₁ false e₂ false e₃ false e₄ false e₅ q = clash q refl
 
 first-is : (h : Bytes) (args : List Bytes) → firstIs h args ≡ true → getD args 0 [] ≡ h
@@ -218,16 +230,10 @@ asks-work b h e = by (read requests b) refl e
     by : (r : Reading) → read requests b ≡ r → readingTells h r ≡ true → AsksWork b h
     by (refused m) q z = clash z refl
     by (got kind args) q z =
-        let (how, n, d, w, t) = work-requested kind (getD args 0 []) (getD args 1 []) (getD args 2 []) (and-left (isWork kind) _ z) in
-        record {
-          how = how;
-          kind = kind;
-          n = n;
-          d = d;
-          is = request-read b ∙ ap fromReading q ∙ w ∙ ap (λ (a : Bytes). work how kind a n d) (first-is h args (and-right (isWork kind) _ z));
-          typed = sym (read-got requests b kind args q .typed);
-          thrown = t;
-        }
+        let (how, n, d, w) = work-requested kind (getD args 0 []) (getD args 1 []) (getD args 2 []) (and-left (isWork kind) _ z) in
+        let i : requestIn b ≡ work how kind h n d = request-read b ∙ ap fromReading q ∙ w ∙ ap (λ (a : Bytes). work how kind a n d) (first-is h args (and-right (isWork kind) _ z)) in
+        let (x, y) = work-kinds b how kind h n d i in
+        record { how = how; kind = kind; n = n; d = d; is = i; typed = sym (read-got requests b kind args q .typed); thrown = x; ending = y }
 
 pub open-inside : (t : Table) (c : ℕ) → isOpen t c ≡ true → isConnection t c ≡ true
 open-inside t c o = by (ltb c (length (t .connections))) refl

@@ -17,7 +17,7 @@ use Rattle.sets.specs.Sets.{has, insert, remove}
 use Rattle.sets.proofs.Laws.{zero-has, has-insert-same, has-insert-other, has-remove-same, has-remove-other, has-above}
 use Rattle.lists.specs.Lists.{any, implies}
 use Rattle.lists.proofs.Cases.{cond-both}
-use Rattle.lists.proofs.Rows.{clash, iff, never, implies-use, all-row, any-at, any-where, pairwise-at, below-at}
+use Rattle.lists.proofs.Rows.{or-off, clash, iff, never, implies-use, all-row, any-at, any-where, pairwise-at, below-at}
 use Rattle.server.specs.declared.JobRow.{JobRow}
 use Rattle.server.specs.Table.{Job, Table, noJob, jobAt, live, heldBy, hasHandle, freshRow}
 use Rattle.server.specs.Requests.{Event, opens, closes, sends, tells, reports, ends, throws}
@@ -38,7 +38,7 @@ use Rattle.demands.specs.Conditions.{typeOf}
 use Rattle.demands.specs.Listening.{isForeground, tellsCreated, heardAfter, listens}
 use Rattle.demands.proofs.Given.{At, stands-at}
 use Rattle.demands.proofs.Gone.{last-fits, serial-past, inside-live}
-use Rattle.demands.proofs.Submissions.{or-off, foreground-asks, other-foreground, tells-created, join-packets, make-packets, Created, by-joining, by-making, created-known}
+use Rattle.demands.proofs.Submissions.{foreground-asks, other-foreground, tells-created, join-packets, make-packets, Created, by-joining, by-making, created-known}
 
 -- ---- one place for each serial
 
@@ -61,7 +61,7 @@ module _ (n : ℕ) (s : Server) (r : Running n s) where
       by false f false g = let x = ltb-false p q f in let y = ltb-false q p g in omega arith
 
   -- the job with this handle stands at one place
-  handle-place : (h : Bytes) (a : At h t) (q : ℕ) → q < length (t .jobs) → live (jobAt t q .row) ≡ true → h ≡ handle lap (jobAt t q .row .serial) → q ≡ a .place
+  pub handle-place : (h : Bytes) (a : At h t) (q : ℕ) → q < length (t .jobs) → live (jobAt t q .row) ≡ true → h ≡ handle lap (jobAt t q .row .serial) → q ≡ a .place
   handle-place h a q i l e =
       let m = last-fits n s r in
       let x = serial-past n s r q i in

@@ -26,7 +26,8 @@ use Rattle.server.specs.Server.{answer, decided}
 use Rattle.server.specs.Layout.{tableOf}
 use Rattle.server.specs.Call.{serverIn, refusedBy, performed, call}
 use Rattle.table_laws.proofs.Columns.{length-places}
-use Rattle.demands.specs.Handles.{isWork}
+use Rattle.server_laws.proofs.Fates.{endsJob}
+use Rattle.demands.specs.Handles.{isWork, isEnding}
 use Rattle.demands.specs.Conditions.{first, isSubmission, askedRows, badMemory, underTwelve, otherMagic, sizeAbove, splits, unsplit, argumentIn, typeOf, packetRows, conditions}
 use Rattle.demands.proofs.Unmasked.{request-read}
 
@@ -51,7 +52,7 @@ module _ (a b : Bytes) where
   Asks k s (R.bad n) = isOwn s ≡ false
   Asks k s (canDo f) = Tests k true false false false × (f ≡ a)
   Asks k s (submit priority background f u size) = Tests k false true false false × (f ≡ a) × (u ≡ b)
-  Asks k s (work how kind h n d) = Tests k false false true false × (h ≡ a) × (throwing how ≡ eqb k 25)
+  Asks k s (work how kind h n d) = Tests k false false true false × (h ≡ a) × (throwing how ≡ eqb k 25) × (endsJob how ≡ isEnding k)
   Asks k s (option name) = Tests k false false false true × (name ≡ a)
   Asks k s reset = Tests k false false false false
   Asks k s preSleep = Tests k false false false false
@@ -83,9 +84,9 @@ asks-at kind a b c =
     (from-at a b {i = 0}
     (line refl (line (tests 1, refl) (line (tests 2) (line (tests 3) (line (tests 4) (line refl (line refl  -- 0 to 6
     (line (tests 7, refl, refl) (line refl (line (tests 9) (line refl (line refl  -- 7 to 11
-    (line (tests 12, refl, refl) (line (tests 13, refl, refl) (line (tests 14, refl, refl) (line (tests 15) (line (tests 16) (line refl  -- 12 to 17
+    (line (tests 12, refl, refl, refl) (line (tests 13, refl, refl, refl) (line (tests 14, refl, refl, refl) (line (tests 15) (line (tests 16) (line refl  -- 12 to 17
     (line (tests 18, refl, refl) (line refl (line refl (line (tests 21, refl, refl) (line (tests 22) (line refl (line refl  -- 18 to 24
-    (line (tests 25, refl, refl) (line (tests 26, refl) (line refl (line (tests 28, refl, refl) (line (tests 29, refl, refl)  -- 25 to 29
+    (line (tests 25, refl, refl, refl) (line (tests 26, refl) (line refl (line (tests 28, refl, refl, refl) (line (tests 29, refl, refl, refl)  -- 25 to 29
     (line (tests 30) (line refl (line (tests 32, refl, refl) (line (tests 33, refl, refl) (line (tests 34, refl, refl) beyond)))))))))))))))))))))))))))))))))))  -- 30 to 34
     kind)
 

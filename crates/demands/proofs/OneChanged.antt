@@ -2,12 +2,13 @@
 -- nothing else. Assumes nothing.
 use Prim.Native.Nat.{ℕ, suc}
 use mathlib.Core.Path.{_≡_, refl, ap, ap₂, sym, _∙_, subst}
-use mathlib.Core.Bool.{Bool, true, false}
-use mathlib.Core.List.{List, [], _∷_, map}
+use mathlib.Core.Bool.{Bool, true, false, cond}
+use mathlib.Core.List.{List, [], _∷_, _++_, map}
 use native.Mathlib.Decide.{ℕ-discrete}
 use lib.ListN.{getD}
 use Rattle.octets.specs.Bytes.{Bytes}
 use Rattle.handle.specs.Handle.{handle, lap}
+use Rattle.packet.specs.Packet.{got}
 use Rattle.lists.specs.Lists.{fit}
 use Rattle.lists.proofs.Lists.{length-fit}
 use Rattle.lists.proofs.Cases.{All, All2, all-more}
@@ -28,12 +29,12 @@ use Rattle.server_blind.proofs.Lone.{lone-none}
 use Rattle.server_blind.proofs.Stored.{created-apart}
 use Rattle.server_blind.proofs.Outputs.{Both}
 use Rattle.server_blind.proofs.LoneCalls.{SameEvents, same-alike}
-use Rattle.demands.specs.Messages.{told, messageOf, messagesOf}
+use Rattle.demands.specs.Messages.{messageOf}
 use Rattle.demands.specs.Handles.{isMade}
 use Rattle.demands.specs.Hub.{Hub, Long, callOn, kept, afterCalls, resultsOf, tableIn, serverOf}
 use Rattle.demands.specs.Blind.{Copied, echoed, forwarded, ButCopies, copies, ButWorkload, assigned, Packets, Later, made-none, made-one, One}
 use Rattle.demands.specs.Blind as B
-use Rattle.demands.proofs.Hubs.{hub-runs, call-tells, call-hub, call-next}
+use Rattle.demands.proofs.Hubs.{hub-runs, call-hub, call-next}
 use Rattle.demands.proofs.ReadsBack.{Reads, all-read}
 use Rattle.demands.proofs.Told.{sentAs, same-message}
 use Rattle.demands.proofs.Gone.{made-creates, newest-made}
@@ -79,31 +80,40 @@ module _ {e f : Event} (a : Alike e f) (s : Server) where
 
 -- ---- events after one that made a job
 
+-- what an assignment of the job with serial k says
+assigned-says : (e : Event) {k : ℕ} (z : Bool) (to p : ℕ) (w : Bytes) (s : Server) → jobAt (s .table) p .row .serial ≡ k → fit (jobAt (s .table) p .row .size) (getD (s .workloads) p []) ≡ w
+    → messageOf e s (assign z to p)
+    ≡ record { to = to; says = got (cond z 31 11) (handle lap k ∷ functionAt (s .table) (jobAt (s .table) p .row .function) .name ∷ (cond z (jobAt (s .table) p .unique ∷ []) [] ++ (w ∷ []))) }
+unfolding messageOf
+assigned-says e true to p w s q i = rw (q, i)
+assigned-says e false to p w s q i = rw (q, i)
+
 module _ (k : ℕ) (e : Event) (s r : Server) (a : Apart k s r) where
-  but-assigned : (x : Send) → ButWorkload k (messageOf e s x) (messageOf e r x)
-  unfolding messageOf
-  but-assigned (plain to kind as′) = B.ButWorkload.equal refl
-  but-assigned (copy to kind) = B.ButWorkload.equal refl
-  but-assigned (assign uniq to p) = by uniq (ℕ-discrete (jobAt (s .table) p .row .serial) k)
+  but-assigned : (x : Send) → Reads e s x → Reads e r x → ButWorkload k (sentAs e s x) (sentAs e r x)
+  unfolding render
+  but-assigned (plain to kind as′) i o = B.ButWorkload.equal refl
+  but-assigned (copy to kind) i o = B.ButWorkload.equal refl
+  but-assigned (assign uniq to p) i o = by uniq i o (ℕ-discrete (jobAt (s .table) p .row .serial) k)
     where
-      by : (z : Bool) → Dec (jobAt (s .table) p .row .serial ≡ k) → ButWorkload k (messageOf e s (assign z to p)) (messageOf e r (assign z to p))
-      by z (no m) = B.ButWorkload.equal (rw (near-at (a .workloads) p m, a .table))
-      by true (yes q) =
+      by : (z : Bool) → Reads e s (assign z to p) → Reads e r (assign z to p) → Dec (jobAt (s .table) p .row .serial ≡ k) → ButWorkload k (sentAs e s (assign z to p)) (sentAs e r (assign z to p))
+      by z i o (no m) = B.ButWorkload.equal (rw (near-at (a .workloads) p m, a .table))
+      by z i o (yes q) =
           let j = jobAt (s .table) p in
           let n = j .row .size in
-          assigned to true (functionAt (s .table) (j .row .function) .name) (j .unique ∷ []) (fit n (getD (s .workloads) p [])) (fit n (getD (r .workloads) p [])) (length-fit n _ ∙ sym (length-fit n _)) (rw q) (rw (← (a .table), q))
-      by false (yes q) =
-          let j = jobAt (s .table) p in
-          let n = j .row .size in
-          assigned to false (functionAt (s .table) (j .row .function) .name) [] (fit n (getD (s .workloads) p [])) (fit n (getD (r .workloads) p [])) (length-fit n _ ∙ sym (length-fit n _)) (rw q) (rw (← (a .table), q))
+          let w = fit n (getD (s .workloads) p []) in
+          let v = fit n (getD (r .workloads) p []) in
+          assigned to z (functionAt (s .table) (j .row .function) .name) (cond z (j .unique ∷ []) []) w v (length-fit n _ ∙ sym (length-fit n _))
+          (same-message e s (assign z to p) i ∙ assigned-says e z to p w s q refl) (same-message e r (assign z to p) o ∙ rw (a .table) (assigned-says e z to p _ r (rw (← (a .table)) q) refl))
 
-  all-assigned : (xs : List Send) → All2 (ButWorkload k) (map (messageOf e s) xs) (map (messageOf e r) xs)
-  all-assigned [] = All2.none
-  all-assigned (x ∷ xs) = All2.more (but-assigned x) (all-assigned xs)
+  all-assigned : (xs : List Send) → All (Reads e s) xs → All (Reads e r) xs → All2 (ButWorkload k) (map (sentAs e s) xs) (map (sentAs e r) xs)
+  all-assigned [] All.none All.none = All2.none
+  all-assigned (x ∷ xs) (All.more i is) (All.more o os) = All2.more (but-assigned x i o) (all-assigned xs is os)
 
-  apart-messages : All2 (ButWorkload k) (messagesOf e s) (messagesOf e r)
-  unfolding messagesOf
-  apart-messages = rw (← (decided-alike (alike-same e) s r (a .table))) (all-assigned (decided e s .packets))
+  apart-packets : {n : ℕ} → Running n s → Running n r → All2 (ButWorkload k) (map (sentAs e s) (decided e s .packets)) (map (sentAs e r) (decided e r .packets))
+  apart-packets {n} h g =
+      let d = decided-alike (alike-same e) s r (a .table) in
+      let o : All (Reads e r) (decided e s .packets) = subst (λ (x : Decision). All (Reads e r) (x .packets)) (sym d) (all-read n e r g) in
+      rw (← d) (all-assigned (decided e s .packets) (all-read n e s h) o)
 
 -- ---- over calls
 
@@ -122,7 +132,7 @@ module _ (n : ℕ) where
   same-calls All2.none All.none All.none u v hu hv q = Both.none
   same-calls (All2.more {a = x} {b = y} e rest) (All.more lx ls) (All.more ly ms) u v hu hv q =
       Both.more
-      (all-equal _ _ (call-tells n u hu x lx ∙ ap₂ messagesOf e q ∙ sym (call-tells n v hv y ly)))
+      (all-equal _ _ (call-packets n u hu x lx ∙ ap₂ (λ (f : Event) (s : Server). map (sentAs f s) (decided f s .packets)) e q ∙ sym (call-packets n v hv y ly)))
       (same-calls rest ls ms (kept (callOn n u x)) (kept (callOn n v y)) (call-hub n u hu x lx) (call-hub n v hv y ly) (call-next n u hu x lx ∙ ap₂ next e q ∙ sym (call-next n v hv y ly)))
 
   -- memory that holds two servers that differ in the workload of the job with serial k
@@ -136,7 +146,7 @@ module _ (n : ℕ) where
   apart-calls k All2.none All.none All.none u v hu hv a = (Both.none, a)
   apart-calls k (All2.more {a = x} {b = y} e rest) (All.more lx ls) (All.more ly ms) u v hu hv a =
       let (b, c) = apart-calls k rest ls ms (kept (callOn n u x)) (kept (callOn n v y)) (call-hub n u hu x lx) (call-hub n v hv y ly) (apart-next k u v hu hv a x y lx ly e) in
-      let q : All2 (ButWorkload k) (told (callOn n u x)) (told (callOn n v y)) = rw (call-tells n u hu x lx, call-tells n v hv y ly, ← e) (apart-messages k (x .event) (serverOf n u) (serverOf n v) a) in
+      let q : Packets (ButWorkload k) x y (callOn n u x) (callOn n v y) = rw (call-packets n u hu x lx, call-packets n v hv y ly, ← e) (apart-packets k (x .event) (serverOf n u) (serverOf n v) a (hub-runs n u hu) (hub-runs n v hv)) in
       (Both.more q b, c)
 
 -- ---- one changed call

@@ -6,7 +6,7 @@ use mathlib.Core.List.{List, [], _∷_}
 use native.Mathlib.Decide.{ℕ-discrete}
 use native.Mathlib.Omega.{arith}
 use borrow.Author.Tests.{eq-eqb, ne-eqb}
-use lib.ListN.{length, getD, set}
+use lib.ListN.{length, getD}
 use lib.Seq.{getD-set-same, getD-set-other}
 use lib.Dec.{eqb}
 use Rattle.octets.specs.Bytes.{Bytes}
@@ -15,7 +15,7 @@ use Rattle.packet.specs.Layout.{isOwn, requestShape}
 use Rattle.packet.specs.Packet.{Reading, refused, got, read, requests}
 use Rattle.packet_laws.proofs.Packets.{read-got}
 use Rattle.lists.proofs.Cases.{All, cond-both}
-use Rattle.lists.proofs.Rows.{clash}
+use Rattle.lists.proofs.Rows.{clash, or-off}
 use Rattle.server.specs.declared.Connection.{Connection}
 use Rattle.server.specs.Table.{Table, closed, connectionAt, setConnection, ablesOf, rowsOf}
 use Rattle.server.specs.Requests.{Event, sends, Request, reset, preSleep, echo, canDo, cantDo, identify, grab, submit, work, getStatus, option, requested, fromReading, requestIn}
@@ -31,11 +31,10 @@ use Rattle.server_calls.specs.History.{Call, Memory, calls, leaves}
 use Rattle.server_calls.proofs.Histories.{LongOutputs}
 use Rattle.demands.specs.Hub.{Hub, callOn, kept, afterCalls, resultsOf, tableIn, serverOf}
 use Rattle.demands.specs.Conditions.{typeOf}
-use Rattle.demands.specs.Listening.{catchesAfter, catches}
+use Rattle.demands.specs.Listening.{catchesAfter, catches, optionIn}
 use Rattle.demands.proofs.Unmasked.{request-read}
 use Rattle.demands.proofs.Numbers.{Asks, asks-at}
 use Rattle.demands.proofs.Hubs.{call-number, call-hub, call-next}
-use Rattle.demands.proofs.Submissions.{or-off}
 
 -- ---- OPTION_REQ is type 26
 
@@ -85,7 +84,7 @@ option-typed b {a} q z = by (read requests b) refl
 
 module _ (c : ℕ) where
   abbrev marked : Table → Bool
-  marked t = connectionAt t c .exceptions
+  marked t = optionIn t c
 
   -- the end of an event keeps it
   marked-settled : (ss : List Send) (u : Table) → marked (settle ss u .table) ≡ marked u
@@ -187,6 +186,6 @@ module _ (c : ℕ) where
       history-option n xs k (call-hub n m hub z l) ls ∙ ap (λ (b : Bool). catches c b xs (resultsOf n xs k)) step
 
   pub calls-option : (n : ℕ) (xs : List Call) (m : Memory) → Hub n m → LongOutputs n xs
-      → connectionAt (tableIn n (afterCalls n xs m)) c .exceptions ≡ catches c (connectionAt (tableIn n m) c .exceptions) xs (resultsOf n xs m)
+      → optionIn (tableIn n (afterCalls n xs m)) c ≡ catches c (optionIn (tableIn n m) c) xs (resultsOf n xs m)
   unfolding serverIn
   calls-option n xs m hub l = history-option n xs m hub l

@@ -1,11 +1,12 @@
 -- Over a history, the listeners of a job are those who were told its handle since they opened; and a worker packet goes to each of them
 -- once. Assumes nothing.
-use Prim.Native.Nat.{ℕ, suc, _≤_}
+use Prim.Native.Nat.{ℕ, suc, _<_, _≤_}
 use mathlib.Core.Path.{_≡_, refl, ap, ap₂, sym, _∙_, subst}
 use mathlib.Core.Bool.{Bool, true, false, cond, _||_, _&&_}
 use mathlib.Core.Option.{Option, none, some}
 use mathlib.Core.List.{List, [], _∷_, map}
 use native.Mathlib.Omega.{arith}
+use borrow.Author.Tests.{ltb-true}
 use lib.ListN.{length}
 use lib.Dec.{eqb, ltb}
 use Rattle.octets.specs.Bytes.{Bytes}
@@ -20,29 +21,32 @@ use Rattle.lists.proofs.Rows.{clash, never, or-left, any-imp, replicate-default
 use Rattle.lists.proofs.Maps.{map-each}
 use Rattle.lists.proofs.Searches.{found}
 use Rattle.server.specs.declared.Connection.{Connection}
-use Rattle.server.specs.Table.{Table, closed, noJob, jobAt, live, heldBy, hasHandle, fresh}
+use Rattle.server.specs.Table.{Table, Job, closed, noJob, jobAt, live, heldBy, hasHandle, fresh}
 use Rattle.server.specs.Requests.{Event, sends, Work, tells, reports, ends, throws, Request, work, requestIn}
-use Rattle.server.specs.Events.{copy, Decision, refuse, silence, holdsHandle, hears, failure, toListener, served, workAt, onlyIfOpen}
+use Rattle.server.specs.Events.{copy, Decision, refuse, silence, holdsHandle, hears, failure, toListener, worked, served, workAt, onlyIfOpen}
 use Rattle.server.specs.Rules.{isOpen}
 use Rattle.server.specs.Sizes.{workloadsSize}
 use Rattle.server.specs.Layout.{tableSize}
 use Rattle.server.specs.Server.{Server, answer, decided, next, start}
 use Rattle.server.specs.Call.{serverIn}
+use Rattle.server_laws.proofs.Places.{placeChanged, Untouched, Becomes, stays, begins, joins, taken}
+use Rattle.server_laws.proofs.Places as P
+use Rattle.server_laws.proofs.Fates.{endsJob, fates}
 use Rattle.server_words.proofs.Telling.{ToldOnce, work-told}
 use Rattle.server_calls.specs.History.{Call, Memory, calls, leaves}
 use Rattle.server_calls.proofs.Follows.{Running}
 use Rattle.server_calls.proofs.Histories.{LongOutputs}
 use Rattle.demands.specs.Messages.{Message, told, argumentsOf, messageOf, messagesOf}
-use Rattle.demands.specs.Handles.{givesHandle, readingGives, readingTells, given, stands}
+use Rattle.demands.specs.Handles.{isEnding, givesHandle, readingGives, readingTells, given, stands}
 use Rattle.demands.specs.Hub.{Hub, Long, callOn, kept, afterCalls, resultsOf, tableIn, serverOf, freshMemory}
 use Rattle.demands.specs.Conditions.{typeOf}
 use Rattle.demands.specs.Listening.{createdIs, tellsCreated, submits, turns, heardAfter, heard, listens, catches, optionIn, wants, resultFor, EachOnce}
-use Rattle.demands.proofs.Given.{At, at-stands}
+use Rattle.demands.proofs.Given.{At, stands-at, at-stands}
 use Rattle.demands.proofs.Numbers.{throwing}
-use Rattle.demands.proofs.Gone.{Used, given-used, stands-used, used-next, made-newest, AsksWork, asks-work}
+use Rattle.demands.proofs.Gone.{Used, given-used, stands-used, used-next, made-newest, inside-live, AsksWork, asks-work}
 use Rattle.demands.proofs.Hubs.{hub-fresh, fresh-server, hub-runs, call-number, call-tells, call-hub, call-next, calls-hub}
 use Rattle.demands.proofs.Options.{calls-option}
-use Rattle.demands.proofs.Listeners.{listens-at, nobody-listens, listener-inside, step-heard}
+use Rattle.demands.proofs.Listeners.{handle-place, listens-at, nobody-listens, listener-inside, step-heard}
 
 -- ---- who was told has heard of a used handle
 
@@ -128,6 +132,13 @@ hears-wants reports kind t l e = rw (← e)
 hears-wants ends kind t l e = rw (← e)
 hears-wants throws kind t l e = rw (← e)
 
+-- a packet that ends the job leaves none
+ended-row : (how : Work) (n d : Bytes) (j : Job) → endsJob how ≡ true → live (worked how n d j .row) ≡ false
+ended-row tells n d j e = clash e refl
+ended-row reports n d j e = clash e refl
+ended-row ends n d j e = refl
+ended-row throws n d j e = refl
+
 -- what each of them is told
 module _ (e : Event) (s : Server) (how : Work) (kind p : ℕ) (h : Bytes) (t : throwing how ≡ eqb kind 25) (q : h ≡ handle lap (jobAt (s .table) p .row .serial)) where
   told-one : (l : ℕ) (b : Bool) → messageOf e s (cond b (copy l kind) (failure (jobAt (s .table) p .row .serial) l)) ≡ record { to = l; says = cond b (got kind (argumentsOf e)) (got 14 (h ∷ [])) }
@@ -197,6 +208,25 @@ module _ (n : ℕ) (s : Server) (r : Running n s) (d : ℕ) (b h : Bytes) (w : r
         exactly = λ l. o .exactly l ∙ held-listens l;
       }
 
+  -- a job that it ends stands no more: what stands afterwards with its handle would be a job that it did not touch
+  not-untouched : (i : ℕ) → i < length (t .jobs) → live (jobAt t i .row) ≡ true → h ≡ handle lap (jobAt t i .row .serial) → ¬ Untouched t i (sends d b)
+  unfolding held-at placeChanged
+  not-untouched i j l q u =
+      let (p, f) = held in
+      let e : i ≡ p = handle-place n s r h held-at i j l q in
+      u (record { inside = ltb-true d (length (t .connections)) (opened .0); state = opened .1 }) (ap (placeChanged d t) (asked .is) ∙ f ∙ ap some (sym e))
+
+  ended-at : endsJob (asked .how) ≡ true → (i : ℕ) {last : ℕ} {k : Job} → Becomes t last i (jobAt t i) (sends d b) k → live (k .row) ≡ true → ¬ (h ≡ handle lap (k .row .serial))
+  ended-at z i (stays e u) l g = not-untouched i (inside-live t i l) l g u
+  ended-at z i (begins d b priority background f w size x o a y r₁ r₂ r₃ m e) l g = let q : _≡_ {A = ℕ} 0 1 = cc (sym a ∙ asked .is) in omega arith
+  ended-at z i (joins d b priority background f w size o a y) l g = let q : _≡_ {A = ℕ} 0 1 = cc (sym a ∙ asked .is) in omega arith
+  ended-at z i (taken d b uniq o a y) l g = let q : _≡_ {A = ℕ} 0 1 = cc (sym a ∙ asked .is) in omega arith
+  ended-at z i (P.told d b how kind j x y o a w) l g = clash l (ended-row how x y (jobAt t i) (let q : how ≡ asked .how = cc (sym a ∙ asked .is) in ap endsJob q ∙ z))
+
+  pub job-ended : endsJob (asked .how) ≡ true → stands h (next (sends d b) s .table) ≡ false
+  unfolding next
+  job-ended z = never _ (λ y. let a = stands-at h (decided (sends d b) s .table) y in ended-at z (a .place) (fates (sends d b) s (r .rules) (a .place)) (a .live′) (a .is))
+
 -- ---- over calls
 
 -- what a call with a worker packet tells, if it is done
@@ -208,6 +238,16 @@ call-tells-each n m hub x l d b h e w z =
     let y : answer (sends d b) s .number ≡ 0 = sym (ap (λ (v : Event). answer v s .number) e) ∙ sym (call-number n m hub x l) ∙ z in
     subst (EachOnce (λ i. listens i h (tableIn n m)) (resultFor (optionIn (tableIn n m)) (typeOf b) (argumentsOf (sends d b)) h)) (sym (call-tells n m hub x l ∙ ap (λ (v : Event). messagesOf v s) e))
     (tells-each n s (hub-runs n m hub) d b h w y)
+
+-- after a call with a worker packet that ends its job, if it is done
+pub call-ends : (n : ℕ) (m : Memory) → Hub n m → (x : Call) → Long n x → (d : ℕ) (b h : Bytes) → x .event ≡ sends d b → readingTells h (read requests b) ≡ true → isEnding (typeOf b) ≡ true
+    → callOn n m x .number ≡ 0 → stands h (tableIn n (kept (callOn n m x))) ≡ false
+unfolding serverIn
+call-ends n m hub x l d b h e w i z =
+    let s = serverOf n m in
+    let a = asks-work b h w in
+    let y : answer (sends d b) s .number ≡ 0 = sym (ap (λ (v : Event). answer v s .number) e) ∙ sym (call-number n m hub x l) ∙ z in
+    ap (λ (v : Server). stands h (v .table)) (call-next n m hub x l ∙ ap (λ (v : Event). next v s) e) ∙ job-ended n s (hub-runs n m hub) d b h w y (a .ending ∙ ap isEnding (a .typed) ∙ i)
 
 pub call-held-stands : (n : ℕ) (m : Memory) → Hub n m → (x : Call) → Long n x → (d : ℕ) (b h : Bytes) → x .event ≡ sends d b → readingTells h (read requests b) ≡ true → callOn n m x .number ≡ 0
     → stands h (tableIn n m) ≡ true

@@ -15,7 +15,7 @@ use Rattle.packet.specs.Layout.{isOwn, requestShape, backgroundOf}
 use Rattle.packet.specs.Packet.{Reading, refused, got, read, requests}
 use Rattle.packet_laws.proofs.Packets.{read-got}
 use Rattle.lists.specs.Lists.{any}
-use Rattle.lists.proofs.Rows.{clash, replicate-default}
+use Rattle.lists.proofs.Rows.{clash, or-off, replicate-default}
 use Rattle.server.specs.Table.{Table, jobAt, setJob, withRow, live, roomFor, freePlace, joins, joined}
 use Rattle.server.specs.Requests.{Event, sends, Request, reset, preSleep, echo, canDo, cantDo, identify, grab, submit, work, getStatus, option, requested, fromReading, requestIn}
 use Rattle.server.specs.Requests as R
@@ -165,10 +165,6 @@ any-noops : (c : ℕ) (h : Bytes) (e : Event) (s : Server) (ls : List ℕ) → a
 unfolding messageOf
 any-noops c h e s [] = refl
 any-noops c h e s (l ∷ ls) = rw (and-false (eqb l c), any-noops c h e s ls)
-
-pub or-off : (b : Bool) → b || false ≡ b
-or-off true = refl
-or-off false = refl
 
 -- one JOB_CREATED, and then NOOPs
 pub tells-created : (c : ℕ) (h : Bytes) (e : Event) (s : Server) (d k : ℕ) (ls : List ℕ) → decided e s .packets ≡ created d k ∷ map noop ls

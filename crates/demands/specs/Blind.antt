@@ -10,7 +10,7 @@ use Rattle.handle.specs.Handle.{handle, lap}
 use Rattle.sets.specs.Sets.{has}
 use Rattle.packet.specs.Packet.{got}
 use Rattle.lists.specs.Lists.{find}
-use Rattle.server.specs.Table.{Table, connectionAt, jobAt}
+use Rattle.server.specs.Table.{Table, jobAt}
 use Rattle.server.specs.Requests.{Event, sends, Work, work, echo, requestIn}
 use Rattle.server.specs.Events.{holdsHandle, hears}
 use Rattle.server.specs.Layout.{tableSize}
@@ -18,7 +18,8 @@ use Rattle.server.specs.Call.{Result}
 use Rattle.server_calls.specs.History.{Call, Memory}
 use Rattle.lists.proofs.Cases.{All2}
 use Rattle.server_blind.proofs.Outputs.{Both}
-use Rattle.demands.specs.Messages.{Addressed, Message, messageIn, hiddenIn, packetsIn, written, told, argumentsOf}
+use Rattle.demands.specs.Messages.{Addressed, messageIn, hiddenIn, packetsIn, written, argumentsOf}
+use Rattle.demands.specs.Listening.{optionIn}
 use Rattle.demands.specs.Handles.{isMade}
 use Rattle.demands.specs.Hub.{callOn, kept, afterCalls, resultsOf, tableIn, serverOf}
 
@@ -47,26 +48,27 @@ pub data ButCopies (t : Table) (e f : Event) (a b : Addressed) : Type 0 where
   equal : a ≡ b → ButCopies t e f a b
   copies : (to kind : ℕ) → Copied t e to kind → messageIn a ≡ record { to = to; says = got kind (argumentsOf e) } → messageIn b ≡ record { to = to; says = got kind (argumentsOf f) } → ButCopies t e f a b
 
--- two packets that two exceptions send: the same one, to the byte; or WORK_EXCEPTION to one connection, which has set the option
-pub data ButExceptions (t : Table) (a b : Addressed) : Type 0 where
-  equal : a ≡ b → ButExceptions t a b
-  thrown : (to : ℕ) → connectionAt t to .exceptions ≡ true → (xs ys : List Bytes) → messageIn a ≡ record { to = to; says = got 25 xs } → messageIn b ≡ record { to = to; says = got 25 ys } → ButExceptions t a b
+-- two packets that the exceptions e and f send: the same one, to the byte; or their copies to a listener that has set the option
+pub data ButExceptions (t : Table) (e f : Event) (a b : Addressed) : Type 0 where
+  equal : a ≡ b → ButExceptions t e f a b
+  thrown : (to : ℕ) → Copied t e to 25 → optionIn t to ≡ true → messageIn a ≡ record { to = to; says = got 25 (argumentsOf e) } → messageIn b ≡ record { to = to; says = got 25 (argumentsOf f) }
+      → ButExceptions t e f a b
 
 -- ---- the packets that carry a stored workload
 
--- two packets: the same one; or two assignments of the job with serial k to one connection, JOB_ASSIGN or JOB_ASSIGN_UNIQ, with workloads
--- of one length
-pub data ButWorkload (k : ℕ) (a b : Message) : Type 0 where
+-- two packets: the same one, to the byte; or two assignments of the job with serial k to one connection, JOB_ASSIGN or JOB_ASSIGN_UNIQ, with
+-- workloads of one length
+pub data ButWorkload (k : ℕ) (a b : Addressed) : Type 0 where
   equal : a ≡ b → ButWorkload k a b
   assigned : (to : ℕ) (uniq : Bool) (function : Bytes) (more : List Bytes) (w v : Bytes) → length w ≡ length v
-      → a ≡ record { to = to; says = got (cond uniq 31 11) (handle lap k ∷ function ∷ (more ++ (w ∷ []))) }
-      → b ≡ record { to = to; says = got (cond uniq 31 11) (handle lap k ∷ function ∷ (more ++ (v ∷ []))) } → ButWorkload k a b
+      → messageIn a ≡ record { to = to; says = got (cond uniq 31 11) (handle lap k ∷ function ∷ (more ++ (w ∷ []))) }
+      → messageIn b ≡ record { to = to; says = got (cond uniq 31 11) (handle lap k ∷ function ∷ (more ++ (v ∷ []))) } → ButWorkload k a b
 
 -- ---- one changed packet
 
--- R relates the packets of each two calls of two histories
-abbrev pub Packets : (Message → Message → Type 0) → Call → Call → Result → Result → Type 0
-Packets R x y r q = All2 R (told r) (told q)
+-- R relates the packets of two calls, as they lie in the outputs
+abbrev pub Packets : (Addressed → Addressed → Type 0) → Call → Call → Result → Result → Type 0
+Packets R x y r q = All2 R (packetsIn (written r)) (packetsIn (written q))
 
 -- what the calls xs and ys, with the same events, tell on memory u and v, which two calls left that were alike and began with m. If they
 -- made no job, as when a submission joins one or is refused, nothing at all differs: not the workloads either. If they made the job with
@@ -80,12 +82,12 @@ pub data Later (n : ℕ) (m u v : Memory) (xs ys : List Call) : Type 0 where
 -- the calls x on m and y on w, alike, and then the calls xs and ys, with the same events
 pub record One (n : ℕ) (m w : Memory) (x y : Call) (xs ys : List Call) : Type 0 where
   pub itself : AlikeResults n x y (callOn n m x) (callOn n w y)
-  pub packets : All2 (ButCopies (tableIn n m) (x .event) (y .event)) (packetsIn (written (callOn n m x))) (packetsIn (written (callOn n w y)))
+  pub packets : Packets (ButCopies (tableIn n m) (x .event) (y .event)) x y (callOn n m x) (callOn n w y)
   pub others : Both (AlikeResults n) xs ys (resultsOf n xs (kept (callOn n m x))) (resultsOf n ys (kept (callOn n w y)))
   pub later : Later n m (kept (callOn n m x)) (kept (callOn n w y)) xs ys
 
 -- the calls x on m and y on w bring two exceptions that differ in opaque bytes alone, and the calls xs and ys have the same events. 02: "a
 -- changed exception may show only in the copies that carry it; the WORK_FAIL packets agree"
 pub record OneException (n : ℕ) (m w : Memory) (x y : Call) (xs ys : List Call) : Type 0 where
-  pub packets : All2 (ButExceptions (tableIn n m)) (packetsIn (written (callOn n m x))) (packetsIn (written (callOn n w y)))
+  pub packets : Packets (ButExceptions (tableIn n m) (x .event) (y .event)) x y (callOn n m x) (callOn n w y)
   pub later : Both (Packets (λ a b. a ≡ b)) xs ys (resultsOf n xs (kept (callOn n m x))) (resultsOf n ys (kept (callOn n w y)))

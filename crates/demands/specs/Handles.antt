@@ -32,6 +32,10 @@ readingGives h (got kind as′) = givesHandle kind && firstIs h as′
 abbrev pub isWork : ℕ → Bool
 isWork kind = oneOf (12 ∷ 13 ∷ 14 ∷ 25 ∷ 28 ∷ 29 ∷ []) kind
 
+-- 01: "13 and 14 end the job. 25 ends the job"
+abbrev pub isEnding : ℕ → Bool
+isEnding kind = oneOf (13 ∷ 14 ∷ 25 ∷ []) kind
+
 abbrev pub readingTells : Bytes → Reading → Bool
 readingTells h (refused n) = false
 readingTells h (got kind as′) = isWork kind && firstIs h as′

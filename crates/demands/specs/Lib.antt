@@ -4,6 +4,6 @@ pub mod Handles
 pub mod Conditions
 pub mod Answered
 pub mod Exact
-pub mod Blind
 pub mod Listening
+pub mod Blind
 pub mod Commands

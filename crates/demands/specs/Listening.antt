@@ -9,7 +9,7 @@ use Rattle.octets.specs.Bytes.{Bytes}
 use Rattle.sets.specs.Sets.{has}
 use Rattle.packet.specs.Layout.{oneOf}
 use Rattle.packet.specs.Packet.{Reading, refused, got}
-use Rattle.lists.specs.Lists.{any, implies, pairwise}
+use Rattle.lists.specs.Lists.{any, isIn, implies, pairwise}
 use Rattle.server.specs.Table.{Table, connectionAt, hasHandle}
 use Rattle.server.specs.Requests.{Event, opens, closes, sends}
 use Rattle.server.specs.Call.{Result}
@@ -90,10 +90,6 @@ wants set kind l = implies (eqb kind 25) (set l)
 -- others get WORK_FAIL with the handle alone"
 abbrev pub resultFor : (ℕ → Bool) → ℕ → List Bytes → Bytes → ℕ → Reading
 resultFor set kind args h l = cond (wants set kind l) (got kind args) (got 14 (h ∷ []))
-
--- the number stands in the list
-abbrev pub isIn : ℕ → List ℕ → Bool
-isIn l ls = any (λ k. eqb k l) ls
 
 -- these packets are one packet each to some connections, in rising order, none twice: exactly to those of the set, and to each the one that
 -- is its own

@@ -27,6 +27,10 @@ pub implies-use : (a b : Bool) → implies a b ≡ true → a ≡ true → b ≡
 implies-use true b e h = e
 implies-use false b e h = clash h refl
 
+pub or-off : (b : Bool) → b || false ≡ b
+or-off true = refl
+or-off false = refl
+
 pub or-left : (a b : Bool) → a ≡ true → a || b ≡ true
 or-left true b e = refl
 or-left false b e = clash e refl

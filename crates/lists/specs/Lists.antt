@@ -1,8 +1,9 @@
 -- Tools on lists: tests, searches, lists of places. Assumes nothing.
-use Prim.Native.Nat.{ℕ, zero, suc, _+_}
+use Prim.Native.Nat.{ℕ, zero, suc}
 use mathlib.Core.Bool.{Bool, true, false, cond, _&&_, _||_}
 use mathlib.Core.Option.{Option, none, some}
 use mathlib.Core.List.{List, [], _∷_, _++_}
+use lib.Dec.{eqb}
 use Rattle.octets.specs.Bytes.{Bytes}
 
 -- if the first, then the second
@@ -18,6 +19,10 @@ any f (x ∷ xs) = f x || any f xs
 abbrev pub all : {A : Type 0} → (A → Bool) → List A → Bool
 all f [] = true
 all f (x ∷ xs) = f x && all f xs
+
+-- the number stands in the list
+abbrev pub isIn : ℕ → List ℕ → Bool
+isIn n ns = any (λ k. eqb k n) ns
 
 -- each two entries are apart
 abbrev pub pairwise : {A : Type 0} → (A → A → Bool) → List A → Bool

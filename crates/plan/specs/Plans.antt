@@ -4,7 +4,7 @@ use mathlib.Core.Bool.{Bool, true, false, cond}
 use mathlib.Core.Option.{Option, none, some}
 use lib.ListN.{getD}
 use lib.Dec.{ltb}
-use Rattle.octets.specs.Bytes.{Bytes, same}
+use Rattle.octets.specs.Bytes.{same}
 use Rattle.sets.specs.Sets.{insert, remove}
 use Rattle.server.specs.declared.Connection.{Connection}
 use Rattle.lists.specs.Lists.{find}

@@ -27,8 +27,8 @@ pub enum Change {
     Left { connection: usize }, // a close: `0` and `0` for the jobs that the connection held, and no client id
 }
 
-// The packets that an event sends before any NOOP: all to the sender, but what a worker says of its job. That goes to a set, as copies, or
-// as copies to some of them, who hear it, and WORK_FAIL to the others.
+// The packets that an event sends before any NOOP: all to the sender, but what a worker says of its job. That goes to a set: as copies, or
+// as copies to those of it who hear it and WORK_FAIL to the others.
 pub enum Order {
     Nothing,
     Created { serial: u32 },

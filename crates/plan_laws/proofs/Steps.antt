@@ -81,10 +81,6 @@ names-other : (q : ℕ) (r : JobRow) → ¬ (r .function ≡ q) → names q r �
 names-other q r d = ap (λ (b : Bool). live r && b) (ne-eqb (r .function) q d) ∙ and-false (live r)
 
 -- a submitter more: the job is as grabbable as before
-submitted-queued : (c : ℕ) (b : Bool) (r : JobRow) → queued (submittedBy c b r) ≡ queued r
-submitted-queued c true r = refl
-submitted-queued c false r = refl
-
 submitted-grabbable : (c : ℕ) (b : Bool) (r : JobRow) (ables : List ℕ) (x : ℕ) → grabbable ables x (submittedBy c b r) ≡ grabbable ables x r
 submitted-grabbable c true r ables x = refl
 submitted-grabbable c false r ables x = refl

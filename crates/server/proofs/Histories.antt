@@ -1,6 +1,6 @@
 -- Histories to compute: how to write an event, and what a history answers. Assumes nothing.
 use Prim.Native.Nat.{ℕ}
-use mathlib.Core.List.{List, [], _∷_, map}
+use mathlib.Core.List.{List, _∷_, map}
 use Rattle.octets.specs.Bytes.{Bytes, same, startsWith, firstZero, every}
 use Rattle.sets.specs.Sets.{has, insert, remove, members}
 use Rattle.handle.specs.Handle.{handle, decimal, decimalIn}

@@ -1,4 +1,4 @@
--- Document 01, "Errors that look reasonable", and four more: for each a history in which it would show, with the right answer, and one
+-- Document 01, "Errors that look reasonable", and five more: for each a history in which it would show, with the right answer, and one
 -- theorem that the definitions give these answers. The edits in must-fail/ make the errors in the definitions. Assumes nothing.
 use Prim.Native.Nat.{ℕ}
 use Prim.Native.String.{String}
@@ -129,22 +129,33 @@ abbrev catches : ℕ → Event
 unfolding request
 catches c = request c 26 (text "exceptions" ∷ [])
 
--- boards 0 to 4 listen to one job of worker 5; boards 0 and 4 set the option before they submit, board 2 after it. 02, ask 3: each gets one
--- packet, "in one rising order of connection": the exception if it set the option, and otherwise "WORK_FAIL with the handle alone"
+-- boards 0 to 4 listen to one job of worker 5, which ends it by an exception; boards 0 and 4 set the option before they submit, board 2 after it
+abbrev boardsTold : List Event
+unfolding request
+boardsTold =
+    opens 0 ∷ opens 1 ∷ opens 2 ∷ opens 3 ∷ opens 4 ∷ opens 5 ∷ canDo 5 "f" ∷ catches 0 ∷ catches 4
+    ∷ submits 0 "f" "u" [] ∷ submits 1 "f" "u" [] ∷ submits 2 "f" "u" [] ∷ submits 3 "f" "u" [] ∷ submits 4 "f" "u" []
+    ∷ catches 2 ∷ grabs 5 ∷ request 5 25 (text "H:lap:1" ∷ text "no seats" ∷ []) ∷ []
+
+-- 02, ask 3: each gets one packet, "in one rising order of connection": the exception if it set the option, and otherwise "WORK_FAIL with the
+-- handle alone"
 pub nobodyHangs : Edge
 unfolding request response
 nobodyHangs =
-    edge
-    (opens 0 ∷ opens 1 ∷ opens 2 ∷ opens 3 ∷ opens 4 ∷ opens 5 ∷ canDo 5 "f" ∷ catches 0 ∷ catches 4
-    ∷ submits 0 "f" "u" [] ∷ submits 1 "f" "u" [] ∷ submits 2 "f" "u" [] ∷ submits 3 "f" "u" [] ∷ submits 4 "f" "u" []
-    ∷ catches 2 ∷ grabs 5 ∷ request 5 25 (text "H:lap:1" ∷ text "no seats" ∷ []) ∷ [])
-    (replicate 17 0)
+    edge boardsTold (replicate 17 0)
     (response 0 25 (text "H:lap:1" ∷ text "no seats" ∷ []) ∷ response 1 14 (text "H:lap:1" ∷ []) ∷ response 2 25 (text "H:lap:1" ∷ text "no seats" ∷ [])
     ∷ response 3 14 (text "H:lap:1" ∷ []) ∷ response 4 25 (text "H:lap:1" ∷ text "no seats" ∷ []) ∷ [])
+
+-- the job has ended, whatever they got: the worker's WORK_FAIL for it is refused
+pub exceptionEnds : Edge
+unfolding request response
+exceptionEnds =
+    edge (boardsTold ++ (request 5 14 (text "H:lap:1" ∷ []) ∷ [])) (replicate 17 0 ++ (14 ∷ [])) (response 5 19 (text "14" ∷ text "handle" ∷ []) ∷ [])
 
 -- ---- none of them is made
 
 pub no-mistake :
     T (holds lateRefused) × T (holds tenantStays) × T (holds tenantNamed) × T (holds ownListener) × T (holds unknownStatus) × T (holds jobOfItsOwn) × T (holds wholeWorkload) × T (holds oneCopyEach) × T (holds nobodyHangs)
-unfolding holds lateRefused tenantStays tenantNamed ownListener unknownStatus jobOfItsOwn wholeWorkload oneCopyEach nobodyHangs
-no-mistake = (tt, tt, tt, tt, tt, tt, tt, tt, tt)
+    × T (holds exceptionEnds)
+unfolding holds lateRefused tenantStays tenantNamed ownListener unknownStatus jobOfItsOwn wholeWorkload oneCopyEach nobodyHangs exceptionEnds
+no-mistake = (tt, tt, tt, tt, tt, tt, tt, tt, tt, tt)

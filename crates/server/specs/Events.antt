@@ -1,10 +1,10 @@
--- What is done: the number, the packets to send and the next table. 01, "Refusal numbers" and "Jobs and the queue". Nothing here sees
--- an opaque byte. Assumes nothing.
+-- What is done: the number, the packets to send and the next table. 01, "Refusal numbers" and "Jobs and the queue"; 02, asks 1 and 3.
+-- Nothing here sees an opaque byte. Assumes nothing.
 use Prim.Native.Nat.{ℕ, suc, _+_, _/_, _%_}
 use mathlib.Core.Bool.{Bool, true, false, not, cond, _&&_}
 use mathlib.Core.Option.{Option, none, some}
 use mathlib.Core.List.{List, [], _∷_, _++_, map}
-use lib.ListN.{length, getD, set}
+use lib.ListN.{length, getD}
 use lib.Dec.{ltb, eqb}
 use Rattle.octets.specs.Bytes.{Bytes, same, text}
 use Rattle.handle.specs.Handle.{handle, lap}
@@ -194,15 +194,15 @@ failure serial l = plain l 14 (handle lap serial ∷ [])
 abbrev pub listenersOf : Table → JobRow → List ℕ
 listenersOf t r = members (length (t .connections)) (r .listeners)
 
--- WORK_FAIL to all listeners of a job: what an exception sends where nobody has set the option
+-- to all listeners of a job: what an exception sends where none of them has set the option
 abbrev pub failures : Table → JobRow → List Send
 failures t r = map (failure (r .serial)) (listenersOf t r)
 
--- 02, of type 25: "all others get WORK_FAIL with the handle alone, in one rising order of connection": all other listeners
+-- the packet to one listener: the copy, or, 02 of type 25: "all others get WORK_FAIL with the handle alone": all other listeners
 abbrev pub toListener : Work → ℕ → Table → JobRow → ℕ → Send
 toListener how kind t r l = cond (hears how t l) (copy l kind) (failure (r .serial) l)
 
--- one packet to each listener of a job
+-- one packet to each listener of a job, 02: "in one rising order of connection"
 unfoldable pub toListeners : Work → ℕ → Table → JobRow → List Send
 toListeners how kind t r = map (toListener how kind t r) (listenersOf t r)
 

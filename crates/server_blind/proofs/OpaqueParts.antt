@@ -22,7 +22,7 @@ use Rattle.packet_laws.proofs.Blindness.{Parted, parted-visible, parted-opaque,
 use Rattle.server.specs.Sizes.{nameSize, uniqueSize}
 use Rattle.server.specs.Table.{Table, noFunction, noJob, functionAt, jobAt, live, queued}
 use Rattle.server.specs.Rules.{textWithin, storedNumber, together}
-use Rattle.server.specs.Requests.{Event, sends}
+use Rattle.server.specs.Requests.{Event}
 use Rattle.server.specs.Events.{Send, plain, copy, assign}
 use Rattle.server.specs.Server.{Server, Sent, render, answer}
 use Rattle.lists.proofs.Lists.{length-fit}

@@ -1,6 +1,6 @@
 -- 01: "Worker packets go to all listeners"; 02, of type 25: to those that set `exceptions`, and "all others get WORK_FAIL with the handle
--- alone, in one rising order of connection". Each listener gets exactly one packet, and nothing else is sent. For a table that obeys the
--- rules. Assumes nothing.
+-- alone, in one rising order of connection". Each listener gets exactly one packet and, in a table that obeys the rules, nothing
+-- else is sent. Assumes nothing.
 use Prim.Native.Nat.{ℕ, zero, suc, _<_, _≤_}
 use mathlib.Core.Path.{_≡_, refl, ap, sym, _∙_}
 use mathlib.Core.Logic.{_≢_}
@@ -16,7 +16,7 @@ use Rattle.octets.specs.Bytes.{Bytes}
 use Rattle.octets.proofs.Strings.{and-left, and-right, and-both}
 use Rattle.sets.specs.Sets.{has, members}
 use Rattle.sets.proofs.Members.{map-members}
-use Rattle.lists.specs.Lists.{any, all, pairwise, find}
+use Rattle.lists.specs.Lists.{isIn, all, pairwise, find}
 use Rattle.server.specs.declared.JobRow.{JobRow}
 use Rattle.server.specs.Table.{Job, Table, noJob, connectionAt, jobAt, setJob, grabbable}
 use Rattle.server.specs.Requests.{Work, tells, reports, ends, throws, work}
@@ -24,7 +24,7 @@ use Rattle.server.specs.Events.{Decision, copy, holdsHandle, failure, failures,
 use Rattle.server.specs.Rules.{obeys}
 use Rattle.lists.proofs.Cases.{cond-both}
 use Rattle.lists.proofs.Searches.{found}
-use Rattle.lists.proofs.Rows.{clash, iff, all-at}
+use Rattle.lists.proofs.Rows.{clash, iff, or-off, all-at}
 use Rattle.server_laws.proofs.Obeyed.{obeyed}
 use Rattle.server_words.proofs.Quiet.{Quiet, awaited, one-job-quiet}
 
@@ -60,10 +60,6 @@ members-rise (suc n) s = rising-more n s (has s n) (members-rise n s)
 
 -- ---- who is in the list
 
--- the number stands in the list
-abbrev pub isIn : ℕ → List ℕ → Bool
-isIn l xs = any (λ k. eqb k l) xs
-
 in-append : (l : ℕ) (xs ys : List ℕ) → isIn l (xs ++ ys) ≡ isIn l xs || isIn l ys
 in-append l [] ys = refl
 in-append l (x ∷ xs) ys = ap (λ (b : Bool). eqb x l || b) (in-append l xs ys) ∙ or-assoc (eqb x l) (isIn l xs) (isIn l ys)
@@ -71,10 +67,6 @@ in-append l (x ∷ xs) ys = ap (λ (b : Bool). eqb x l || b) (in-append l xs ys)
     or-assoc : (a b c : Bool) → a || (b || c) ≡ (a || b) || c
     or-assoc true b c = refl
     or-assoc false b c = refl
-
-or-off : (b : Bool) → b || false ≡ b
-or-off true = refl
-or-off false = refl
 
 below-more : (l n : ℕ) → n ≢ l → ltb l (suc n) ≡ ltb l n
 below-more l n d = iff _ _ (λ e. let k = ltb-true l (suc n) e in lt-ltb l n (omega arith)) (λ e. let k = ltb-true l n e in lt-ltb l (suc n) (omega arith))
