@@ -117,7 +117,7 @@ enum lap_type {
     LAP_TYPE_JOB_ASSIGN = 11,         /* response: handle, function, workload */
     LAP_TYPE_WORK_STATUS = 12,        /* request: handle, numerator, denominator; response: the same data */
     LAP_TYPE_WORK_COMPLETE = 13,      /* request: handle, data; response: the same data */
-    LAP_TYPE_WORK_FAIL = 14,          /* request: handle; response: the same data */
+    LAP_TYPE_WORK_FAIL = 14,          /* request: handle; response: handle, also to an exception's other listeners */
     LAP_TYPE_GET_STATUS = 15,         /* request: handle */
     LAP_TYPE_ECHO_REQ = 16,           /* request: anything */
     LAP_TYPE_ECHO_RES = 17,           /* response: the data of the echo */
