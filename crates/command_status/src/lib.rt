@@ -1,5 +1,6 @@
-// The answer to `status`, laid over a lent text: a line for each known function, and a line with a period. Each function that lays returns the
-// place after what it laid. An inner crate: its callers lend a table that obeys the rules and see to the room, and nothing is refused.
+// The answer to `status`, laid over a lent text: a line for each known function, and a line with a period. Each function that lays
+// returns the place after what it laid. An inner crate: its callers lend a table that obeys the rules and see to the room, and nothing is
+// refused.
 use command_order::Listing;
 use server::JOBS;
 use server::JobRow;

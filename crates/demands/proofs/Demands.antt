@@ -111,31 +111,31 @@ module _ (n : ℕ) (m : Memory) (hub : Hub n m) where
 
   -- ---- results
 
-  -- who listens to a job is exactly who was told its handle by JOB_CREATED, in answer to a foreground submission of its own, since it opened
-  -- its connection, by the events and the packets of the history alone (`heard`); who listened when it began counts as told
+  -- who listens to a job is exactly who was told its handle by JOB_CREATED, in answer to a foreground submission of its own, since it
+  -- opened its connection, by the events and the packets of the history alone (`heard`); who listened when it began counts as told
   pub listeners-told : (c : ℕ) (h : Bytes) (xs : List Call) → LongOutputs n xs → stands h (tableIn n (afterCalls n xs m)) ≡ true
       → listens c h (tableIn n (afterCalls n xs m)) ≡ heard c h (listens c h (tableIn n m)) xs (resultsOf n xs m)
   listeners-told c h xs = calls-heard n c h xs m hub
 
-  -- who has set the option is exactly who sent OPTION_REQ since it opened its connection, and was not refused, by the events and the numbers
-  -- of the history alone (`catches`); who had set it when it began counts
+  -- who has set the option is exactly who sent OPTION_REQ since it opened its connection, and was not refused, by the events and the
+  -- numbers of the history alone (`catches`); who had set it when it began counts
   pub options-set : (c : ℕ) (xs : List Call) → LongOutputs n xs → optionIn (tableIn n (afterCalls n xs m)) c ≡ catches c (optionIn (tableIn n m) c) xs (resultsOf n xs m)
   options-set c xs = calls-option c n xs m hub
 
-  -- a worker packet that is done: one packet to each listener of the very job that it names, in rising order, and no other packet at all. It
-  -- is a copy, with the data as it came; of type 25 only where the listener set the option, and otherwise WORK_FAIL with the handle
+  -- a worker packet that is done: one packet to each listener of the very job that it names, in rising order, and no other packet at all.
+  -- It is a copy, with the data as it came; of type 25 only where the listener set the option, and otherwise WORK_FAIL with the handle
   pub results-go : (x : Call) → Long n x → (d : ℕ) (b h : Bytes) → x .event ≡ sends d b → readingTells h (read requests b) ≡ true → callOn n m x .number ≡ 0
       → EachOnce (λ l. listens l h (tableIn n m)) (resultFor (optionIn (tableIn n m)) (typeOf b) (argumentsOf (sends d b)) h) (told (callOn n m x))
   results-go = call-tells-each n m hub
 
-  -- "13 and 14 end the job", "25 ends the job": once such a packet is done its job stands no more, whatever its listeners got; so `handle-gone`
-  -- is said of its handle
+  -- "13 and 14 end the job", "25 ends the job": once such a packet is done its job stands no more, whatever its listeners got; so
+  -- `handle-gone` is said of its handle
   pub results-end : (x : Call) → Long n x → (d : ℕ) (b h : Bytes) → x .event ≡ sends d b → readingTells h (read requests b) ≡ true → isEnding (typeOf b) ≡ true → callOn n m x .number ≡ 0
       → stands h (tableIn n (kept (callOn n m x))) ≡ false
   results-end = call-ends n m hub
 
--- all together, from a fresh table on: a result goes exactly to those who were told this very handle since their open, and an exception to those
--- of them who asked for exceptions since then; the others hear WORK_FAIL
+-- all together, from a fresh table on: a result goes exactly to those who were told this very handle since their open, and an exception
+-- to those of them who asked for exceptions since then; the others hear WORK_FAIL
 pub results-told : (n : ℕ) (t w : Bytes) → Room n t w → (xs : List Call) → LongOutputs n xs → let m = freshMemory n t w in let u = afterCalls n xs m in
     (x : Call) → Long n x → (d : ℕ) (b h : Bytes) → x .event ≡ sends d b → readingTells h (read requests b) ≡ true → callOn n u x .number ≡ 0
     → EachOnce (λ l. heard l h false xs (resultsOf n xs m)) (resultFor (λ l. catches l false xs (resultsOf n xs m)) (typeOf b) (argumentsOf (sends d b)) h) (told (callOn n u x))
@@ -143,8 +143,9 @@ results-told n t w r = fresh-results n (r .few) t w (r .longTable) (r .longWorkl
 
 -- ---- demand 3
 
--- two histories whose events differ in opaque bytes alone, on two hosts' memories whose tables are equal, whatever else differs in them (the
--- workloads, the bytes beyond the layout, the lengths) and whatever outputs are lent: every two calls agree in everything but opaque bytes
+-- two histories whose events differ in opaque bytes alone, on two hosts' memories whose tables are equal, whatever else differs in them
+-- (the workloads, the bytes beyond the layout, the lengths) and whatever outputs are lent: every two calls agree in everything but opaque
+-- bytes
 pub demand-3 : (n : ℕ) {xs ys : List Call} → AlikeEvents xs ys → LongOutputs n xs → LongOutputs n ys → (m w : Memory) → Hub n m → Hub n w → tableIn n m ≡ tableIn n w
     → Both (AlikeResults n) xs ys (resultsOf n xs m) (resultsOf n ys w)
 demand-3 = histories-agree
@@ -155,16 +156,16 @@ pub demand-3-one : (n : ℕ) (m w : Memory) → Hub n m → Hub n w → serverOf
     → {xs ys : List Call} → SameEvents xs ys → LongOutputs n xs → LongOutputs n ys → One n m w x y xs ys
 demand-3-one = one-changed
 
--- the changed packet is WORK_EXCEPTION. 02, ask 3: "a changed exception may show only in the copies that carry it; the WORK_FAIL packets agree":
--- of the packets that it sends only those of type 25 differ, to listeners that set the option, and no packet later
+-- the changed packet is WORK_EXCEPTION. 02, ask 3: "a changed exception may show only in the copies that carry it; the WORK_FAIL packets
+-- agree": of the packets that it sends only its copies to listeners that set the option differ, and no packet later
 pub demand-3-exception : (n : ℕ) (m w : Memory) → Hub n m → Hub n w → serverOf n m ≡ serverOf n w → (x y : Call) → Long n x → Long n y → Alike (x .event) (y .event)
     → (c : ℕ) (b : Bytes) → x .event ≡ sends c b → typeOf b ≡ 25 → {xs ys : List Call} → SameEvents xs ys → LongOutputs n xs → LongOutputs n ys → OneException n m w x y xs ys
 demand-3-exception = one-exception
 
 -- ---- text commands: 02, ask 1
 
--- a technician's line, any bytes, from any connection on any lent bytes: the output begins with the connection's byte and one text, which the
--- table alone determines, and table and workloads stay; or it is refused by 1, 2 or 3, and nothing changes
+-- a technician's line, any bytes, from any connection on any lent bytes: the output begins with the connection's byte and one text, which
+-- the table alone determines, and table and workloads stay; or it is refused by 1, 2 or 3, and nothing changes
 pub text-said : (n c : ℕ) (line t w o : Bytes) → Said c (textFor line (tableOf n t)) t w o (say n c line t w o)
 text-said = say-said
 
@@ -180,21 +181,21 @@ text-lists = hub-lists
 pub text-counts : (n : ℕ) (m : Memory) → Hub n m → (q : ℕ) → Counted (tableIn n m) q
 text-counts = hub-counts
 
--- every byte of a text, behind the connection's byte, is 32 to 126, a tab or a line feed, whatever the lent bytes hold: a terminal shows it or
--- lays it out. What is printed of a name or an id is 33 to 126 (`prints/Printed: printed-readable`)
+-- every byte of a text, behind the connection's byte, is 32 to 126, a tab or a line feed, whatever the lent bytes hold: a terminal shows
+-- it or lays it out. What is printed of a name or an id is 33 to 126 (`prints/Printed: printed-readable`)
 pub text-readable : (n c : ℕ) (line t w o : Bytes) → every isReadable (drop 1 (take (say n c line t w o .length′) (say n c line t w o .output))) ≡ true
 text-readable = say-readable
 
--- "No text depends on an opaque byte": after two histories whose events differ in opaque bytes alone, on memories whose tables are equal, every
--- line is answered by the same number and the same text
+-- "No text depends on an opaque byte": after two histories whose events differ in opaque bytes alone, on memories whose tables are equal,
+-- every line is answered by the same number and the same text
 pub text-blind : (n : ℕ) {xs ys : List Call} → AlikeEvents xs ys → LongOutputs n xs → LongOutputs n ys → (m k : Memory) → Hub n m → Hub n k → tableIn n m ≡ tableIn n k
     → (c : ℕ) (line o : Bytes) → let u = afterCalls n xs m in let v = afterCalls n ys k in SameText (say n c line (u .table) (u .workloads) o) (say n c line (v .table) (v .workloads) o)
 text-blind = texts-alike
 
 -- ---- restart
 
--- what is said of handles holds from one fresh table on: a second one begins with serial 1 again. But a fresh table, made of any long enough
--- buffers, into which the host writes bytes 0 to 3 of the old one, its last serial, is a host's memory
+-- what is said of handles holds from one fresh table on: a second one begins with serial 1 again. But a fresh table, made of any long
+-- enough buffers, into which the host writes bytes 0 to 3 of the old one, its last serial, is a host's memory
 pub restart-runs : (n : ℕ) (old : Memory) → Hub n old → (t w : Bytes) → Room n t w → Hub n (restarted n old t w)
 restart-runs n old hub t w r = restart-hub n old hub t w (r .longTable) (r .longWorkloads)
 

@@ -256,8 +256,8 @@ call-held-stands n m hub x l d b h e w z =
     let s = serverOf n m in
     held-stands n s (hub-runs n m hub) d b h w (sym (ap (λ (v : Event). answer v s .number) e) ∙ sym (call-number n m hub x l) ∙ z)
 
--- after calls from a memory in which nobody listens to the job and nobody has set the option, as in a fresh one: exactly those who were told,
--- and the exception to those who asked for it
+-- after calls from a memory in which nobody listens to the job and nobody has set the option, as in a fresh one: exactly those who were
+-- told, and the exception to those who asked for it
 pub results-told : (n : ℕ) (xs : List Call) (m : Memory) → Hub n m → LongOutputs n xs → (h : Bytes) → ((l : ℕ) → listens l h (tableIn n m) ≡ false) → ((l : ℕ) → optionIn (tableIn n m) l ≡ false)
     → let u = afterCalls n xs m in (x : Call) → Long n x → (d : ℕ) (b : Bytes) → x .event ≡ sends d b → readingTells h (read requests b) ≡ true → callOn n u x .number ≡ 0
     → EachOnce (λ l. heard l h false xs (resultsOf n xs m)) (resultFor (λ l. catches l false xs (resultsOf n xs m)) (typeOf b) (argumentsOf (sends d b)) h) (told (callOn n u x))

@@ -1,5 +1,5 @@
--- The texts of those places of a list that pass a test, as a loop over the places lays them piece by piece: nothing for a place that does not
--- pass. Assumes nothing.
+-- The texts of those places of a list that pass a test, as a loop over the places lays them piece by piece: nothing for a place that does
+-- not pass. Assumes nothing.
 use Prim.Native.Nat.{ℕ, zero, suc, _+_, _≤_}
 use mathlib.Core.Path.{_≡_, refl, ap, sym, _∙_}
 use mathlib.Core.Bool.{Bool, true, false, cond}

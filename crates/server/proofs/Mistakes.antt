@@ -129,7 +129,8 @@ abbrev catches : ℕ → Event
 unfolding request
 catches c = request c 26 (text "exceptions" ∷ [])
 
--- boards 0 to 4 listen to one job of worker 5, which ends it by an exception; boards 0 and 4 set the option before they submit, board 2 after it
+-- boards 0 to 4 listen to one job of worker 5, which ends it by an exception; boards 0 and 4 set the option before they submit, board 2
+-- after it
 abbrev boardsTold : List Event
 unfolding request
 boardsTold =
@@ -137,8 +138,8 @@ boardsTold =
     ∷ submits 0 "f" "u" [] ∷ submits 1 "f" "u" [] ∷ submits 2 "f" "u" [] ∷ submits 3 "f" "u" [] ∷ submits 4 "f" "u" []
     ∷ catches 2 ∷ grabs 5 ∷ request 5 25 (text "H:lap:1" ∷ text "no seats" ∷ []) ∷ []
 
--- 02, ask 3: each gets one packet, "in one rising order of connection": the exception if it set the option, and otherwise "WORK_FAIL with the
--- handle alone"
+-- 02, ask 3: each gets one packet, "in one rising order of connection": the exception if it set the option, and otherwise "WORK_FAIL with
+-- the handle alone"
 pub nobodyHangs : Edge
 unfolding request response
 nobodyHangs =

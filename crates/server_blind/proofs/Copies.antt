@@ -23,8 +23,8 @@ pub record Listens (c : ℕ) (t : Table) (h : Bytes) (l : ℕ) : Type 0 where
   pub held : find (λ j. holdsHandle c h (j .row)) (t .jobs) ≡ some place
   pub listens : has (jobAt t place .row .listeners) l ≡ true
 
--- connection l may see the opaque bytes of what connection c asks: its own echo, and what is told of a job to which it listens; 02: "a changed
--- exception may show only in the copies that carry it"
+-- connection l may see the opaque bytes of what connection c asks: its own echo, and what is told of a job to which it listens; 02: "a
+-- changed exception may show only in the copies that carry it"
 pub data Sees (c : ℕ) (t : Table) : Request → ℕ → Type 0 where
   sees-echo : Sees c t echo c
   sees-work : {how : Work} {kind : ℕ} {h n d : Bytes} {l : ℕ} → Listens c t h l → hears how t l ≡ true → Sees c t (work how kind h n d) l
