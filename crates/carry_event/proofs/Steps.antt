@@ -1,5 +1,5 @@
 -- What the steps of a plan lay, by the names of the call: the opaque argument, and the ERROR packet of a refusal. Assumes nothing.
-use Prim.Native.Nat.{ℕ, _+_, _-_, _≤_, _<_}
+use Prim.Native.Nat.{ℕ, _+_, _≤_}
 use mathlib.Core.Path.{_≡_, refl, ap, sym, _∙_}
 use mathlib.Core.Bool.{Bool, true, false, not}
 use mathlib.Core.List.{List, [], map}
@@ -33,7 +33,8 @@ use Rattle.carry_workloads.specs.Reworked.{reworkedRows}
 use Rattle.plan.specs.declared.Plan.{Plan}
 use Rattle.plan.specs.declared.Ending.{Ending}
 use Rattle.plan.specs.Steps.{stepped, ending, Lean}
-use Rattle.carry_packet.specs.Messages.{errorArguments, message, messages}
+use Rattle.carry_packet.specs.Messages.{errorArguments, message}
+use Rattle.carry_several.specs.Several.{messages}
 use Rattle.server_calls.proofs.Refusals.{short-at}
 use Rattle.carry_event.specs.Concluded.{concluded, opaqueIn, opaquePlace, packetsSent, refusalBytes, tableLeft, workloadsLeft}
 

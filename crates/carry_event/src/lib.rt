@@ -16,7 +16,7 @@ ghost use Rattle.server.specs.Layout.{tableOf, tableSize};
 ghost use Rattle.server.specs.Refusals.{lastNumber};
 ghost use Rattle.server.specs.Call.{isSound, left};
 ghost use Rattle.plan.specs.Parts.{changed};
-ghost use Rattle.carry_packet.specs.Messages.{messages};
+ghost use Rattle.carry_several.specs.Several.{messages};
 ghost use Rattle.plan.specs.Steps.{Inside, Lean, isLean};
 ghost use Rattle.carry_event.specs.Concluded.{Ready, concluded, opaqueIn, opaquePlace, refusalBytes};
 
@@ -55,7 +55,7 @@ fn wake(output: &mut [u8], at: usize, woken: u32) -> usize
     if woken == 0 {
         return at;
     }
-    carry_packet::wake_all(output, at, woken)
+    carry_several::wake_all(output, at, woken)
 }
 
 // Carries out a plan whose step is lean: sends its packets, and writes what the step and its ending change. Returns how many

@@ -1,4 +1,5 @@
--- The bytes of each order's packets are those that the functions of `carry_packet` lay, and the NOOPs follow them. Assumes nothing.
+-- The bytes of each order's packets are those that the functions of `carry_packet` and `carry_several` lay, and the NOOPs follow them.
+-- Assumes nothing.
 use Prim.Native.Nat.{ℕ, _+_, _≤_}
 use mathlib.Core.Path.{_≡_, refl, ap, sym, _∙_}
 use mathlib.Core.Bool.{Bool, false}
@@ -26,11 +27,13 @@ use Rattle.plan.specs.Settling.{droppedRows}
 use Rattle.plan.specs.Parts.{ordered}
 use Rattle.plan.specs.Busy.{busySet, toWakeSet}
 use Rattle.plan_settle.proofs.Sleepers.{to-wake-busy}
-use Rattle.carry_packet.specs.Messages.{message, messages, toldMessages, handleArguments, optionArguments, statusArguments}
-use Rattle.carry_packet.proofs.Rendered.{created-rendered, no-job-rendered, option-rendered, status-rendered, copies-rendered, all-told-rendered, echo-rendered, none-rendered, noops-rendered, appended-rendered}
+use Rattle.carry_packet.specs.Messages.{message, handleArguments, optionArguments, statusArguments}
+use Rattle.carry_packet.proofs.Rendered.{created-rendered, no-job-rendered, option-rendered, status-rendered, echo-rendered, none-rendered, appended-rendered}
+use Rattle.carry_several.specs.Several.{messages, toldMessages}
+use Rattle.carry_several.proofs.Rendered.{noops-rendered, copies-rendered, all-told-rendered}
 use Rattle.carry_output.specs.Ordered.{bytesSent, orderBytes, answerBytes}
 
--- ---- what a function of `carry_packet` lays, by another name
+-- ---- what a function of `carry_packet` or `carry_several` lays, by another name
 
 pub room-as : (m b : Bytes) (n : ℕ) → m ≡ b → length b ≤ n → 0 + length m ≤ n
 room-as m b n e l = omega (arith, ap length e)

@@ -107,9 +107,9 @@ pub fn send_order(
         Order::Created { serial } => carry_packet::send_created(output, 0, c, serial),
         Order::NoJob => carry_packet::send_empty(output, 0, c, 10),
         Order::Assign { uniq, place } => send_job(output, c, uniq, place, table, workloads),
-        Order::Copies { to } => carry_packet::forward_all(output, 0, to, kind, packet, ends),
+        Order::Copies { to } => carry_several::forward_all(output, 0, to, kind, packet, ends),
         Order::Told { to, heard, serial } => {
-            carry_packet::tell_all(output, 0, to, heard, kind, packet, ends, serial)
+            carry_several::tell_all(output, 0, to, heard, kind, packet, ends, serial)
         }
         Order::Echo => carry_packet::forward(output, 0, c, 17, packet, ends),
         Order::Status { place } => send_progress(output, c, place, table, job),
@@ -153,5 +153,5 @@ pub fn answer(
     let connections = v.connections;
     let able = v.able;
     let after = v.rows;
-    carry_packet::wake_all(output, at, waking(connections, able, after))
+    carry_several::wake_all(output, at, waking(connections, able, after))
 }

@@ -1,6 +1,6 @@
 -- The packets that the server makes itself: what the code lays is made of the defined arguments, and they are short.
 -- Assumes nothing.
-use Prim.Native.Nat.{ℕ, zero, suc, _+_, _-_, _/_, _%_, _<_, _≤_}
+use Prim.Native.Nat.{ℕ, zero, suc, _+_, _/_, _%_, _<_, _≤_}
 use mathlib.Core.Path.{_≡_, refl, ap, sym, _∙_}
 use mathlib.Core.Bool.{Bool, true, false, not, cond}
 use mathlib.Core.List.{List, [], _∷_, map}
@@ -88,14 +88,14 @@ module _ (to n : ℕ) (t : Bytes) (size : ℕ) (et : t ≡ padded 9 (errorText n
 
 -- ---- handles: the front of the printed text, as long as it says
 
+pub handle-short : (n : ℕ) → length (join (handleArguments n)) ≤ 16
+unfolding join handleArguments
+handle-short n = handle-most lap n
+
 module _ (w : Handle) (n : ℕ) (e : w ≡ printed (handle lap n)) where
   pub printed-data : take (w .length) (w .text) ≡ join (handleArguments n)
   unfolding join handleArguments
   printed-data = printed-front w n e
-
-  pub handle-short : length (join (handleArguments n)) ≤ 16
-  unfolding join handleArguments
-  handle-short = handle-most lap n
 
   pub created-message : (to : ℕ) → message to 8 (take (w .length) (w .text)) ≡ message to 8 (join (handleArguments n))
   created-message to = ap (message to 8) printed-data

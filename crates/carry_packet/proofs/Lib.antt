@@ -1,5 +1,4 @@
 pub mod Laid
 pub mod Answers
 pub mod Forwarding
-pub mod Several
 pub mod Rendered

@@ -1,7 +1,7 @@
 -- The bytes that the code lays are those of the packets that the server's definitions send: for each list of packets that an event
 -- sends, and for lists one after the other. Assumes nothing.
 use Prim.Native.Nat.{ℕ, _+_, _≤_}
-use mathlib.Core.Path.{_≡_, refl, ap, ap₂, _∙_, sym}
+use mathlib.Core.Path.{_≡_, refl, ap, _∙_, sym}
 use mathlib.Core.Bool.{Bool, true, false, cond}
 use mathlib.Core.List.{List, [], _∷_, _++_, map, append-nil, append-assoc}
 use native.Mathlib.Omega.{arith}
@@ -14,15 +14,13 @@ use Rattle.packet.specs.Arguments.{join}
 use Rattle.packet.specs.Packet.{requests}
 use Rattle.packet.specs.Opaque.{hides, opaque, past, seen, visible}
 use Rattle.packet_laws.proofs.Blindness.{visible-opaque}
-use Rattle.handle.specs.Handle.{handle, lap}
-use Rattle.sets.specs.Sets.{has}
 use Rattle.lists.specs.Lists.{fit}
 use Rattle.server.specs.Table.{functionAt, jobAt}
 use Rattle.server.specs.Requests.{Event, sends}
-use Rattle.server.specs.Events.{Send, plain, copy, assign, error, noop, created, failure, exceptionsName, flag}
+use Rattle.server.specs.Events.{Send, plain, copy, assign, error, created, exceptionsName, flag}
 use Rattle.server.specs.Server.{Server, addressed, opaqueOf, render, shownBy}
 use Rattle.server.specs.Call.{sentBytes}
-use Rattle.carry_packet.specs.Messages.{message, messages, toldMessage, toldMessages, errorArguments, handleArguments, optionArguments, statusArguments, assignArguments}
+use Rattle.carry_packet.specs.Messages.{message, errorArguments, handleArguments, optionArguments, statusArguments, assignArguments}
 
 -- ---- the data of this event's packet
 
@@ -93,37 +91,10 @@ module _ (e : Event) (s : Server) where
     unfolding sentBytes render assignArguments message
     assign-rendered uniq to = rw (es, ef, eu, ew) (ap (message to (cond uniq 31 11)) (assign-data uniq _ _ _ _) ∙ sym (append-nil _))
 
-  -- ---- the same packet to several connections
-
-  pub noops-rendered : (ls : List ℕ) → messages ls 6 [] ≡ bytesFor (map noop ls)
-  unfolding messages sentBytes render join message
-  noops-rendered [] = refl
-  noops-rendered (l ∷ ls) = ap (λ (r : Bytes). message l 6 [] ++ r) (noops-rendered ls)
-
 module _ (c : ℕ) (p : Bytes) (s : Server) (long : 12 ≤ length p) where
-  copy-rendered : (to kind : ℕ) → message to kind (drop 12 p) ≡ addressed (render (sends c p) s (copy to kind))
+  pub copy-rendered : (to kind : ℕ) → message to kind (drop 12 p) ≡ addressed (render (sends c p) s (copy to kind))
   unfolding render shownBy opaqueOf message
   copy-rendered to kind = ap (message to kind) (sym (data-whole p long))
-
-  pub copies-rendered : (kind : ℕ) (ls : List ℕ) → messages ls kind (drop 12 p) ≡ bytesFor (sends c p) s (map (λ l. copy l kind) ls)
-  unfolding messages sentBytes
-  copies-rendered kind [] = refl
-  copies-rendered kind (l ∷ ls) = ap (λ (r : Bytes). r ++ messages ls kind (drop 12 p)) (copy-rendered l kind) ∙ ap (λ (r : Bytes). addressed (render (sends c p) s (copy l kind)) ++ r) (copies-rendered kind ls)
-
-  -- 02: to each the copy, or WORK_FAIL with the handle
-  told-rendered : (to heard kind serial : ℕ) → toldMessage heard kind (drop 12 p) (join (handleArguments serial)) to ≡ addressed (render (sends c p) s (cond (has heard to) (copy to kind) (failure serial to)))
-  unfolding toldMessage render message handleArguments
-  told-rendered to heard kind serial = by (has heard to)
-    where
-      by : (b : Bool) → cond b (message to kind (drop 12 p)) (message to 14 (join (handle lap serial ∷ []))) ≡ addressed (render (sends c p) s (cond b (copy to kind) (failure serial to)))
-      by true = copy-rendered to kind
-      by false = ap (message to 14) (sym (append-nil _))
-
-  pub all-told-rendered : (heard kind serial : ℕ) (ls : List ℕ)
-      → toldMessages ls heard kind (drop 12 p) (join (handleArguments serial)) ≡ bytesFor (sends c p) s (map (λ l. cond (has heard l) (copy l kind) (failure serial l)) ls)
-  unfolding toldMessages sentBytes
-  all-told-rendered heard kind serial [] = refl
-  all-told-rendered heard kind serial (l ∷ ls) = ap₂ (λ (x y : Bytes). x ++ y) (told-rendered l heard kind serial) (all-told-rendered heard kind serial ls)
 
   -- 01: an echo goes back to its sender
   pub echo-rendered : message c 17 (drop 12 p) ≡ bytesFor (sends c p) s (copy c 17 ∷ [])

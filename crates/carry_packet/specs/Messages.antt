@@ -1,18 +1,15 @@
--- Addressed packets as bytes: to one connection, to each of several, and the arguments of those that the server makes itself.
--- Assumes nothing.
-use Prim.Native.Nat.{ℕ, _+_, _-_, _/_, _%_, _≤_}
+-- Addressed packets as bytes, and the arguments of those that the server makes itself. Assumes nothing.
+use Prim.Native.Nat.{ℕ, _+_, _/_, _%_, _≤_}
 use mathlib.Core.Path.{_≡_}
 use mathlib.Core.Bool.{Bool, true, cond}
-use mathlib.Core.List.{List, [], _∷_, _++_, map}
-use lib.ListN.{length, getD}
+use mathlib.Core.List.{List, [], _∷_, _++_}
+use lib.ListN.{length}
 use Rattle.octets.specs.Bytes.{Bytes, bigEndian}
 use Rattle.packet.specs.declared.Ends.{Ends}
 use Rattle.packet.specs.Layout.{isOwn, requestShape, responseShape, rulesOf}
 use Rattle.packet.specs.Arguments.{endsOf, fitAll, join}
 use Rattle.packet.specs.Packet.{got, packet, read, requests, responses}
 use Rattle.handle.specs.Handle.{handle, lap}
-use Rattle.sets.specs.Sets.{has}
-use Rattle.lists.specs.Lists.{concat}
 use Rattle.server.specs.Events.{exceptionsName, flag}
 use Rattle.server.specs.Refusals.{errorText}
 
@@ -27,22 +24,6 @@ heading to kind size = to ∷ (responses .magic ++ (bigEndian kind ++ bigEndian 
 -- an argument and the zero byte after it
 abbrev pub ended : Bytes → Bytes
 ended a = a ++ (0 ∷ [])
-
--- the same packet to each of several connections, in their order
-unfoldable pub messages : List ℕ → ℕ → Bytes → Bytes
-messages ls kind d = concat (map (λ l. message l kind d) ls)
-
--- to one connection: this packet, if it belongs to those who hear it, and otherwise WORK_FAIL with other data
-unfoldable pub toldMessage : ℕ → ℕ → Bytes → Bytes → ℕ → Bytes
-toldMessage heard kind d failed l = cond (has heard l) (message l kind d) (message l 14 failed)
-
--- to each of several connections, in their order
-unfoldable pub toldMessages : List ℕ → ℕ → ℕ → Bytes → Bytes → Bytes
-toldMessages ls heard kind d failed = concat (map (toldMessage heard kind d failed) ls)
-
--- to connection c if it belongs to the set
-unfoldable pub messageIf : ℕ → ℕ → ℕ → Bytes → Bytes → ℕ → Bytes
-messageIf s heard kind d failed c = cond (has s c) (toldMessage heard kind d failed c) []
 
 -- the arguments are those that a response of this type asks for, and not too much data
 pub record Sendable (kind : ℕ) (as′ : List Bytes) : Type 0 where

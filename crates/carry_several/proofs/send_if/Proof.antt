@@ -1,11 +1,11 @@
--- `carry_packet::send_if` meets its contract: a connection that is no member gets nothing; a member that hears gets the packet, and another
--- WORK_FAIL. Assumes nothing.
+-- `carry_several::send_if` meets its contract: a connection that is no member gets nothing; a member that hears gets the packet, and
+-- another WORK_FAIL. Assumes nothing.
 use Rattle.octets.proofs.Runs.{laid-as, room-as}
-use Rattle.carry_packet.proofs.Several.{stranger-place, stranger-laid, heard-is, failed-is}
+use Rattle.carry_several.proofs.Several.{stranger-place, stranger-laid, heard-is, failed-is}
 use mathlib.Core.Path.{sym}
 use borrow.Author.Needs.{needs}
-use Rattle.carry_packet.proofs.send_if.Statement.{statement}
-use Rattle.carry_packet.proofs.send_if.Tie as tie
+use Rattle.carry_several.proofs.send_if.Statement.{statement}
+use Rattle.carry_several.proofs.send_if.Tie as tie
 
 has-requires : tie.Need-has-requires
 has-requires c κs = search needs

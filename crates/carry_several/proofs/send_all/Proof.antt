@@ -1,17 +1,17 @@
--- `carry_packet::send_all` meets its contract. The invariant: the packets to the members below the next listener lie over the output, whose
--- length stays. It ends where the set has nobody from the next listener on. Assumes nothing.
+-- `carry_several::send_all` meets its contract. The invariant: the packets to the members below the next listener lie over the output,
+-- whose length stays. It ends where the set has nobody from the next listener on. Assumes nothing.
 use Prim.Native.Nat.{_+_, _-_, _≤_}
 use mathlib.Core.Path.{_≡_}
 use native.Mathlib.Omega.{arith}
 use lib.ListN.{length}
 use Rattle.octets.specs.Put.{put}
 use Rattle.sets.specs.Sets.{members}
-use Rattle.carry_packet.specs.Messages.{toldMessages}
-use Rattle.carry_packet.proofs.Several.{start-place, start-laid, turn-below, turn-room, turn-place, turn-laid, end-place, end-laid}
+use Rattle.carry_several.specs.Several.{toldMessages}
+use Rattle.carry_several.proofs.Several.{start-place, start-laid, turn-below, turn-room, turn-place, turn-laid, end-place, end-laid}
 use borrow.Author.Needs.{needs}
 use Rattle.server.specs.Sizes.{connectionCount}
-use Rattle.carry_packet.proofs.send_all.Statement.{statement}
-use Rattle.carry_packet.proofs.send_all.Tie as tie
+use Rattle.carry_several.proofs.send_all.Statement.{statement}
+use Rattle.carry_several.proofs.send_all.Tie as tie
 
 abbrev Inv-loop : tie.InvT-loop
 Inv-loop out₀ at to heard kind d failed place₀ listener₀ out place listener = (listener ≤ connectionCount) × (length out ≡ length out₀) × (place ≡ at + length (toldMessages (members listener to) heard kind d failed)) × (out ≡ put at (toldMessages (members listener to) heard kind d failed) out₀)

@@ -1,8 +1,8 @@
--- `carry_packet::has_more` meets its contract: the set shifted down is what it has from there on. Assumes nothing.
+-- `carry_several::has_more` meets its contract: the set shifted down is what it has from there on. Assumes nothing.
 use borrow.Author.Tests.{le-ltb, lt-ltb}
 use borrow.Author.Needs.{needs}
-use Rattle.carry_packet.proofs.has_more.Statement.{statement}
-use Rattle.carry_packet.proofs.has_more.Tie as tie
+use Rattle.carry_several.proofs.has_more.Statement.{statement}
+use Rattle.carry_several.proofs.has_more.Tie as tie
 
 returns : tie.Need-returns
 returns c = rw (le-ltb _ _ (c .if1 .taken))

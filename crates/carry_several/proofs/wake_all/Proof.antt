@@ -1,11 +1,11 @@
--- `carry_packet::wake_all` meets its contract: all of the set get the same packet, which has no data. Assumes nothing.
+-- `carry_several::wake_all` meets its contract: all of the set get the same packet, which has no data. Assumes nothing.
 use native.Mathlib.Omega.{arith}
 use Rattle.octets.proofs.Runs.{laid-as, room-as}
-use Rattle.carry_packet.proofs.Several.{all-hear}
+use Rattle.carry_several.proofs.Several.{all-hear}
 use Rattle.server.specs.Sizes.{connectionCount}
 use borrow.Author.Needs.{needs}
-use Rattle.carry_packet.proofs.wake_all.Statement.{statement}
-use Rattle.carry_packet.proofs.wake_all.Tie as tie
+use Rattle.carry_several.proofs.wake_all.Statement.{statement}
+use Rattle.carry_several.proofs.wake_all.Tie as tie
 
 slice-aggregate-send-all : tie.Need-slice-aggregate-send-all
 slice-aggregate-send-all c = search needs

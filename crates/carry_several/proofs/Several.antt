@@ -18,7 +18,8 @@ use Rattle.sets.specs.Sets.{has, members}
 use Rattle.sets.proofs.Members.{map-members}
 use Rattle.lists.specs.Lists.{concat}
 use Rattle.server.specs.Sizes.{connectionCount}
-use Rattle.carry_packet.specs.Messages.{message, messages, messageIf, toldMessage, toldMessages}
+use Rattle.carry_packet.specs.Messages.{message}
+use Rattle.carry_several.specs.Several.{messages, messageIf, toldMessage, toldMessages}
 
 -- the loop's test finds more only below the number of connections
 pub turn-below : (s c : ℕ) (b : Bool) → b ≡ ltb c connectionCount && ltb 0 (s / 2 ^ c) → b ≡ true → c < connectionCount

@@ -1,16 +1,16 @@
--- `carry_packet::tell_all` meets its contract: what lies behind the packet's header goes out as it came, or the front of the printed text, as
--- long as it says, which is the handle. Assumes nothing.
+-- `carry_several::tell_all` meets its contract: what lies behind the packet's header goes out as it came, or the front of the printed
+-- text, as long as it says, which is the handle. Assumes nothing.
 use mathlib.Core.Path.{sym}
 use native.Mathlib.Omega.{arith}
 use denote.Ref.{now}
 use lib.Seq.{length-take-le}
 use Rattle.octets.proofs.Strings.{rest-part}
 use Rattle.handle.proofs.Printing.{printed-fits}
 use Rattle.carry_packet.proofs.Answers.{handle-short, printed-data}
 use Rattle.carry_packet.proofs.Forwarding.{forward-long, forward-short}
 use borrow.Author.Needs.{needs}
-use Rattle.carry_packet.proofs.tell_all.Statement.{statement}
-use Rattle.carry_packet.proofs.tell_all.Tie as tie
+use Rattle.carry_several.proofs.tell_all.Statement.{statement}
+use Rattle.carry_several.proofs.tell_all.Tie as tie
 
 handle-of-requires : tie.Need-handle-of-requires
 handle-of-requires c κs = search needs
@@ -34,7 +34,7 @@ send-all-requires : tie.Need-send-all-requires
 send-all-requires c κs =
     let s = c .before .before .before .before .before .before .before in
     let e = c .before .before .before .before .handle-of .ensures in
-    rw (rest-part (now (s .args .packet)) 12, printed-data _ _ e) (omega (arith, forward-short _ _ _ (s .pre .0)), omega (arith, handle-short _ _ e), s .pre .1)
+    rw (rest-part (now (s .args .packet)) 12, printed-data _ _ e) (omega (arith, forward-short _ _ _ (s .pre .0)), omega (arith, handle-short (s .args .serial)), s .pre .1)
 
 same-length : tie.Need-same-length
 same-length c = search needs

@@ -1,15 +1,15 @@
--- `carry_packet::forward_all` meets its contract: what lies behind the packet's header goes out as it came, to all of the set. Assumes
+-- `carry_several::forward_all` meets its contract: what lies behind the packet's header goes out as it came, to all of the set. Assumes
 -- nothing.
 use native.Mathlib.Omega.{arith}
 use denote.Ref.{now}
 use Rattle.octets.proofs.Strings.{rest-part}
 use Rattle.octets.proofs.Runs.{laid-as, room-as}
 use Rattle.carry_packet.proofs.Forwarding.{forward-long, forward-short}
-use Rattle.carry_packet.proofs.Several.{all-hear}
+use Rattle.carry_several.proofs.Several.{all-hear}
 use Rattle.server.specs.Sizes.{connectionCount}
 use borrow.Author.Needs.{needs}
-use Rattle.carry_packet.proofs.forward_all.Statement.{statement}
-use Rattle.carry_packet.proofs.forward_all.Tie as tie
+use Rattle.carry_several.proofs.forward_all.Statement.{statement}
+use Rattle.carry_several.proofs.forward_all.Tie as tie
 
 sub-send-all : tie.Need-sub-send-all
 sub-send-all c = forward-long _ _ _ (c .before .before .before .pre .0)
