@@ -14,7 +14,7 @@ use Rattle.sets.proofs.Laws.{has-union, has-above}
 use Rattle.server.specs.declared.Connection.{Connection}
 use Rattle.lists.specs.Lists.{any, all, numbers, implies}
 use Rattle.server.specs.Sizes.{connectionCount, functionCount, jobCount}
-use Rattle.server.specs.Table.{live, grabbable}
+use Rattle.server.specs.Table.{live}
 use Rattle.server.specs.Layout.{littleAt, connectionIn, functionIn, rowIn, tableOf, listenersAt, openedAt, tableSize, ableAt}
 use Rattle.server.specs.Rules.{isOpen, onlyOpen, abilitiesOpen, listenersOpen, holderOpen, holdersOpen, closedClear, sleeperIdle, sleepersIdle}
 use Rattle.table_laws.specs.Tests.{areFlags}
@@ -23,8 +23,8 @@ use Rattle.table_passes.proofs.Rows.{jobs-all, functions-all, connections-all, 
 use Rattle.table_passes.proofs.Unions.{low-set}
 use Rattle.check_image.proofs.Places.{flag-at}
 use Rattle.check_rows.specs.Rows.{rowsMean}
-use Rattle.check_numbers.specs.declared.Survey as S
-use Rattle.check_numbers.specs.Surveyed.{isHeld, heldBy, Surveyed}
+use Rattle.check_survey.specs.declared.Survey as S
+use Rattle.check_survey.specs.Surveyed.{isHeld, heldBy, Surveyed}
 use Rattle.table_passes.specs.Unions.{Joined}
 use Rattle.check_numbers.specs.Numbers.{ableIf, connectionHolds, connectionRules}
 use Rattle.check_numbers.proofs.Functions.{holder-small, held-live, busy-is}

@@ -22,8 +22,8 @@ use Rattle.table_passes.proofs.Rows.{rows-any, able-at, defined-all}
 use Rattle.table_passes.proofs.Unions.{has-if}
 use Rattle.check_image.proofs.Places.{empty-text}
 use Rattle.check_rows.specs.Rows.{numbersMean, isAwaited, rowsMean}
-use Rattle.check_numbers.specs.declared.Survey as S
-use Rattle.check_numbers.specs.Surveyed.{queuedFor, grabbedFor, Surveyed}
+use Rattle.check_survey.specs.declared.Survey as S
+use Rattle.check_survey.specs.Surveyed.{queuedFor, grabbedFor, Surveyed}
 use Rattle.table_passes.specs.Unions.{Joined}
 use Rattle.check_numbers.specs.Numbers.{ableIf, agrees, isDefined}
 

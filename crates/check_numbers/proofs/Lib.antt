@@ -1,4 +1,3 @@
-pub mod Walk
 pub mod Serials
 pub mod Functions
 pub mod Connections

@@ -15,8 +15,8 @@ use Rattle.table_passes.proofs.Tests.{iff}
 use Rattle.table_passes.proofs.Rows.{jobs-all, jobs-pairs}
 use Rattle.table_passes.proofs.Pairs.{pairs-at, pairs-by, apart-all, apart-by}
 use Rattle.table_passes.specs.Arrays.{Twice}
-use Rattle.check_numbers.specs.declared.Survey as S
-use Rattle.check_numbers.specs.Surveyed.{Surveyed}
+use Rattle.check_survey.specs.declared.Survey as S
+use Rattle.check_survey.specs.Surveyed.{Surveyed}
 use Rattle.check_numbers.specs.Numbers.{serialIn, serialBelow, apartAt}
 
 module _ (b : Bytes) where

@@ -10,7 +10,7 @@ use Rattle.lists.specs.Lists.{all, numbers}
 use Rattle.server.specs.Sizes.{connectionCount, jobCount, nameSize}
 use Rattle.server.specs.Layout.{functionIn, rowIn, tableOf, namesAt, openedAt, asleepAt, exceptionsAt}
 use Rattle.server.specs.Rules.{serialsBelow, serialsDistinct, functionsAsDefined, abilitiesOpen, listenersOpen, holdersOpen, closedClear, sleepersIdle}
-use Rattle.check_numbers.specs.Surveyed.{freeOrJob}
+use Rattle.check_survey.specs.Surveyed.{freeOrJob}
 
 -- ---- the rules
 

@@ -1,26 +1,22 @@
 // What refusal 1 asks of numbers that belong together: serials below the last one and distinct, functions known exactly if they are wanted,
-// abilities, listeners, holders, options and sleep only on open connections, and no sleeper with a grabbable job. One walk over the rows that
-// passes over free ones gathers the sets that these rules speak of; a rule of all jobs is then one of a set.
+// abilities, listeners, holders, options and sleep only on open connections, and no sleeper with a grabbable job. The sets that they speak
+// of come from `check_survey`. An inner crate: its callers lend all of the table, and have tried flags and each row by itself.
+use check_survey::Survey;
 use server::ABLE_AT;
 use server::ASLEEP_AT;
 use server::CONNECTIONS;
 use server::EXCEPTIONS_AT;
 use server::FUNCTIONS;
-use server::FUNCTIONS_AT;
 use server::JOBS;
 use server::LISTENERS_AT;
 use server::NAME_SIZE;
 use server::NAMES_AT;
 use server::OPENED_AT;
-use server::SERIALS_AT;
-use server::UNIQUE_SIZE;
-use server::UNIQUES_AT;
 ghost use mathlib.Core.Path.{_≡_};
 ghost use mathlib.Core.Bool.{cond, true, _&&_};
-ghost use Prim.Native.Nat.{_+_, _<_, _≤_, _*_, _^_};
+ghost use Prim.Native.Nat.{_+_, _≤_, _*_, _^_};
 ghost use lib.ListN.{length};
 ghost use lib.Dec.{ltb};
-ghost use Rattle.sets.specs.Sets.{has};
 ghost use Rattle.lists.specs.Lists.{all, numbers};
 ghost use Rattle.server.specs.Sizes.{connectionCount, functionCount, jobCount};
 ghost use Rattle.server.specs.Rules.{functionsAsDefined, serialsBelow, serialsDistinct};
@@ -29,133 +25,8 @@ ghost use Rattle.table_laws.specs.Tests.{areFlags};
 ghost use Rattle.table_passes.specs.Arrays.{Twice};
 ghost use Rattle.table_passes.specs.Unions.{Joined};
 ghost use Rattle.check_rows.specs.Rows.{rowsMean};
-ghost use Rattle.check_numbers.specs.Surveyed.{Surveyed, withFree, withJob};
+ghost use Rattle.check_survey.specs.Surveyed.{Surveyed};
 ghost use Rattle.check_numbers.specs.Numbers.{ableIf, agrees, apartAt, connectionHolds, connectionRules, isDefined, numberRules, serialBelow, serialIn};
-
-// ---- one walk over the rows
-
-// What the rows passed say: the serials' residues modulo 32, as a set and as the sum of their bits; the functions of queued jobs and of held
-// ones; the connections that hold one; and whether no free row has a unique.
-struct Survey {
-    residues: u32,
-    sum: u64,
-    queued: u32,
-    grabbed: u32,
-    holding: u32,
-    clear: bool,
-}
-
-// The survey with a job.
-fn with_job(v: Survey, serial: u32, function: u8, holder: u16) -> Survey
-    requires { ⌜ v .sum < 137438953472 ⌝ }
-    ensures { λ r. ⌜ r ≡ withJob v serial function holder ⌝ }
-{
-    let residue = sets::insert(0, (serial % 32) as usize);
-    let named = sets::insert(0, (function % 32) as usize);
-    let residues = sets::union(v.residues, residue);
-    let sum = v.sum + residue as u64;
-    if holder == 0 {
-        let queued = sets::union(v.queued, named);
-        return Survey {
-            residues: residues,
-            sum: sum,
-            queued: queued,
-            grabbed: v.grabbed,
-            holding: v.holding,
-            clear: v.clear,
-        };
-    }
-    let grabbed = sets::union(v.grabbed, named);
-    let holding = sets::union(v.holding, sets::insert(0, ((holder - 1) % 32) as usize));
-    Survey {
-        residues: residues,
-        sum: sum,
-        queued: v.queued,
-        grabbed: grabbed,
-        holding: holding,
-        clear: v.clear,
-    }
-}
-
-// The survey with free rows, which have no unique or have one.
-fn with_free(v: Survey, clear: bool) -> Survey
-    ensures { λ r. ⌜ r ≡ withFree v clear ⌝ }
-{
-    Survey {
-        residues: v.residues,
-        sum: v.sum,
-        queued: v.queued,
-        grabbed: v.grabbed,
-        holding: v.holding,
-        clear: v.clear & clear,
-    }
-}
-
-// The survey with the row at place `i`.
-fn next_row(v: Survey, table: &[u8], i: usize) -> Survey
-    requires { ⌜ (tableSize connectionCount ≤ length (now table)) × (i < jobCount) × Surveyed (now table) i v ⌝ }
-    ensures { λ r. ⌜ Surveyed (now (table .entry)) (i + 1) r ⌝ }
-{
-    let serial = table_fields::serial(table, i);
-    if serial == 0 {
-        return with_free(v, table[UNIQUES_AT + UNIQUE_SIZE * i] == 0);
-    }
-    with_job(
-        v,
-        serial,
-        table[FUNCTIONS_AT + i],
-        table_fields::holder(table, i),
-    )
-}
-
-// The survey with the eight rows from place `p` on.
-fn next_rows(start: Survey, table: &[u8], p: usize) -> Survey
-    requires { ⌜ (tableSize connectionCount ≤ length (now table)) × (p + 8 ≤ jobCount) × Surveyed (now table) p start ⌝ }
-    ensures { λ r. ⌜ Surveyed (now (table .entry)) (p + 8) r ⌝ }
-{
-    let mut v = start;
-    let mut i = p;
-    while i < p + 8 {
-        v = next_row(v, table, i);
-        i += 1;
-    }
-    v
-}
-
-// The same; eight free rows are passed at once.
-fn next_group(v: Survey, table: &[u8], p: usize) -> Survey
-    requires { ⌜ (tableSize connectionCount ≤ length (now table)) × (p + 8 ≤ jobCount) × Surveyed (now table) p v ⌝ }
-    ensures { λ r. ⌜ Surveyed (now (table .entry)) (p + 8) r ⌝ }
-{
-    if check_image::zeros(table, SERIALS_AT + 4 * p, 32) {
-        return with_free(
-            v,
-            check_image::all_empty(table, UNIQUES_AT + UNIQUE_SIZE * p, UNIQUE_SIZE, 8),
-        );
-    }
-    next_rows(v, table, p)
-}
-
-// The survey of all rows.
-fn all_surveyed(table: &[u8]) -> Survey
-    requires { ⌜ tableSize connectionCount ≤ length (now table) ⌝ }
-    ensures { λ r. ⌜ Surveyed (now (table .entry)) jobCount r ⌝ }
-{
-    let mut v = Survey {
-        residues: 0,
-        sum: 0,
-        queued: 0,
-        grabbed: 0,
-        holding: 0,
-        clear: true,
-    };
-    let mut p = 0;
-    while p < JOBS {
-        v = next_group(v, table, p);
-        p += 8;
-    }
-    v
-}
 
 // ---- serials
 
@@ -329,7 +200,7 @@ pub fn numbers_hold(table: &[u8]) -> bool
     requires { ⌜ (tableSize connectionCount ≤ length (now table)) × (areFlags (3 * connectionCount) (now table) (openedAt connectionCount) ≡ true) × (rowsMean (now table) ≡ true) ⌝ }
     ensures { λ r. ⌜ r ≡ numberRules (now (table .entry)) ⌝ }
 {
-    let v = all_surveyed(table);
+    let v = check_survey::all_surveyed(table);
     if v.clear {
         if serials_hold(table, v) {
             return sets_hold(table, v);

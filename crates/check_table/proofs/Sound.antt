@@ -2,14 +2,14 @@
 -- the next serial, and of names, uniques and ids within their places; the rules of whole jobs are those of numbers, uniques and stored numbers.
 -- Assumes nothing.
 use Prim.Native.Nat.{ℕ, suc, _+_, _*_, _<_, _≤_}
-use mathlib.Core.Path.{_≡_, refl, sym, ap, ap₂, _∙_}
+use mathlib.Core.Path.{_≡_, refl, sym, ap, _∙_}
 use mathlib.Core.Bool.{Bool, true, false, not, cond, _&&_, _||_}
 use mathlib.Core.List.{[], _∷_}
 use native.Mathlib.Omega.{arith}
 use borrow.Author.Tests.{lt-ltb, le-leb, eq-eqb}
 use lib.ListN.{length, getD, take, drop}
 use lib.Seq.{length-take-le}
-use lib.Dec.{eqb, leb, ltb}
+use lib.Dec.{eqb, leb}
 use Rattle.octets.specs.Bytes.{Bytes, same, firstZero, zeroFree}
 use Rattle.octets.proofs.Strings.{and-left, and-right, and-both, zero-le-length}
 use Rattle.sets.specs.Sets.{isEmpty}
@@ -25,7 +25,7 @@ use Rattle.table_passes.proofs.Tests.{iff, and-same, all-and, below-by, same-be
 use Rattle.table_passes.proofs.Rows.{jobs-all, functions-all, ids-all, functions-length, connections-length}
 use Rattle.check_image.proofs.Places.{empty-text}
 use Rattle.check_rows.specs.Rows.{numbersMean, isAwaited, rowsMean}
-use Rattle.check_numbers.specs.Surveyed.{freeOrJob}
+use Rattle.check_survey.specs.Surveyed.{freeOrJob}
 use Rattle.check_numbers.specs.Numbers.{connectionRules, numberRules}
 use Rattle.check_exact.proofs.Texts.{text-within}
 use Rattle.check_texts.specs.Stored.{storedAt, storedRules}

@@ -1,10 +1,10 @@
--- `check_numbers::next_group` meets its contract. Where all serials are zero the rows are free. Assumes nothing.
+-- `check_survey::next_group` meets its contract: where all serials are zero the rows are free. Assumes nothing.
 use mathlib.Core.Path.{sym, _∙_}
 use denote.Ref.{now}
-use Rattle.check_numbers.proofs.Walk.{rows-free}
+use Rattle.check_survey.proofs.Walk.{rows-free}
 use borrow.Author.Needs.{needs}
-use Rattle.check_numbers.proofs.next_group.Statement.{statement}
-use Rattle.check_numbers.proofs.next_group.Tie as tie
+use Rattle.check_survey.proofs.next_group.Statement.{statement}
+use Rattle.check_survey.proofs.next_group.Tie as tie
 
 mul-zeros : tie.Need-mul-zeros
 mul-zeros c = search needs

@@ -1,9 +1,9 @@
--- `check_numbers::with_job` meets its contract. Field by field, by whether the job is held. Assumes nothing.
+-- `check_survey::with_job` meets its contract: field by field, by whether the job is held. Assumes nothing.
 use borrow.Author.Tests.{eq-eqb, ne-eqb}
-use Rattle.check_numbers.specs.Surveyed.{withJob}
+use Rattle.check_survey.specs.Surveyed.{withJob}
 use borrow.Author.Needs.{needs}
-use Rattle.check_numbers.proofs.with_job.Statement.{statement}
-use Rattle.check_numbers.proofs.with_job.Tie as tie
+use Rattle.check_survey.proofs.with_job.Statement.{statement}
+use Rattle.check_survey.proofs.with_job.Tie as tie
 
 cast-insert : tie.Need-cast-insert
 cast-insert c = search needs

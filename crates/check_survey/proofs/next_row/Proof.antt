@@ -1,8 +1,8 @@
--- `check_numbers::next_row` meets its contract. A free row adds nothing but its unique; a job adds what it is. Assumes nothing.
-use Rattle.check_numbers.proofs.Walk.{row-free, row-job}
+-- `check_survey::next_row` meets its contract: a free row adds nothing but its unique; a job adds what it is. Assumes nothing.
+use Rattle.check_survey.proofs.Walk.{row-free, row-job}
 use borrow.Author.Needs.{needs}
-use Rattle.check_numbers.proofs.next_row.Statement.{statement}
-use Rattle.check_numbers.proofs.next_row.Tie as tie
+use Rattle.check_survey.proofs.next_row.Statement.{statement}
+use Rattle.check_survey.proofs.next_row.Tie as tie
 
 serial-requires : tie.Need-serial-requires
 serial-requires c κs = search needs

@@ -1,11 +1,11 @@
--- `check_numbers::next_rows` meets its contract. The invariant: the survey says what the rows before this one say. Assumes nothing.
+-- `check_survey::next_rows` meets its contract: row after row. The invariant: the survey says what the rows before this one say. Assumes nothing.
 use Prim.Native.Nat.{_≤_, _+_, _-_}
 use mathlib.Core.Path.{_≡_}
 use native.Mathlib.Omega.{arith}
-use Rattle.check_numbers.specs.Surveyed.{Surveyed}
+use Rattle.check_survey.specs.Surveyed.{Surveyed}
 use borrow.Author.Needs.{needs}
-use Rattle.check_numbers.proofs.next_rows.Statement.{statement}
-use Rattle.check_numbers.proofs.next_rows.Tie as tie
+use Rattle.check_survey.proofs.next_rows.Statement.{statement}
+use Rattle.check_survey.proofs.next_rows.Tie as tie
 
 abbrev Inv-loop : tie.InvT-loop
 Inv-loop table p v₀ i₀ v i = (p ≤ i) × (i ≤ p + 8) × Surveyed table i v

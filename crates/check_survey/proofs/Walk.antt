@@ -19,8 +19,8 @@ use Rattle.table_passes.proofs.Tests.{and-true, and-same, any-next, all-next, s
 use Rattle.table_passes.proofs.Rows.{free-rows}
 use Rattle.table_passes.proofs.Unions.{has-more, sum-fresh, union-least}
 use Rattle.check_image.specs.Padded.{zeroAt, emptyAt}
-use Rattle.check_numbers.specs.declared.Survey as S
-use Rattle.check_numbers.specs.Surveyed.{withJob, withFree, hasResidue, queuedFor, grabbedFor, heldBy, freeOrJob, Surveyed}
+use Rattle.check_survey.specs.declared.Survey as S
+use Rattle.check_survey.specs.Surveyed.{withJob, withFree, hasResidue, queuedFor, grabbedFor, heldBy, freeOrJob, Surveyed}
 
 -- ---- before the first row
 

@@ -10,7 +10,7 @@ use Rattle.lists.specs.Lists.{any, all, numbers}
 use Rattle.server.specs.Sizes.{uniqueSize, connectionCount}
 use Rattle.server.specs.Table.{live, queued}
 use Rattle.server.specs.Layout.{rowIn, uniquesAt}
-use Rattle.check_numbers.specs.declared.Survey as S
+use Rattle.check_survey.specs.declared.Survey as S
 
 -- ---- the survey with one row more
 

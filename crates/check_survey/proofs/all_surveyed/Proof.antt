@@ -1,13 +1,13 @@
--- `check_numbers::all_surveyed` meets its contract. The invariant: the survey says what the rows before this group say. Assumes nothing.
+-- `check_survey::all_surveyed` meets its contract: group after group. The invariant: the survey says what the rows before this group say. Assumes nothing.
 use Prim.Native.Nat.{_≤_, _-_, _%_}
 use mathlib.Core.Path.{_≡_, refl}
 use native.Mathlib.Omega.{arith}
-use Rattle.check_numbers.specs.Surveyed.{Surveyed}
-use Rattle.check_numbers.proofs.Walk.{none-surveyed}
+use Rattle.check_survey.specs.Surveyed.{Surveyed}
+use Rattle.check_survey.proofs.Walk.{none-surveyed}
 use borrow.Author.Needs.{needs}
 use Rattle.server.specs.Sizes.{jobCount}
-use Rattle.check_numbers.proofs.all_surveyed.Statement.{statement}
-use Rattle.check_numbers.proofs.all_surveyed.Tie as tie
+use Rattle.check_survey.proofs.all_surveyed.Statement.{statement}
+use Rattle.check_survey.proofs.all_surveyed.Tie as tie
 
 abbrev Inv-loop : tie.InvT-loop
 Inv-loop table v₀ p₀ v p = (p ≤ jobCount) × (p % 8 ≡ 0) × Surveyed table p v
