@@ -39,7 +39,7 @@ use Rattle.plan.specs.Steps.{stepped}
 use Rattle.plan.specs.Parts.{ordered}
 use Rattle.plan.specs.Plans.{planServed, planOpening, planClosing}
 use Rattle.plan_laws.proofs.Decides.{Words, Planned, served-planned, opening-planned, closing-planned}
-use Rattle.carry_packet.proofs.Rendered.{data-whole}
+use Rattle.packet_laws.proofs.Blindness.{data-whole}
 use Rattle.carry_places.proofs.Laid.{Whole}
 use Rattle.carry_whole.specs.Fitting.{Fitting}
 use Rattle.carry_whole.proofs.Laid.{whole}
@@ -81,7 +81,7 @@ module _ (p : Bytes) (ends : Ends) (kind : ℕ) (came : answerOf (read requests 
   opaque-small =
       let h : Headed (requests .magic) (requests .most) p = header-good _ _ p (read-got requests p kind (read-as .0) (read-as .1) .headed) in
       rw opaque-is
-      (omega (arith, ap length (data-whole p (h .long)), length-append (drop 12 (visible requests p)) (opaque requests p), length-drop 12 p, h .whole, h .limited))
+      (omega (arith, ap length (data-whole requests p (h .long)), length-append (drop 12 (visible requests p)) (opaque requests p), length-drop 12 p, h .whole, h .limited))
 
 -- ---- a request
 

@@ -10,10 +10,10 @@ use borrow.Author.Tests.{leb-true}
 use lib.ListN.{length, getD, take}
 use lib.Seq.{length-take-le}
 use lib.Dec.{T, eqb, leb}
-use Rattle.octets.specs.Bytes.{Bytes, same, firstZero, zeroFree, every, within}
+use Rattle.octets.specs.Bytes.{Bytes, same, firstZero, every, within}
 use Rattle.octets.proofs.Strings.{and-left, and-right, same-is}
 use Rattle.octets.proofs.Runs.{room-as}
-use Rattle.packet.specs.declared.Rule.the-variants.{Text, Digits}
+use Rattle.packet.specs.declared.Rule.the-variants.{Digits}
 use Rattle.packet.specs.Layout as L
 use Rattle.packet.specs.Layout.{responseShape, rulesOf}
 use Rattle.packet.specs.Arguments.{digits, fits, fitAll, join}
@@ -131,11 +131,6 @@ unfolding fits every
 zero-fits = refl
 
 -- what fits is short
-pub text-short : (least most : ℕ) (a : Bytes) → fits (Text least most) a ≡ true → length a ≤ most
-unfolding fits
-text-short least most a e =
-    leb-true (length a) most (and-right (leb least (length a)) (leb (length a) most) (and-left (within least most (length a)) (zeroFree a) e))
-
 pub digits-short : (least most : ℕ) (a : Bytes) → fits (Digits least most) a ≡ true → length a ≤ most
 unfolding fits
 digits-short least most a e =

@@ -1,19 +1,15 @@
 -- The bytes that the code lays are those of the packets that the server's definitions send: for each list of packets that an event
 -- sends, and for lists one after the other. Assumes nothing.
-use Prim.Native.Nat.{ℕ, _+_, _≤_}
+use Prim.Native.Nat.{ℕ, _≤_}
 use mathlib.Core.Path.{_≡_, refl, ap, _∙_, sym}
 use mathlib.Core.Bool.{Bool, true, false, cond}
 use mathlib.Core.List.{List, [], _∷_, _++_, map, append-nil, append-assoc}
-use native.Mathlib.Omega.{arith}
-use lib.ListN.{length, getD, drop, length-take}
-use lib.Seq.{drop-append-le}
-use Rattle.octets.specs.Bytes.{Bytes, numberAt, same}
+use lib.ListN.{length, getD, drop}
+use Rattle.octets.specs.Bytes.{Bytes, same}
 use Rattle.octets.proofs.Strings.{same-is}
-use Rattle.packet.specs.Layout.{separatorsOf}
 use Rattle.packet.specs.Arguments.{join}
 use Rattle.packet.specs.Packet.{requests}
-use Rattle.packet.specs.Opaque.{hides, opaque, past, seen, visible}
-use Rattle.packet_laws.proofs.Blindness.{visible-opaque}
+use Rattle.packet_laws.proofs.Blindness.{data-whole}
 use Rattle.lists.specs.Lists.{fit}
 use Rattle.server.specs.Table.{functionAt, jobAt}
 use Rattle.server.specs.Requests.{Event, sends}
@@ -21,19 +17,6 @@ use Rattle.server.specs.Events.{Send, plain, copy, assign, error, created, exce
 use Rattle.server.specs.Server.{Server, addressed, opaqueOf, render, shownBy}
 use Rattle.server.specs.Call.{sentBytes}
 use Rattle.carry_packet.specs.Messages.{message, errorArguments, handleArguments, optionArguments, statusArguments, assignArguments}
-
--- ---- the data of this event's packet
-
-seen-most : (b : Bool) (m n : ℕ) → 12 ≤ n → 12 ≤ cond b (12 + m) n
-seen-most true m n h = omega arith
-seen-most false m n h = h
-
--- what is shown and what is opaque is all data
-pub data-whole : (p : Bytes) → 12 ≤ length p → drop 12 (visible requests p) ++ opaque requests p ≡ drop 12 p
-unfolding visible seen
-data-whole p h =
-    let l : 12 ≤ length (visible requests p) = rw length-take (omega (arith, seen-most (hides requests p) (past (separatorsOf (requests .shape (numberAt p 4))) (drop 12 p)) (length p) h)) in
-    sym (drop-append-le 12 (visible requests p) (opaque requests p) l) ∙ ap (drop 12) (visible-opaque requests p)
 
 -- the workload is the last argument of an assignment
 assign-data : (uniq : Bool) (h f u w : Bytes) → join (h ∷ f ∷ cond uniq (u ∷ w ∷ []) (w ∷ [])) ≡ join (h ∷ f ∷ cond uniq (u ∷ [] ∷ []) ([] ∷ [])) ++ w
@@ -94,7 +77,7 @@ module _ (e : Event) (s : Server) where
 module _ (c : ℕ) (p : Bytes) (s : Server) (long : 12 ≤ length p) where
   pub copy-rendered : (to kind : ℕ) → message to kind (drop 12 p) ≡ addressed (render (sends c p) s (copy to kind))
   unfolding render shownBy opaqueOf message
-  copy-rendered to kind = ap (message to kind) (sym (data-whole p long))
+  copy-rendered to kind = ap (message to kind) (sym (data-whole requests p long))
 
   -- 01: an echo goes back to its sender
   pub echo-rendered : message c 17 (drop 12 p) ≡ bytesFor (sends c p) s (copy c 17 ∷ [])

@@ -1,14 +1,15 @@
 -- One place laid over the bytes of a table is the table with that place put anew: the laws of `table_laws`, for a table of the product's size.
 -- Assumes nothing.
-use Prim.Native.Nat.{ℕ, zero, suc, _+_, _%_, _<_}
-use mathlib.Core.Path.{_≡_, refl, sym, ap, _∙_}
+use Prim.Native.Nat.{ℕ, _%_, _<_}
+use mathlib.Core.Path.{_≡_, sym, ap, _∙_}
 use mathlib.Core.Bool.{Bool, true, false, cond}
 use mathlib.Core.List.{List, [], _∷_}
-use lib.ListN.{length, getD, set}
+use lib.ListN.{length, set}
 use mir.Val.{boolByte}
 use Rattle.octets.specs.Bytes.{Bytes}
 use Rattle.octets.specs.Put.{put}
 use Rattle.octets.proofs.Laying.{put-one}
+use Rattle.lists.proofs.Rows.{set-own}
 use Rattle.server.specs.declared.Connection.{Connection}
 use Rattle.server.specs.declared.JobRow.{JobRow}
 use Rattle.server.specs.Sizes.{connectionCount, functionCount, jobCount}
@@ -53,12 +54,6 @@ flag-put b at true = put-one at 1 b
 flag-put b at false = put-one at 0 b
 
 -- ---- one place
-
--- a place put anew as it is
-pub set-own : {A : Type 0} (l : List A) (i : ℕ) (d : A) → set l i (getD l i d) ≡ l
-set-own [] i d = refl
-set-own (x ∷ l) zero d = refl
-set-own (x ∷ l) (suc i) d = ap (λ (r : List _). x ∷ r) (set-own l i d)
 
 module _ (t : Table) (w : Whole t) (b : Bytes) where
   sized : Sized t

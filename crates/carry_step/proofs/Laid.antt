@@ -1,27 +1,22 @@
 -- A lean step and its ending laid over the bytes of a table: the bytes of the table that both leave. Assumes nothing.
-use Prim.Native.Nat.{ℕ, zero, suc, _+_, _-_, _%_, _<_, _≤_}
+use Prim.Native.Nat.{ℕ, _+_, _<_}
 use mathlib.Core.Path.{_≡_, refl, sym, ap, _∙_, subst}
 use mathlib.Core.Bool.{Bool, true, false, cond}
-use mathlib.Core.List.{List, [], _∷_, _++_, append-assoc}
-use native.Mathlib.Numerals.{add-one}
+use mathlib.Core.List.{List}
 use native.Mathlib.Omega.{arith}
-use lib.ListN.{length, set, length-set, length-append}
-use lib.Seq.{getD-at, set-at}
-use mir.Val.{boolByte}
+use lib.ListN.{length-set}
 use Rattle.octets.specs.Bytes.{Bytes}
 use Rattle.octets.specs.Put.{put}
-use Rattle.octets.proofs.Laying.{put-one}
 use Rattle.sets.specs.Sets.{has}
 use Rattle.sets.proofs.Laws.{zero-has}
 use Rattle.server.specs.declared.Connection.{Connection}
-use Rattle.server.specs.declared.JobRow.{JobRow}
 use Rattle.lists.specs.Lists.{mapFrom}
 use Rattle.server.specs.Sizes.{connectionCount, functionCount}
-use Rattle.server.specs.Layout.{little, flagByte, bytesOf, tableOf, asleepAt}
+use Rattle.server.specs.Layout.{flagByte, bytesOf, tableOf, asleepAt}
 use Rattle.server.specs.Call.{isSound}
 use Rattle.server.specs.Events.{awake}
-use Rattle.server.specs.Table.{Table, closed, noJob, connectionAt, jobAt, setConnection, setFunction, setJob, withRow, withLastSerial, withConnections, withFunctions}
-use Rattle.lists.proofs.Rows.{length-mapFrom}
+use Rattle.server.specs.Table.{Table, closed, noJob, connectionAt, jobAt, setConnection, setJob, withRow, withLastSerial, withConnections, withFunctions}
+use Rattle.lists.proofs.Rows.{length-mapFrom, set-own}
 use Rattle.table_laws.proofs.Puts.{put-able, put-asleep, put-last}
 use Rattle.plan.specs.declared.Change as C′
 use Rattle.lists.specs.declared.Place.{Place}
@@ -29,7 +24,7 @@ use Rattle.lists.specs.declared.Place.the-variants.{At, Nowhere}
 use Rattle.plan.specs.Values.{valuesOf}
 use Rattle.plan.specs.Parts.{changed, finalTable}
 use Rattle.carry_places.specs.Laying.{laidRow, laidEach}
-use Rattle.carry_places.proofs.Laid.{Whole, whole-last, whole-connections, whole-functions, whole-jobs, set-own, row-laid, free-laid, flags-laid, forgotten-laid}
+use Rattle.carry_places.proofs.Laid.{Whole, whole-last, whole-connections, whole-functions, whole-jobs, row-laid, free-laid, flags-laid, forgotten-laid}
 use Rattle.carry_places.proofs.Each.{eachConnection, each-laid, each-none, all-connections, connection-whole}
 use Rattle.carry_whole.proofs.Laid.{whole}
 use Rattle.carry_whole.proofs.Carried.{changed-whole}

@@ -13,9 +13,10 @@ use Rattle.lists.specs.Lists.{all, numbers}
 use Rattle.server.specs.declared.Connection.{Connection}
 use Rattle.server.specs.Sizes.{connectionCount, idSize}
 use Rattle.server.specs.Layout.{tableOf, openedAt, idsAt, tableSize}
-use Rattle.server.specs.Rules.{idOpen, idsOpen}
+use Rattle.server.specs.Rules.{idOpen}
 use Rattle.table_laws.specs.Tests.{isPadded, arePadded}
-use Rattle.table_passes.proofs.Tests.{or-right, and-same, below-at, below-by, same-below, all-and, all-shift}
+use Rattle.lists.proofs.Rows.{below-at, below-by}
+use Rattle.table_passes.proofs.Tests.{or-right, and-same, same-below, all-and, all-shift}
 use Rattle.table_passes.proofs.Rows.{connections-length, connection-at, id-at}
 use Rattle.check_image.specs.Padded.{zeroAt, isFollowed, lastOrFollowed}
 use Rattle.check_image.proofs.Places.{empty-text, padded-each, empty-each}

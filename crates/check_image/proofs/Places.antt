@@ -7,7 +7,7 @@ use mathlib.Core.List.{List, [], _∷_, _++_}
 use native.Mathlib.Nat.{add-zero, add-suc, suc-add, add-assoc, mul-add, mul-assoc}
 use native.Mathlib.Omega.{arith}
 use borrow.Author.Tests.{leb-true, eqb-true, eqb-false, eq-eqb, ne-eqb}
-use lib.Bits.{bitOr, or-add-and, and-le-r, or-zero-l}
+use lib.Bits.{bitOr}
 use lib.ListN.{length, getD, take, drop}
 use lib.Seq.{drop-cons}
 use lib.Dec.{eqb, leb}
@@ -17,7 +17,8 @@ use Rattle.server.specs.Sizes.{uniqueSize}
 use Rattle.server.specs.Layout.{textAt}
 use Rattle.table_laws.specs.Tests.{part, isZero, isFlag, isPadded, areFlags, arePadded}
 use Rattle.table_laws.proofs.Same.{field-inside}
-use Rattle.table_passes.proofs.Tests.{or-none, and-same, same-below, below-at, all-append, all-shift, runs}
+use Rattle.lists.proofs.Rows.{below-at}
+use Rattle.table_passes.proofs.Tests.{or-none, and-same, same-below, all-append, all-shift, runs}
 use Rattle.check_image.specs.Padded.{zeroAt, emptyAt, afterEnd, isFollowed, lastOrFollowed, lastOf64, lastOf32}
 
 -- ---- single bytes

@@ -17,7 +17,7 @@ use Rattle.server.specs.Table.{live}
 use Rattle.server.specs.Layout.{textAt, functionIn, rowIn, jobIn, tableOf, functionsAt, namesAt, uniquesAt, tableSize}
 use Rattle.server.specs.Rules.{namesApart, functionsDistinct, uniquesApart, uniquesDistinct}
 use Rattle.table_laws.specs.Tests.{part, arePadded}
-use Rattle.table_passes.proofs.Tests.{below-at}
+use Rattle.lists.proofs.Rows.{below-at}
 use Rattle.table_passes.proofs.Rows.{functions-pairs, jobs-pairs}
 use Rattle.table_passes.proofs.Pairs.{pairs-by, apart-all}
 use Rattle.check_image.specs.Padded.{emptyAt}

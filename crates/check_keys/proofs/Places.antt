@@ -15,7 +15,7 @@ use Rattle.octets.proofs.Strings.{and-left, and-right, same-is}
 use Rattle.server.specs.Layout.{littleAt, textAt}
 use Rattle.table_laws.specs.Tests.{part, isZero, isPadded, arePadded}
 use Rattle.table_laws.proofs.Same.{length-part}
-use Rattle.table_passes.proofs.Tests.{below-at}
+use Rattle.lists.proofs.Rows.{below-at}
 use Rattle.check_image.specs.Padded.{emptyAt}
 use Rattle.check_image.proofs.Places.{empty-text}
 use Rattle.check_keys.specs.Keys.{wordAt, wordsAt, placeKey}

@@ -18,7 +18,8 @@ use Rattle.server.specs.Table.{live}
 use Rattle.server.specs.Layout.{littleAt, connectionIn, functionIn, rowIn, tableOf, listenersAt, openedAt, tableSize, ableAt}
 use Rattle.server.specs.Rules.{isOpen, onlyOpen, abilitiesOpen, listenersOpen, holderOpen, holdersOpen, closedClear, sleeperIdle, sleepersIdle}
 use Rattle.table_laws.specs.Tests.{areFlags}
-use Rattle.table_passes.proofs.Tests.{iff, or-left, or-right, or-cases, below-at, below-by, some-at, some-by}
+use Rattle.lists.proofs.Rows.{below-at, below-by}
+use Rattle.table_passes.proofs.Tests.{iff, or-left, or-right, or-cases, some-at, some-by}
 use Rattle.table_passes.proofs.Rows.{jobs-all, functions-all, connections-all, connections-length, connection-at, sleepers-all}
 use Rattle.table_passes.proofs.Unions.{low-set}
 use Rattle.check_image.proofs.Places.{flag-at}

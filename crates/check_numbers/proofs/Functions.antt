@@ -17,7 +17,8 @@ use Rattle.server.specs.Table.{rowsOf, ablesOf, live, queued, names, wanted, gr
 use Rattle.server.specs.Layout.{functionIn, rowIn, tableOf, namesAt, tableSize}
 use Rattle.server.specs.Rules.{isKnown, functionsAsDefined}
 use Rattle.server.proofs.Rows.{InRange, in-range, free-row}
-use Rattle.table_passes.proofs.Tests.{iff, below-at, some-at, some-by, same-below, any-below, any-or}
+use Rattle.lists.proofs.Rows.{below-at}
+use Rattle.table_passes.proofs.Tests.{iff, some-at, some-by, same-below, any-below, any-or}
 use Rattle.table_passes.proofs.Rows.{rows-any, able-at, defined-all}
 use Rattle.table_passes.proofs.Unions.{has-if}
 use Rattle.check_image.proofs.Places.{empty-text}

@@ -1,22 +1,21 @@
 -- The tests of the rows say what the rules say. Assumes nothing.
 use Prim.Native.Nat.{ℕ, _+_, _*_, _<_, _≤_}
 use mathlib.Core.Path.{_≡_, refl, sym, ap, _∙_}
-use mathlib.Core.Bool.{Bool, true, false, not, cond, _&&_, _||_, true≢false}
+use mathlib.Core.Bool.{Bool, true, false, not, cond, _&&_, _||_}
 use mathlib.Core.List.{List, map}
 use native.Mathlib.Omega.{arith}
-use borrow.Author.Tests.{ltb-true, ltb-false, leb-true, leb-false, eqb-true, eqb-false, lt-ltb, le-leb, lt-leb, eq-eqb, ne-eqb}
+use borrow.Author.Tests.{ltb-true, ltb-false, eqb-true, lt-ltb, le-leb, lt-leb}
 use lib.ListN.{length, getD}
 use lib.Dec.{eqb, leb, ltb}
 use Rattle.octets.specs.Bytes.{Bytes}
 use Rattle.octets.proofs.Strings.{and-left, and-right}
-use Rattle.server.specs.declared.JobRow.{JobRow}
 use Rattle.lists.specs.Lists.{all, numbers, implies}
 use Rattle.server.specs.Sizes.{connectionCount, functionCount, jobCount}
 use Rattle.server.specs.Layout.{littleAt, rowIn, serialsAt, listenersAt, sizesAt, holdersAt, backgroundsAt, functionsAt, tableSize}
 use Rattle.table_laws.specs.Tests.{areFlags}
 use Rattle.table_laws.proofs.Columns.{places-at}
 use Rattle.table_laws.proofs.Same.{and-assoc}
-use Rattle.table_passes.proofs.Tests.{iff, split, and-true, and-same, below-at, same-below, all-and}
+use Rattle.table_passes.proofs.Tests.{iff, and-true, and-same, same-below, all-and}
 use Rattle.check_image.proofs.Places.{flag-at}
 use Rattle.check_rows.specs.Rows.{numbersMean, isAwaited, rowsMean, markOf, Marked, bytesInRange, holderInRange, freeOrAwaited}
 

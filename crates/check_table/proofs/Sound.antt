@@ -21,7 +21,8 @@ use Rattle.server.specs.Rules.{nextSmall, serialsBelow, serialsDistinct, textWi
 use Rattle.server.specs.Call.{isSound}
 use Rattle.table_laws.specs.Tests.{areFlags, arePadded, imageTests}
 use Rattle.table_laws.proofs.Image.{image-tests}
-use Rattle.table_passes.proofs.Tests.{iff, and-same, all-and, below-by, same-below}
+use Rattle.lists.proofs.Rows.{below-by}
+use Rattle.table_passes.proofs.Tests.{iff, and-same, all-and, same-below}
 use Rattle.table_passes.proofs.Rows.{jobs-all, functions-all, ids-all, functions-length, connections-length}
 use Rattle.check_image.proofs.Places.{empty-text}
 use Rattle.check_rows.specs.Rows.{numbersMean, isAwaited, rowsMean}

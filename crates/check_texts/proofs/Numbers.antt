@@ -13,26 +13,21 @@ use lib.Dec.{eqb}
 use Rattle.octets.specs.Bytes.{Bytes, same, every}
 use Rattle.octets.proofs.Strings.{and-left, and-right, and-both}
 use Rattle.lists.specs.Lists.{all, numbers}
+use Rattle.lists.proofs.Rows.{and-swap, below-at, below-by}
 use Rattle.server.specs.Sizes.{connectionCount, jobCount, numberSize}
 use Rattle.server.specs.Table.{live}
 use Rattle.server.specs.Layout.{textAt, rowIn, serialsAt, numeratorsAt, denominatorsAt, tableSize}
 use Rattle.server.specs.Rules.{storedNumber}
 use Rattle.table_laws.specs.Tests.{part, isPadded, arePadded}
-use Rattle.table_passes.proofs.Tests.{or-none, or-left, or-right, or-not, and-same, below-at, below-by, same-below, all-and, runs}
+use Rattle.table_passes.proofs.Tests.{or-none, or-left, or-right, or-not, and-same, same-below, all-and, runs}
 use Rattle.check_image.specs.Padded.{afterEnd, lastOrFollowed}
 use Rattle.check_image.proofs.Places.{every-each, insides-padded}
 use Rattle.check_rows.proofs.Rows.{mark-none}
-use Rattle.check_rows.specs.Rows.{Marked, markOf}
+use Rattle.check_rows.specs.Rows.{Marked}
 use Rattle.check_texts.specs.Stored.{storedAt, storedRules, isDigit, digitOrZero, beginsWith, beginsAt, Begun, firstAlone, digitPadded, firstsOf10, lastsOf10}
 use Rattle.check_texts.proofs.Digits.{stored-place}
 
 -- ---- one column
-
-and-swap : (a b : Bool) → a && b ≡ b && a
-and-swap true true = refl
-and-swap true false = refl
-and-swap false true = refl
-and-swap false false = refl
 
 -- what the bytes of place k say, whatever its row is
 abbrev cleanAt : Bytes → ℕ → ℕ → Bool

@@ -12,7 +12,7 @@ use Rattle.server.specs.Sizes.{connectionCount, jobCount, nameSize, uniqueSize}
 use Rattle.server.specs.Table.{Job, Function, functionAt}
 use Rattle.server.specs.Layout.{textAt, rowIn, jobIn, tableOf, namesAt, uniquesAt}
 use Rattle.server.specs.Rules.{together, sizesWithin}
-use Rattle.table_passes.proofs.Tests.{below-at, below-by}
+use Rattle.lists.proofs.Rows.{below-at, below-by}
 use Rattle.table_passes.proofs.Rows.{jobs-all, function-at}
 use Rattle.check_exact.proofs.Texts.{text-within, no-name}
 use Rattle.check_texts.specs.Stored.{sizeSmall}

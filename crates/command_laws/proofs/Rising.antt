@@ -13,7 +13,7 @@ use lib.ListN.{length, getD, List·getD-eq-default}
 use Rattle.octets.specs.Bytes.{same}
 use Rattle.octets.proofs.Strings.{and-false, and-left, and-right, and-both}
 use Rattle.lists.specs.Lists.{any, all, pairwise, filter, numbers}
-use Rattle.lists.proofs.Rows.{clash, iff, all-imp, pairwise-at}
+use Rattle.lists.proofs.Rows.{and-exchange, clash, iff, all-imp, pairwise-at}
 use Rattle.server.specs.Table.{Function, noFunction}
 use Rattle.server.specs.Rules.{isKnown, namesApart}
 use Rattle.command.specs.Order.{before, nameAt, placed, rising, isNamed, inOrder}
@@ -29,11 +29,6 @@ or-swap : (a b c : Bool) → a || (b || c) ≡ b || (a || c)
 or-swap true true c = refl
 or-swap true false c = refl
 or-swap false b c = refl
-
-and-exchange : (a b c d : Bool) → (a && b) && (c && d) ≡ (a && c) && (b && d)
-and-exchange true true c d = refl
-and-exchange true false c d = sym (and-false c)
-and-exchange false b c d = refl
 
 eqb-comm : (a b : ℕ) → eqb a b ≡ eqb b a
 eqb-comm a b = iff (eqb a b) (eqb b a) (λ e. eq-eqb b a (sym (eqb-true a b e))) (λ e. eq-eqb a b (sym (eqb-true b a e)))

@@ -157,7 +157,8 @@ pub demand-3-one : (n : ℕ) (m w : Memory) → Hub n m → Hub n w → serverOf
 demand-3-one = one-changed
 
 -- the changed packet is WORK_EXCEPTION. 02, ask 3: "a changed exception may show only in the copies that carry it; the WORK_FAIL packets
--- agree": of the packets that it sends only its copies to listeners that set the option differ, and no packet later
+-- agree": of the packets that it sends only its copies to listeners that set the option differ; nothing of it is stored, and no packet
+-- differs later
 pub demand-3-exception : (n : ℕ) (m w : Memory) → Hub n m → Hub n w → serverOf n m ≡ serverOf n w → (x y : Call) → Long n x → Long n y → Alike (x .event) (y .event)
     → (c : ℕ) (b : Bytes) → x .event ≡ sends c b → typeOf b ≡ 25 → {xs ys : List Call} → SameEvents xs ys → LongOutputs n xs → LongOutputs n ys → OneException n m w x y xs ys
 demand-3-exception = one-exception

@@ -33,7 +33,8 @@ use Rattle.demands.specs.Blind as B
 use Rattle.demands.proofs.Arguments.{work-read, echo-read}
 use Rattle.demands.proofs.Numbers.{throwing}
 use Rattle.demands.proofs.Hubs.{call-next}
-use Rattle.demands.proofs.Submissions.{isSubmit, submission-typed}
+use Rattle.demands.proofs.Sorts.{isSubmit}
+use Rattle.demands.proofs.Submissions.{submission-typed}
 use Rattle.demands.proofs.Gone.{work-kinds, made-creates}
 use Rattle.demands.proofs.OneChanged.{one-changed}
 
@@ -88,9 +89,10 @@ makes-none c b type (submits d x i) = clash (submission-typed b (is i)) (rw type
 module _ (n : ℕ) (m w : Memory) (hm : Hub n m) (hw : Hub n w) (same : serverOf n m ≡ serverOf n w) (x y : Call) (lx : Long n x) (ly : Long n y) (a : Alike (x .event) (y .event))
     (c : ℕ) (b : Bytes) (q : x .event ≡ sends c b) (type : typeOf b ≡ 25) {xs ys : List Call} (rest : SameEvents xs ys) (lxs : LongOutputs n xs) (lys : LongOutputs n ys) where
   -- so nothing at all differs later
-  later-same : Later n m (kept (callOn n m x)) (kept (callOn n w y)) xs ys → Both (Packets (λ a b. a ≡ b)) xs ys (resultsOf n xs (kept (callOn n m x))) (resultsOf n ys (kept (callOn n w y)))
+  later-same : Later n m (kept (callOn n m x)) (kept (callOn n w y)) xs ys
+      → (serverOf n (kept (callOn n m x)) ≡ serverOf n (kept (callOn n w y))) × Both (Packets (λ a b. a ≡ b)) xs ys (resultsOf n xs (kept (callOn n m x))) (resultsOf n ys (kept (callOn n w y)))
   unfolding serverIn
-  later-same (made-none f e p) = p
+  later-same (made-none f e p) = (e, p)
   later-same (made-one k z p f) =
       let (i, e, d) = made-creates (x .event) (serverOf n m) (handle lap k) (subst (λ (s : Server). isMade (handle lap k) (tableIn n m) (s .table) ≡ true) (call-next n m hm x lx) z) in
       absurd (makes-none c b type (subst (λ (v : Event). Submits v (numbered d .sender)) q (numbered d .asks)))
@@ -105,5 +107,6 @@ module _ (n : ℕ) (m w : Memory) (hm : Hub n m) (hw : Hub n w) (same : serverOf
       let o = one-changed n m w hm hw same x y lx ly a rest lxs lys in
       record {
         packets = but-all (x .event) q (o .packets);
-        later = later-same (o .later);
+        stored = later-same (o .later) .0;
+        later = later-same (o .later) .1;
       }

@@ -13,6 +13,7 @@ pub mod Restart
 pub mod Agreeing
 pub mod OneChanged
 pub mod Exceptions
+pub mod Sorts
 pub mod Submissions
 pub mod Listeners
 pub mod Options

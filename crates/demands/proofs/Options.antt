@@ -6,19 +6,17 @@ use mathlib.Core.List.{List, [], _∷_}
 use native.Mathlib.Decide.{ℕ-discrete}
 use native.Mathlib.Omega.{arith}
 use borrow.Author.Tests.{eq-eqb, ne-eqb}
-use lib.ListN.{length, getD}
+use lib.ListN.{length}
 use lib.Seq.{getD-set-same, getD-set-other}
 use lib.Dec.{eqb}
 use Rattle.octets.specs.Bytes.{Bytes}
 use Rattle.octets.proofs.Strings.{and-false}
-use Rattle.packet.specs.Layout.{isOwn, requestShape}
-use Rattle.packet.specs.Packet.{Reading, refused, got, read, requests}
-use Rattle.packet_laws.proofs.Packets.{read-got}
+use Rattle.packet.specs.Packet.{refused}
 use Rattle.lists.proofs.Cases.{All, cond-both}
 use Rattle.lists.proofs.Rows.{clash, or-off}
 use Rattle.server.specs.declared.Connection.{Connection}
 use Rattle.server.specs.Table.{Table, closed, connectionAt, setConnection, ablesOf, rowsOf}
-use Rattle.server.specs.Requests.{Event, sends, Request, reset, preSleep, echo, canDo, cantDo, identify, grab, submit, work, getStatus, option, requested, fromReading, requestIn}
+use Rattle.server.specs.Requests.{Event, sends, Request, requestIn}
 use Rattle.server.specs.Requests as R
 use Rattle.server.specs.Events.{Send, Decision, silence, refuse, settle, dropped, forgot, wakes, opening, closing, unableToAll, sleeping}
 use Rattle.server.specs.Server.{Server, answer, next}
@@ -32,53 +30,17 @@ use Rattle.server_calls.proofs.Histories.{LongOutputs}
 use Rattle.demands.specs.Hub.{Hub, callOn, kept, afterCalls, resultsOf, tableIn, serverOf}
 use Rattle.demands.specs.Conditions.{typeOf}
 use Rattle.demands.specs.Listening.{catchesAfter, catches, optionIn}
-use Rattle.demands.proofs.Unmasked.{request-read}
-use Rattle.demands.proofs.Numbers.{Asks, asks-at}
+use Rattle.demands.proofs.Sorts.{isOption, Typed, typed, packet-typed}
 use Rattle.demands.proofs.Hubs.{call-number, call-hub, call-next}
 
 -- ---- OPTION_REQ is type 26
 
-abbrev isOption : Request → Bool
-isOption (option name) = true
-isOption (R.bad n) = false
-isOption reset = false
-isOption preSleep = false
-isOption echo = false
-isOption (canDo f) = false
-isOption (cantDo f) = false
-isOption (identify i) = false
-isOption (grab uniq) = false
-isOption (submit priority background f u size) = false
-isOption (work how kind h n d) = false
-isOption (getStatus h) = false
-
--- of a type that is served
-asks-option : (kind : ℕ) (a b c : Bytes) → isOwn (requestShape kind) ≡ true → eqb kind 26 ≡ isOption (requested kind a b c)
-asks-option kind a b c o = by (requested kind a b c) (asks-at kind a b c)
-  where
-    by : (q : Request) → Asks a b kind (requestShape kind) q → eqb kind 26 ≡ isOption q
-    by (option name) h = h .0 .isOption
-    by (R.bad n) h = clash o h
-    by reset h = h .isOption
-    by preSleep h = h .isOption
-    by echo h = h .isOption
-    by (canDo f) h = h .0 .isOption
-    by (cantDo f) h = h .isOption
-    by (identify i) h = h .isOption
-    by (grab uniq) h = h .isOption
-    by (submit priority background f u size) h = h .0 .isOption
-    by (work how k x n d) h = h .0 .isOption
-    by (getStatus x) h = h .isOption
-
--- of a packet that was read
 option-typed : (b : Bytes) {a : Request} → requestIn b ≡ a → isBad a ≡ false → eqb (typeOf b) 26 ≡ isOption a
-option-typed b {a} q z = by (read requests b) refl
+option-typed b {a} q z = by (packet-typed b)
   where
-    by : (r : Reading) → read requests b ≡ r → eqb (typeOf b) 26 ≡ isOption a
-    by (refused n) e = clash (ap isBad (sym q ∙ request-read b ∙ ap fromReading e)) z
-    by (got kind args) e =
-        let g = read-got requests b kind args e in
-        rw (g .typed) (asks-option kind (getD args 0 []) (getD args 1 []) (getD args 2 []) (g .own) ∙ ap isOption (sym (request-read b ∙ ap fromReading e) ∙ q))
+    by : Typed b → eqb (typeOf b) 26 ≡ isOption a
+    by (Typed.unread n e) = clash (ap isBad (sym q ∙ e)) z
+    by (typed s) = s .sets ∙ ap isOption q
 
 -- ---- the mark of connection c
 

@@ -6,24 +6,23 @@ use mathlib.Core.Option.{Option, none, some}
 use mathlib.Core.List.{List, [], _∷_, _++_, append-nil, append-assoc}
 use native.Mathlib.Omega.{arith}
 use borrow.Author.Tests.{le-leb, leb-true, ltb-true, ltb-false}
-use lib.ListN.{length, getD, drop, length-append, length-drop, length-take, List·getD-eq-default}
-use lib.Seq.{drop-append-le}
+use lib.ListN.{length, getD, drop, length-append, length-drop, List·getD-eq-default}
 use lib.Dec.{leb, ltb, eqb}
-use Rattle.octets.specs.Bytes.{Bytes, same, within, zeroFree, every, firstZero, numberAt}
+use Rattle.octets.specs.Bytes.{Bytes, same, within, zeroFree, every, firstZero}
 use Rattle.octets.proofs.Strings.{and-left, and-right, and-both, same-is}
 use Rattle.handle.specs.Handle.{handle, lap}
 use Rattle.handle.proofs.Handles.{handle-least, handle-most, lap-zero-free}
-use Rattle.packet.specs.Layout.{rulesOf, requestShape, responseShape, separatorsOf, isOwn}
+use Rattle.packet.specs.Layout.{rulesOf, requestShape, responseShape, isOwn}
 use Rattle.packet.specs.Layout as L
 use Rattle.packet.specs.declared.Shape.the-variants.{Handle}
 use Rattle.packet.specs.declared.Rule.the-variants.{Text, Flag, Opaque}
 use Rattle.packet.specs.Arguments.{fits, fitAll, join}
 use Rattle.packet.specs.Packet.{got, read, requests, responses}
-use Rattle.packet.specs.Opaque.{hides, past, seen, visible, opaque}
+use Rattle.packet.specs.Opaque.{visible, opaque}
 use Rattle.packet_laws.proofs.Packets.{responses-well, Headed, header-good, Got, read-got}
-use Rattle.packet_laws.proofs.Splitting.{split-join}
+use Rattle.packet_laws.proofs.Splitting.{split-join, text-short}
 use Rattle.packet_laws.proofs.RoundTrip.{packet-reads}
-use Rattle.packet_laws.proofs.Blindness.{visible-opaque}
+use Rattle.packet_laws.proofs.Blindness.{data-whole}
 use Rattle.lists.specs.Lists.{fit, find}
 use Rattle.lists.proofs.Lists.{length-fit}
 use Rattle.lists.proofs.Searches.{found}
@@ -106,10 +105,6 @@ unfolding fits same
 flag-fits true = refl
 flag-fits false = refl
 
-text-short : (least most : ℕ) (a : Bytes) → fits (Text least most) a ≡ true → length a ≤ most
-unfolding fits
-text-short least most a e = leb-true (length a) most (and-right (leb least (length a)) _ (and-left (within least most (length a)) _ e))
-
 number-short : (a : Bytes) → storedNumber a ≡ true → length a ≤ 10
 number-short a e = leb-true (length a) 10 (and-right (leb 1 (length a)) _ (and-left (within 1 10 (length a)) _ e))
 
@@ -141,17 +136,6 @@ status-fits b h q =
 
 -- ---- packets that are passed on
 
-seen-most : (b : Bool) (m n : ℕ) → 12 ≤ n → 12 ≤ cond b (12 + m) n
-seen-most true m n h = omega arith
-seen-most false m n h = h
-
--- what is shown and what is opaque is all data
-data-whole : (p : Bytes) → 12 ≤ length p → drop 12 (visible requests p) ++ opaque requests p ≡ drop 12 p
-unfolding visible seen
-data-whole p h =
-    let l : 12 ≤ length (visible requests p) = rw length-take (omega (arith, seen-most (hides requests p) (past (separatorsOf (requests .shape (numberAt p 4))) (drop 12 p)) (length p) h)) in
-    sym (drop-append-le 12 (visible requests p) (opaque requests p) l) ∙ ap (drop 12) (visible-opaque requests p)
-
 -- a packet that was read as a request may go out by a type of the same shape, with its arguments as they came
 record Passed (b : Bytes) (kind : ℕ) (args : List Bytes) : Type 0 where
   sendable : Sendable kind args
@@ -164,7 +148,7 @@ passed b k kind args e q =
     let h : Headed (requests .magic) (requests .most) b = header-good _ _ b (g .headed) in
     record {
       sendable = record { own = rw q (g .own); fit = rw q (j .1); limited = rw (j .0, length-drop) (omega (arith, h .limited, h .whole)) };
-      whole = data-whole b (h .long) ∙ sym (j .0);
+      whole = data-whole requests b (h .long) ∙ sym (j .0);
     }
 
 arguments-are : (c : ℕ) (b : Bytes) (k : ℕ) (args : List Bytes) → read requests b ≡ got k args → argumentsOf (sends c b) ≡ args

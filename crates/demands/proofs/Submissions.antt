@@ -11,7 +11,7 @@ use lib.Dec.{eqb}
 use Rattle.octets.specs.Bytes.{Bytes, same}
 use Rattle.octets.proofs.Strings.{and-false, and-left, and-right, same-is}
 use Rattle.handle.specs.Handle.{handle, lap}
-use Rattle.packet.specs.Layout.{isOwn, requestShape, backgroundOf}
+use Rattle.packet.specs.Layout.{backgroundOf}
 use Rattle.packet.specs.Packet.{Reading, refused, got, read, requests}
 use Rattle.packet_laws.proofs.Packets.{read-got}
 use Rattle.lists.specs.Lists.{any}
@@ -30,7 +30,7 @@ use Rattle.demands.specs.Messages.{messageOf, messagesOf}
 use Rattle.demands.specs.Conditions.{typeOf, isSubmission}
 use Rattle.demands.specs.Listening.{isForeground, createdIs, tellsCreated}
 use Rattle.demands.proofs.Unmasked.{request-read}
-use Rattle.demands.proofs.Numbers.{Asks, asks-at}
+use Rattle.demands.proofs.Sorts.{isSubmit, asks-sorted, Typed, typed, packet-typed}
 
 -- ---- types
 
@@ -81,47 +81,13 @@ requested-mark : (kind : ℕ) (a b c : Bytes) → markIn (backgroundOf kind) (re
 unfolding requested
 requested-mark kind a b c = rw (← (List·getD-map (markIn (backgroundOf kind)))) (replicate-default 35 kind (backgroundOf kind))
 
-abbrev pub isSubmit : Request → Bool
-isSubmit (submit priority background f u size) = true
-isSubmit (R.bad n) = false
-isSubmit reset = false
-isSubmit preSleep = false
-isSubmit echo = false
-isSubmit (canDo f) = false
-isSubmit (cantDo f) = false
-isSubmit (identify i) = false
-isSubmit (grab uniq) = false
-isSubmit (work how kind h n x) = false
-isSubmit (getStatus h) = false
-isSubmit (option name) = false
-
--- a type that is served is a submission's exactly if a submission is asked
-asks-submission : (kind : ℕ) (a b c : Bytes) → isOwn (requestShape kind) ≡ true → isSubmission kind ≡ isSubmit (requested kind a b c)
-asks-submission kind a b c o = by (requested kind a b c) (asks-at kind a b c)
-  where
-    by : (q : Request) → Asks a b kind (requestShape kind) q → isSubmission kind ≡ isSubmit q
-    by (submit priority background f u size) h = h .0 .isNew
-    by (R.bad n) h = clash o h
-    by reset h = h .isNew
-    by preSleep h = h .isNew
-    by echo h = h .isNew
-    by (canDo f) h = h .0 .isNew
-    by (cantDo f) h = h .isNew
-    by (identify i) h = h .isNew
-    by (grab uniq) h = h .isNew
-    by (work how k x n d) h = h .0 .isNew
-    by (getStatus x) h = h .isNew
-    by (option name) h = h .0 .isNew
-
 -- a packet that asks for a submission has a submission's type
 pub submission-typed : (b : Bytes) → isSubmit (requestIn b) ≡ true → isSubmission (typeOf b) ≡ true
-submission-typed b q = by (read requests b) refl
+submission-typed b q = by (packet-typed b)
   where
-    by : (r : Reading) → read requests b ≡ r → isSubmission (typeOf b) ≡ true
-    by (refused n) e = clash q (ap isSubmit (request-read b ∙ ap fromReading e))
-    by (got kind args) e =
-        let g = read-got requests b kind args e in
-        rw (g .typed) (asks-submission kind (getD args 0 []) (getD args 1 []) (getD args 2 []) (g .own) ∙ sym (ap isSubmit (request-read b ∙ ap fromReading e)) ∙ q)
+    by : Typed b → isSubmission (typeOf b) ≡ true
+    by (Typed.unread n e) = clash q (ap isSubmit e)
+    by (typed s) = s .submits ∙ q
 
 -- a packet that asks for a submission has a foreground type exactly if it is not in the background
 pub foreground-asks : (b : Bytes) (priority : ℕ) (background : Bool) (f u : Bytes) (size : ℕ) → requestIn b ≡ submit priority background f u size → isForeground (typeOf b) ≡ not background
@@ -131,33 +97,17 @@ foreground-asks b priority background f u size q = by (read requests b) refl (sy
     by (refused n) e z = let y : _≡_ {A = ℕ} 0 1 = cc in absurd (omega arith)
     by (got kind args) e z =
         let g = read-got requests b kind args e in
-        let i : isSubmission kind ≡ true = asks-submission kind (getD args 0 []) (getD args 1 []) (getD args 2 []) (g .own) ∙ ap isSubmit z in
+        let i : isSubmission kind ≡ true = asks-sorted kind (getD args 0 []) (getD args 1 []) (getD args 2 []) (g .own) .submits ∙ ap isSubmit z in
         let m : background ≡ backgroundOf kind = sym (ap (markIn (backgroundOf kind)) z) ∙ requested-mark kind (getD args 0 []) (getD args 1 []) (getD args 2 []) in
         rw (g .typed, m) (foreground-or kind i)
 
--- one that asks for anything else has none, or could not be read
-pub data Otherwise (b : Bytes) : Type 0 where
-  other-type : isForeground (typeOf b) ≡ false → Otherwise b
-  unread : (n : ℕ) → requestIn b ≡ R.bad n → Otherwise b
-
-pub asks-otherwise : (b : Bytes) → isSubmit (requestIn b) ≡ false → Otherwise b
-asks-otherwise b q = by (read requests b) refl
-  where
-    by : (r : Reading) → read requests b ≡ r → Otherwise b
-    by (refused n) e = unread n (request-read b ∙ ap fromReading e)
-    by (got kind args) e =
-        let g = read-got requests b kind args e in
-        let i : isSubmission kind ≡ false
-        = asks-submission kind (getD args 0 []) (getD args 1 []) (getD args 2 []) (g .own) ∙ ap isSubmit (sym (ap fromReading e)) ∙ ap isSubmit (sym (request-read b)) ∙ q in
-        other-type (rw (g .typed) (foreground-submits kind i))
-
 -- what is no submission and could be read has another type
 pub other-foreground : (b : Bytes) {a : Request} → requestIn b ≡ a → isSubmit a ≡ false → isBad a ≡ false → isForeground (typeOf b) ≡ false
-other-foreground b q i z = by (asks-otherwise b (ap isSubmit q ∙ i))
+other-foreground b q i z = by (packet-typed b)
   where
-    by : Otherwise b → isForeground (typeOf b) ≡ false
-    by (other-type y) = y
-    by (unread n y) = clash (ap isBad (sym q ∙ y)) z
+    by : Typed b → isForeground (typeOf b) ≡ false
+    by (Typed.unread n e) = clash (ap isBad (sym q ∙ e)) z
+    by (typed s) = foreground-submits (typeOf b) (s .submits ∙ ap isSubmit q ∙ i)
 
 -- ---- JOB_CREATED
 

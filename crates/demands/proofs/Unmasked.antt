@@ -4,7 +4,6 @@ use Prim.Native.Nat.{ℕ, zero, suc}
 use mathlib.Core.Path.{_≡_, refl, ap, sym, _∙_}
 use mathlib.Core.Bool.{Bool, true, false, cond}
 use mathlib.Core.List.{List, [], _∷_}
-use native.Mathlib.Omega.{arith}
 use lib.ListN.{length, getD, drop}
 use Rattle.octets.specs.Bytes.{Bytes}
 use Rattle.packet.specs.declared.Shape.{Shape}
@@ -14,6 +13,7 @@ use Rattle.packet.specs.Packet.{Reading, refused, got, read, requests}
 use Rattle.packet.specs.Opaque.{endsOpaque, opaque, masked, withLast, withOpaque}
 use Rattle.packet_laws.proofs.Splitting.{split-join, fit-length}
 use Rattle.packet_laws.proofs.Packets.{requests-well, read-got}
+use Rattle.packet_laws.proofs.Separators.{first-kept, size-kept}
 use Rattle.packet_laws.proofs.Blindness.{read-masked, masked-length, opaque-at}
 use Rattle.lists.proofs.Rows.{clash}
 use Rattle.server.specs.Requests.{Work, tells, ends, throws, Request, bad, submit, work, requested, fromReading, requestIn}
@@ -35,21 +35,6 @@ beside-at f (line r rs) (suc i) = beside-at f rs i
 -- what a type asks of a list of arguments
 abbrev asks : ℕ → List Bytes → Request
 asks kind args = requested kind (getD args 0 []) (getD args 1 []) (getD args 2 [])
-
--- worker data leaves the handle as it is
-first-kept : (o : Bytes) (args : List Bytes) → length args ≡ 2 → getD (withLast o args) 0 [] ≡ getD args 0 []
-first-kept o [] n = absurd (omega arith)
-first-kept o (a ∷ []) n = absurd (omega arith)
-first-kept o (a ∷ (b ∷ args)) n = refl
-
--- a submission's workload counts by its length alone
-size-kept : (f : Bytes → Bytes → ℕ → Request) (o : Bytes) (args : List Bytes) → length args ≡ 3 → length (getD args 2 []) ≡ length o
-    → f (getD (withLast o args) 0 []) (getD (withLast o args) 1 []) (length (getD (withLast o args) 2 [])) ≡ f (getD args 0 []) (getD args 1 []) (length (getD args 2 []))
-size-kept f o [] n l = absurd (omega arith)
-size-kept f o (a ∷ []) n l = absurd (omega arith)
-size-kept f o (a ∷ (b ∷ [])) n l = absurd (omega arith)
-size-kept f o (a ∷ (b ∷ (c ∷ []))) n l = ap (f a b) (sym l)
-size-kept f o (a ∷ (b ∷ (c ∷ (d ∷ args)))) n l = absurd (omega arith)
 
 module _ (kind : ℕ) (o : Bytes) (args : List Bytes) where
   -- a type of this shape asks the same with the last argument replaced, if that is opaque

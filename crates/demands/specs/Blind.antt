@@ -90,4 +90,5 @@ pub record One (n : ℕ) (m w : Memory) (x y : Call) (xs ys : List Call) : Type 
 -- changed exception may show only in the copies that carry it; the WORK_FAIL packets agree"
 pub record OneException (n : ℕ) (m w : Memory) (x y : Call) (xs ys : List Call) : Type 0 where
   pub packets : Packets (ButExceptions (tableIn n m) (x .event) (y .event)) x y (callOn n m x) (callOn n w y)
+  pub stored : serverOf n (kept (callOn n m x)) ≡ serverOf n (kept (callOn n w y))
   pub later : Both (Packets (λ a b. a ≡ b)) xs ys (resultsOf n xs (kept (callOn n m x))) (resultsOf n ys (kept (callOn n w y)))

@@ -1,11 +1,16 @@
 -- Laws of the tools on lists: how many numbers there are, what is made of each, and what a text in its place is. Assumes nothing.
 use Prim.Native.Nat.{ℕ, zero, suc, _+_, _<_}
 use mathlib.Core.Path.{_≡_, refl, ap, _∙_}
-use mathlib.Core.List.{[], _∷_, map}
+use mathlib.Core.List.{List, [], _∷_, _++_, map}
 use native.Mathlib.Omega.{arith}
 use lib.ListN.{length, getD, replicate}
 use Rattle.octets.specs.Bytes.{Bytes}
 use Rattle.lists.specs.Lists.{fit, numbers}
+
+-- one more number, at the end
+pub numbers-last : (i n : ℕ) → numbers i (suc n) ≡ numbers i n ++ ((i + n) ∷ [])
+numbers-last i zero = let e : i ≡ i + 0 = omega arith in ap (λ (k : ℕ). k ∷ []) e
+numbers-last i (suc n) = let e : suc i + n ≡ i + suc n = omega arith in ap (λ (l : List ℕ). i ∷ l) (numbers-last (suc i) n ∙ rw e)
 
 pub length-numbers : (i n : ℕ) → length (numbers i n) ≡ n
 length-numbers i zero = refl

@@ -27,6 +27,18 @@ pub implies-use : (a b : Bool) → implies a b ≡ true → a ≡ true → b ≡
 implies-use true b e h = e
 implies-use false b e h = clash h refl
 
+pub and-swap : (a b : Bool) → a && b ≡ b && a
+and-swap true true = refl
+and-swap true false = refl
+and-swap false true = refl
+and-swap false false = refl
+
+pub and-exchange : (a b c d : Bool) → (a && b) && (c && d) ≡ (a && c) && (b && d)
+and-exchange true true c d = refl
+and-exchange true false true d = refl
+and-exchange true false false d = refl
+and-exchange false b c d = refl
+
 pub or-off : (b : Bool) → b || false ≡ b
 or-off true = refl
 or-off false = refl
@@ -175,6 +187,12 @@ all2-mapFrom R f r i [] = All2.none
 all2-mapFrom R f r i (x ∷ l) = All2.more (r i x) (all2-mapFrom R f r (suc i) l)
 
 -- an entry set to the default is the default, inside the list or not; so is each of a list of defaults
+-- a place put anew as it is
+pub set-own : {A : Type 0} (l : List A) (i : ℕ) (d : A) → set l i (getD l i d) ≡ l
+set-own [] i d = refl
+set-own (x ∷ l) zero d = refl
+set-own (x ∷ l) (suc i) d = ap (λ (r : List _). x ∷ r) (set-own l i d)
+
 pub set-default : {A : Type 0} (l : List A) (i : ℕ) (d : A) → getD (set l i d) i d ≡ d
 set-default [] i d = refl
 set-default (x ∷ l) zero d = refl

@@ -139,7 +139,7 @@ unfolding firstZero
 zero-at [] h = absurd (not-suc-le-zero h)
 zero-at (x ∷ xs) h = zero-step x xs (eqb x 0) refl (zero-at xs) h
 
-clean-step : (n m : ℕ) (b : Bool) → cond b 0 (suc n) ≡ suc m → (b ≡ false) × (n ≡ m)
+pub clean-step : (n m : ℕ) (b : Bool) → cond b 0 (suc n) ≡ suc m → (b ≡ false) × (n ≡ m)
 clean-step n m true e = absurd (omega arith)
 clean-step n m false e = (refl, omega arith)
 

@@ -7,8 +7,8 @@ use mathlib.Core.List.{List, [], _∷_, _++_, append-assoc, append-nil}
 use native.Mathlib.Nat.{le-of-suc-le-suc, not-suc-le-zero}
 use native.Mathlib.Omega.{arith}
 use borrow.Author.Tests.{eqb-true}
-use lib.ListN.{length, getD, take, drop, replicate, length-append, length-replicate, take-append-drop, List·getD-append}
-use lib.Seq.{take-length, drop-length, length-take-le, take-at, drop-at}
+use lib.ListN.{length, getD, take, drop, replicate, length-append, length-take, length-replicate, take-append-drop, List·getD-append}
+use lib.Seq.{take-length, drop-length, length-take-le, drop-append-le, take-at, drop-at}
 use lib.Dec.{eqb}
 use Rattle.octets.specs.Bytes.{Bytes, startsWith, numberAt}
 use Rattle.octets.proofs.Strings.{and-left, and-right}
@@ -162,6 +162,17 @@ module _ (w : Direction) where
 pub visible-opaque : (w : Direction) (s : Bytes) → visible w s ++ opaque w s ≡ s
 unfolding visible opaque
 visible-opaque w s = take-append-drop (seen w s) s
+
+seen-most : (b : Bool) (m n : ℕ) → 12 ≤ n → 12 ≤ cond b (12 + m) n
+seen-most true m n h = omega arith
+seen-most false m n h = h
+
+-- of the data: what is shown and what is opaque is all of it
+pub data-whole : (w : Direction) (p : Bytes) → 12 ≤ length p → drop 12 (visible w p) ++ opaque w p ≡ drop 12 p
+unfolding visible seen
+data-whole w p h =
+    let l : 12 ≤ length (visible w p) = rw length-take (omega (arith, seen-most (hides w p) (past (separatorsOf (w .shape (numberAt p 4))) (drop 12 p)) (length p) h)) in
+    sym (drop-append-le 12 (visible w p) (opaque w p) l) ∙ ap (drop 12) (visible-opaque w p)
 
 -- equal lists of ends are equal ends
 ends-same : (bs cs : List Bytes) → endsFrom 12 bs ≡ endsFrom 12 cs → endsOf 12 bs ≡ endsOf 12 cs

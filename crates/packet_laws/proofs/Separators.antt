@@ -1,7 +1,7 @@
 -- Data in two parts: up to the last separator that the rules ask for, and the opaque bytes after it. How the data splits, and where
 -- the second part begins, follows from the first part alone. Assumes nothing.
 use Prim.Native.Nat.{ℕ, zero, suc, _+_, _<_}
-use mathlib.Core.Path.{_≡_, refl, ap, _∙_}
+use mathlib.Core.Path.{_≡_, refl, ap, sym, _∙_}
 use mathlib.Core.Bool.{Bool, true, false, cond}
 use mathlib.Core.List.{List, [], _∷_, _++_, append-assoc}
 use native.Mathlib.Numerals.{add-one}
@@ -115,6 +115,21 @@ pub last-replaced : (bs : List Bytes) (x y : Bytes) → withLast y (bs ++ (x ∷
 last-replaced [] x y = refl
 last-replaced (b ∷ []) x y = refl
 last-replaced (b ∷ (c ∷ bs)) x y = ap (λ (l : List Bytes). b ∷ l) (last-replaced (c ∷ bs) x y)
+
+-- the first of two stays
+pub first-kept : (o : Bytes) (args : List Bytes) → length args ≡ 2 → getD (withLast o args) 0 [] ≡ getD args 0 []
+first-kept o [] n = absurd (omega arith)
+first-kept o (a ∷ []) n = absurd (omega arith)
+first-kept o (a ∷ (b ∷ args)) n = refl
+
+-- what is made of the first two of three and of the length of the last stays, if that length does
+pub size-kept : {A : Type 0} (f : Bytes → Bytes → ℕ → A) (o : Bytes) (args : List Bytes) → length args ≡ 3 → length (getD args 2 []) ≡ length o
+    → f (getD (withLast o args) 0 []) (getD (withLast o args) 1 []) (length (getD (withLast o args) 2 [])) ≡ f (getD args 0 []) (getD args 1 []) (length (getD args 2 []))
+size-kept f o [] n l = absurd (omega arith)
+size-kept f o (a ∷ []) n l = absurd (omega arith)
+size-kept f o (a ∷ (b ∷ [])) n l = absurd (omega arith)
+size-kept f o (a ∷ (b ∷ (c ∷ []))) n l = ap (f a b) (sym l)
+size-kept f o (a ∷ (b ∷ (c ∷ (d ∷ args)))) n l = absurd (omega arith)
 
 pub last-at : (args : List Bytes) (n : ℕ) (y : Bytes) → length args ≡ suc n → getD (withLast y args) n [] ≡ y
 last-at [] n y l = absurd (omega arith)

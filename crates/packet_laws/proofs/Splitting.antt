@@ -1,6 +1,6 @@
 -- Splitting a packet's data into arguments and joining arguments to data are each other's inverse: what fits the rules is split
 -- back to the same arguments, and what splits is joined back to the same bytes. Assumes nothing.
-use Prim.Native.Nat.{ℕ, suc, _+_, _<_}
+use Prim.Native.Nat.{ℕ, suc, _+_, _<_, _≤_}
 use mathlib.Core.Path.{_≡_, refl, ap, _∙_, sym}
 use mathlib.Core.Bool.{Bool, true, false, not, cond, _&&_, _||_}
 use mathlib.Core.List.{List, [], _∷_, _++_}
@@ -71,6 +71,11 @@ fits-clean Flag a p e = flag-clean a _ _ refl refl e
 fits-clean AnyText a p e = eqb-true _ _ e
 fits-clean Opaque a p e = let z : _≡_ {A = ℕ} 0 1 = cc in absurd (omega arith)
 fits-clean Absent a p e = let z : _≡_ {A = ℕ} 0 1 = cc in absurd (omega arith)
+
+-- what fits is short
+pub text-short : (least most : ℕ) (a : Bytes) → fits (Text least most) a ≡ true → length a ≤ most
+unfolding fits
+text-short least most a e = leb-true (length a) most (and-right (leb least (length a)) _ (and-left (within least most (length a)) _ e))
 
 -- there are as many arguments as rules
 pub fit-length : (rs : List Rule) (args : List Bytes) → fitAll rs args ≡ true → length args ≡ length rs

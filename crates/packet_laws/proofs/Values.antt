@@ -2,34 +2,24 @@
 -- Assumes nothing.
 use Prim.Native.Nat.{ℕ, suc, _+_, _<_, _≤_, suc-le-suc}
 use mathlib.Core.Path.{_≡_, refl, sym, ap, ap₂, _∙_}
-use mathlib.Core.Bool.{true}
 use mathlib.Core.List.{List, [], _∷_}
 use native.Mathlib.Nat.{zero-add, add-zero}
 use native.Mathlib.Omega.{arith}
 use lib.ListN.{length, getD, drop}
 use Rattle.octets.specs.Bytes.{Bytes}
-use Rattle.octets.proofs.Strings.{and-right}
 use Rattle.packet.specs.declared.Ends.{Ends}
 use Rattle.packet.specs.declared.Read as R
-use Rattle.packet.specs.declared.Rule.{Rule}
 use Rattle.packet.specs.declared.Shape.{Shape}
 use Rattle.packet.specs.declared.Shape.the-variants.{Foreign, Empty, Function, Submission, WorkStatus, WorkData, Handle, Echo, OptionName, ClientId, Assignment, UniqueAssignment, Error, StatusAnswer}
 use Rattle.packet.specs.Layout.{rulesOf}
-use Rattle.packet.specs.Arguments.{fits, fitAll, endsOf}
+use Rattle.packet.specs.Arguments.{endsOf}
 use Rattle.packet.specs.Packet.{Direction, Reading, refused, got, read}
 use Rattle.packet.specs.Answers.{answerOf, argumentAt, argumentsFrom, valuesOf}
-use Rattle.packet_laws.proofs.Splitting.{split-join}
+use Rattle.packet_laws.proofs.Splitting.{split-join, fit-length}
 use Rattle.packet_laws.proofs.Packets.{Got, read-got}
 use Rattle.packet_laws.proofs.Places.{argument-read}
 
--- there are as many arguments as rules, and at most five
-fit-count : (rs : List Rule) (args : List Bytes) → fitAll rs args ≡ true → length args ≡ length rs
-unfolding fitAll
-fit-count [] [] e = refl
-fit-count [] (a ∷ as′) e = let z : _≡_ {A = ℕ} 0 1 = cc in absurd (omega arith)
-fit-count (r ∷ rs) [] e = let z : _≡_ {A = ℕ} 0 1 = cc in absurd (omega arith)
-fit-count (r ∷ rs) (a ∷ as′) e = ap suc (fit-count rs as′ (and-right (fits r a) (fitAll rs as′) e))
-
+-- at most five arguments
 rules-few : (shape : Shape) → length (rulesOf shape) ≤ 5
 unfolding rulesOf
 rules-few Foreign = omega arith
@@ -57,7 +47,7 @@ listed s ends (a ∷ as′) i h =
 values-got : (w : Direction) (s : Bytes) (kind : ℕ) (args : List Bytes) → read w s ≡ got kind args → argumentsFrom s (endsOf 12 args) 0 (length (rulesOf (w .shape kind))) ≡ args
 values-got w s kind args e =
     let g : Got w s kind args = read-got w s kind args e in
-    let n : length args ≡ length (rulesOf (w .shape kind)) = fit-count (rulesOf (w .shape kind)) args (split-join _ (drop 12 s) args (g .splits) .1) in
+    let n : length args ≡ length (rulesOf (w .shape kind)) = fit-length (rulesOf (w .shape kind)) args (split-join _ (drop 12 s) args (g .splits) .1) in
     let few : length (rulesOf (w .shape kind)) ≤ 5 = rules-few (w .shape kind) in
     ap (argumentsFrom s (endsOf 12 args) 0) (sym n) ∙ listed s (endsOf 12 args) args 0 (λ k l. ap (argumentAt s (endsOf 12 args)) (zero-add k) ∙ argument-read w s kind args e k (omega arith))
 

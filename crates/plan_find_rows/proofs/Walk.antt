@@ -24,7 +24,8 @@ use Rattle.plan.specs.Values.{valuesOf}
 use Rattle.table_rows.proofs.Reading.{row-place, able-inside, able-beyond}
 use Rattle.lists.proofs.Alike.{placed-at}
 use Rattle.table_passes.specs.Unions.{Joined}
-use Rattle.table_passes.proofs.Tests.{below-at, some-by}
+use Rattle.lists.proofs.Rows.{below-at}
+use Rattle.table_passes.proofs.Tests.{some-by}
 use Rattle.table_passes.proofs.Rows.{free-rows}
 use Rattle.plan_find_rows.specs.declared.queue.Best as Q′
 use Rattle.plan_find_rows.specs.Queue.{rankOf, staysBehind, BestOf}

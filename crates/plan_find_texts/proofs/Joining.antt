@@ -23,7 +23,7 @@ use Rattle.lists.specs.Places.{placed, unplaced}
 use Rattle.lists.proofs.Places.{searched}
 use Rattle.table_texts.specs.Places.{agree}
 use Rattle.lists.proofs.Searches.{found}
-use Rattle.lists.proofs.Rows.{clash, iff, all-at, pairwise-at}
+use Rattle.lists.proofs.Rows.{and-swap, clash, iff, all-at, pairwise-at}
 use Rattle.server.proofs.Rows.{in-range}
 use Rattle.server_laws.proofs.Sound.{Sound, rowMeans}
 use Rattle.plan_find_texts.specs.Uniques.{isFor, joinedAt, liesFor}
@@ -57,12 +57,6 @@ unique-found b sound q u w r h z e g =
     g ∙ ap placed k
 
 -- ---- tests in two orders
-
-and-swap : (a b : Bool) → a && b ≡ b && a
-and-swap true true = refl
-and-swap true false = refl
-and-swap false true = refl
-and-swap false false = refl
 
 alike : (l a b c d : Bool) → (l ≡ true → a ≡ d) → c ≡ true → (l && a) && b ≡ l && (c && (b && d))
 alike true a b c d h e = rw (h refl, e) (and-swap d b)

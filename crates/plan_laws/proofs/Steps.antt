@@ -18,7 +18,7 @@ use Rattle.lists.specs.Lists.{any, find, implies}
 use Rattle.lists.specs.declared.Place.the-variants.{At, Nowhere}
 use Rattle.lists.proofs.Cases.{cond-both}
 use Rattle.lists.proofs.Maps.{map-set, any-set-same}
-use Rattle.lists.proofs.Rows.{clash, or-right, all-row, all-at, all-set, row-set}
+use Rattle.lists.proofs.Rows.{clash, or-right, set-own, all-row, all-at, all-set, row-set}
 use Rattle.server.proofs.Rows.{in-range}
 use Rattle.lists.proofs.Searches.{found}
 use Rattle.server.specs.declared.Connection.{Connection}
@@ -187,11 +187,6 @@ module _ (w : Words) (c : ℕ) (t : Table) (ok : obeys t ≡ true) where
       (sym (ap (λ (z : Table). setFunction z q (withAble s (functionAt z q))) is
       ∙ (λ i. withFunctions ((ap (λ (z : Function). set (set (t .functions) q n) q (withAble s z)) (getD-set-same (t .functions) q n noFunction here) ∙ set-set (t .functions) q n x) i) t)))
       (cond-both (Within (length (t .functions))) (not (isEmpty s) || any (names q) (rowsOf t)) zero-le here)
-
-  set-own : {A : Type 0} (l : List A) (i : ℕ) (d : A) → set l i (getD l i d) ≡ l
-  set-own [] i d = refl
-  set-own (x ∷ l) zero d = refl
-  set-own (x ∷ l) (suc i) d = ap (λ (r : List _). x ∷ r) (set-own l i d)
 
   -- ---- a submission
 

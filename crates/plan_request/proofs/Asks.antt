@@ -21,6 +21,7 @@ use Rattle.packet.specs.Opaque.{endsOpaque, opaque, masked, withLast, withOpaqu
 use Rattle.packet_laws.proofs.Splitting.{split-join, fit-length}
 use Rattle.packet_laws.proofs.Packets.{Headed, header-good, Got, read-got, requests-well}
 use Rattle.packet_laws.proofs.Places.{argument-read}
+use Rattle.packet_laws.proofs.Separators.{first-kept, size-kept}
 use Rattle.packet_laws.proofs.Blindness.{read-masked, answer-masked, masked-length, opaque-at}
 use Rattle.packet_kinds.proofs.Tests.{bools, range-arm}
 use Rattle.server.specs.Requests.{Work, Request, submit, work, requested, fromReading, requestIn}
@@ -48,21 +49,6 @@ each-of P (x ∷ y ∷ ks) ps k (inr o) = each-of P (y ∷ ks) (ps .1) k o
 -- what a type asks of a list of arguments
 abbrev asksOf : ℕ → List Bytes → Request
 asksOf kind args = requested kind (getD args 0 []) (getD args 1 []) (getD args 2 [])
-
--- worker data leaves the handle as it is
-first-kept : (o : Bytes) (args : List Bytes) → length args ≡ 2 → getD (withLast o args) 0 [] ≡ getD args 0 []
-first-kept o [] n = absurd (omega arith)
-first-kept o (a ∷ []) n = absurd (omega arith)
-first-kept o (a ∷ (b ∷ args)) n = refl
-
--- a submission's workload counts by its length alone
-size-kept : (f : Bytes → Bytes → ℕ → Request) (o : Bytes) (args : List Bytes) → length args ≡ 3 → length (getD args 2 []) ≡ length o
-    → f (getD (withLast o args) 0 []) (getD (withLast o args) 1 []) (length (getD (withLast o args) 2 [])) ≡ f (getD args 0 []) (getD args 1 []) (length (getD args 2 []))
-size-kept f o [] n l = absurd (omega arith)
-size-kept f o (a ∷ []) n l = absurd (omega arith)
-size-kept f o (a ∷ (b ∷ [])) n l = absurd (omega arith)
-size-kept f o (a ∷ (b ∷ (c ∷ []))) n l = ap (f a b) (sym l)
-size-kept f o (a ∷ (b ∷ (c ∷ (d ∷ args)))) n l = absurd (omega arith)
 
 -- ---- types that end in an opaque argument
 

@@ -15,6 +15,7 @@ use Rattle.sets.proofs.Laws.{zero-has, has-union, has-only}
 use Rattle.server.specs.declared.Connection.{Connection}
 use Rattle.server.specs.declared.JobRow.{JobRow}
 use Rattle.lists.specs.Lists.{any, filter, mapFrom, numbers}
+use Rattle.lists.proofs.Lists.{numbers-last}
 use Rattle.server.specs.Sizes.{functionCount}
 use Rattle.server.specs.Table.{closed, live, queued, names, grabbable}
 use Rattle.server.specs.Events.{awake, wokenIn, toWakeIn}
@@ -139,10 +140,6 @@ has-to-wake busy cs c =
     has-awakened busy 0 0 cs c c (omega arith) ∙ ap (λ (b : Bool). b || (getD cs c closed .asleep && has busy c)) (zero-has c)
 
 -- ---- the members of a set are the numbers that belong to it
-
-numbers-last : (i n : ℕ) → numbers i (suc n) ≡ numbers i n ++ ((i + n) ∷ [])
-numbers-last i zero = let e : i ≡ i + 0 = omega arith in ap (λ (k : ℕ). k ∷ []) e
-numbers-last i (suc n) = let e : suc i + n ≡ i + suc n = omega arith in ap (λ (l : List ℕ). i ∷ l) (numbers-last (suc i) n ∙ rw e)
 
 filter-last : (p : ℕ → Bool) (l : List ℕ) (x : ℕ) → filter p (l ++ (x ∷ [])) ≡ filter p l ++ cond (p x) (x ∷ []) []
 filter-last p [] x = refl

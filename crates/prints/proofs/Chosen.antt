@@ -1,6 +1,6 @@
 -- The texts of those places of a list that pass a test, as a loop over the places lays them piece by piece: nothing for a place that does
 -- not pass. Assumes nothing.
-use Prim.Native.Nat.{ℕ, zero, suc, _+_, _≤_}
+use Prim.Native.Nat.{ℕ, zero, suc, _≤_}
 use mathlib.Core.Path.{_≡_, refl, ap, sym, _∙_}
 use mathlib.Core.Bool.{Bool, true, false, cond}
 use mathlib.Core.List.{List, [], _∷_, _++_, map, append-assoc, append-nil}
@@ -10,11 +10,8 @@ use lib.ListN.{length, getD, take}
 use lib.Seq.{take-suc}
 use Rattle.octets.specs.Bytes.{Bytes}
 use Rattle.lists.specs.Lists.{concat, filter, numbers}
+use Rattle.lists.proofs.Lists.{numbers-last}
 use Rattle.prints.specs.Pieces.{pieces}
-
-numbers-more : (i n : ℕ) → numbers i (suc n) ≡ numbers i n ++ ((i + n) ∷ [])
-numbers-more i zero = ap (λ (k : ℕ). k ∷ []) (omega arith)
-numbers-more i (suc n) = ap (λ (l : List ℕ). i ∷ l) (numbers-more (suc i) n ∙ ap (λ (k : ℕ). numbers (suc i) n ++ (k ∷ [])) (omega arith))
 
 module _ (f : ℕ → Bool) (g : ℕ → Bytes) where
   -- the piece of place x
@@ -48,4 +45,4 @@ module _ (f : ℕ → Bool) (g : ℕ → Bytes) where
   chosen-numbers zero = refl
   chosen-numbers (suc n) =
       ap (λ (s : Bytes). s ++ chosen n) (chosen-numbers n)
-      ∙ sym (ap (λ (r : List ℕ). concat (map g (filter f r))) (numbers-more 0 n ∙ ap (λ (k : ℕ). numbers 0 n ++ (k ∷ [])) (zero-add n)) ∙ one-more (numbers 0 n) n)
+      ∙ sym (ap (λ (r : List ℕ). concat (map g (filter f r))) (numbers-last 0 n ∙ ap (λ (k : ℕ). numbers 0 n ++ (k ∷ [])) (zero-add n)) ∙ one-more (numbers 0 n) n)

@@ -2,6 +2,7 @@ pub mod Numbers
 pub mod Outcome
 pub mod Refusals
 pub mod Requests
+pub mod Shapes
 pub mod Openness
 pub mod Sound
 pub mod Jobs

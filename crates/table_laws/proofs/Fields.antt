@@ -11,6 +11,7 @@ use lib.ListN.{length, getD, take, length-append}
 use lib.Seq.{getD-append-seam, append-snoc, take-at, drop-at, drop-cons}
 use lib.Dec.{eqb}
 use Rattle.octets.specs.Bytes.{Bytes, firstZero, zeroFree}
+use Rattle.octets.proofs.Strings.{clean-step}
 use Rattle.lists.specs.Lists.{fit}
 use Rattle.server.specs.Layout.{little, littleAt, flagByte, flagAt, textAt}
 use Rattle.lists.proofs.Lists.{length-fit}
@@ -100,10 +101,6 @@ flag-lies f b at l =
     rw e (flag-back f)
 
 -- ---- texts
-
-clean-step : (n m : ℕ) (b : Bool) → cond b 0 (suc n) ≡ suc m → (b ≡ false) × (n ≡ m)
-clean-step n m true e = absurd (omega arith)
-clean-step n m false e = (refl, omega arith)
 
 -- the text of a place is what stands before its first zero byte
 abbrev pub beforeZero : Bytes → Bytes

@@ -11,7 +11,8 @@ use lib.Dec.{eqb, leb, ltb}
 use Rattle.octets.proofs.Strings.{and-left, and-right, and-both}
 use Rattle.lists.specs.Lists.{all, pairwise, numbers}
 use Rattle.table_laws.proofs.Same.{all-true}
-use Rattle.table_passes.proofs.Tests.{all-more, and-same, below-at, below-by}
+use Rattle.lists.proofs.Rows.{below-at, below-by}
+use Rattle.table_passes.proofs.Tests.{all-more, and-same}
 
 -- ---- pairs of numbers
 

@@ -19,7 +19,7 @@ use Rattle.server.specs.Table.{Function, Job, closed, noFunction, connectionAt,
 use Rattle.server.specs.Layout.{littleAt, connectionIn, idIn, functionIn, rowIn, jobIn, tableOf, serialsAt}
 use Rattle.server.specs.Rules.{isKnown, asDefined, functionsAsDefined, sleeperIdle, sleepersIdleFrom, sleepersIdle}
 use Rattle.table_laws.proofs.Columns.{length-places, places-at}
-use Rattle.table_passes.proofs.Tests.{below-at}
+use Rattle.lists.proofs.Rows.{below-at}
 
 module _ {A : Type 0} {B : Type 0} (f : A → B) where
   all-read : (p : B → Bool) (l : List A) → all p (map f l) ≡ all (λ x. p (f x)) l

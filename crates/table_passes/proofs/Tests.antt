@@ -11,7 +11,8 @@ use lib.Bits.{bitOr, or-add-and, and-le-r, or-zero-l}
 use lib.Dec.{eqb, ltb}
 use Rattle.octets.proofs.Strings.{and-left, and-right}
 use Rattle.lists.specs.Lists.{any, all, numbers}
-use Rattle.table_laws.proofs.Same.{and-assoc, all-true, all-same}
+use Rattle.lists.proofs.Rows.{and-exchange}
+use Rattle.table_laws.proofs.Same.{and-assoc, all-same}
 
 -- ---- tests together
 
@@ -110,17 +111,6 @@ none-on p i found x e f = or-none found x ∙ and-same e f ∙ sym (all-next p i
 -- ---- one number of them
 
 module _ (p : ℕ → Bool) where
-  from-at : (i n k : ℕ) → all p (numbers i n) ≡ true → k < n → p (i + k) ≡ true
-  from-at i zero k e h = absurd (omega arith)
-  from-at i (suc n) zero e h = subst (λ (m : ℕ). p m ≡ true) (omega arith) (and-left (p i) _ e)
-  from-at i (suc n) (suc k) e h = subst (λ (m : ℕ). p m ≡ true) (omega arith) (from-at (suc i) n k (and-right (p i) _ e) (omega arith))
-
-  pub below-at : (n k : ℕ) → all p (numbers 0 n) ≡ true → k < n → p k ≡ true
-  below-at n k e h = subst (λ (m : ℕ). p m ≡ true) (zero-add k) (from-at 0 n k e h)
-
-  pub below-by : (n : ℕ) → ((k : ℕ) → k < n → p k ≡ true) → all p (numbers 0 n) ≡ true
-  below-by n f = all-true p 0 n (λ k _ h. f k (omega arith))
-
   some-from : (C : Type 0) (i n : ℕ) → any p (numbers i n) ≡ true → ((k : ℕ) → i ≤ k → k < i + n → p k ≡ true → C) → C
   some-from C i zero e f = absurd (true≢false (sym e))
   some-from C i (suc n) e f = go (p i) refl (λ q. some-from C (suc i) n (or-not (p i) _ e q) (λ k h g r. f k (omega arith) (omega arith) r))
@@ -154,15 +144,9 @@ module _ (p q : ℕ → Bool) (n : ℕ) where
   pub any-below : ((k : ℕ) → k < n → p k ≡ q k) → any p (numbers 0 n) ≡ any q (numbers 0 n)
   any-below f = any-alike 0 n (λ k _ h. f k (omega arith))
 
-pub swap : (a b c d : Bool) → (a && b) && (c && d) ≡ (a && c) && (b && d)
-swap true true c d = refl
-swap true false true d = refl
-swap true false false d = refl
-swap false b c d = refl
-
 pub all-and : {A : Type 0} (p q : A → Bool) (l : List A) → all (λ x. p x && q x) l ≡ all p l && all q l
 all-and p q [] = refl
-all-and p q (x ∷ l) = ap (λ (z : Bool). (p x && q x) && z) (all-and p q l) ∙ swap (p x) (q x) (all p l) (all q l)
+all-and p q (x ∷ l) = ap (λ (z : Bool). (p x && q x) && z) (all-and p q l) ∙ and-exchange (p x) (q x) (all p l) (all q l)
 
 or-swap : (a b c d : Bool) → (a || b) || (c || d) ≡ (a || c) || (b || d)
 or-swap true b c d = refl

@@ -4,7 +4,8 @@ use native.Mathlib.Omega.{arith}
 use denote.Ref.{now}
 use Rattle.octets.proofs.Runs.{laid-as}
 use Rattle.packet.specs.Arguments.{join}
-use Rattle.carry_packet.proofs.Answers.{digits-short, status-message, status-room, text-short}
+use Rattle.packet_laws.proofs.Splitting.{text-short}
+use Rattle.carry_packet.proofs.Answers.{digits-short, status-message, status-room}
 use Rattle.carry_packet.proofs.Laid.{data-laid, five-long, rest-laid}
 use borrow.Author.Needs.{needs}
 use Rattle.carry_packet.proofs.send_status.Statement.{statement}
