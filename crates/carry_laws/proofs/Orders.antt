@@ -20,9 +20,8 @@ use Rattle.packet.specs.Packet.{given, read, requests}
 use Rattle.packet.specs.Answers.{answerOf, argumentAt}
 use Rattle.packet_kinds.proofs.Tests.{bools, range-arm}
 use Rattle.packet_kinds.proofs.Shapes.{shapes}
-use Rattle.lists.specs.Lists.{find}
 use Rattle.lists.proofs.Searches.{found}
-use Rattle.server.specs.Table.{Table, noJob, jobAt, live, hasHandle}
+use Rattle.server.specs.Table.{Table, noJob, jobAt, live, hasHandle, jobOf}
 use Rattle.server.specs.Requests.{Work, tells, reports, ends, throws, Request, reset, preSleep, echo, bad, canDo, cantDo, identify, grab, submit, work, getStatus, option, requested}
 use Rattle.server.specs.Events.{Send, Decision}
 use Rattle.server_laws.proofs.Going.{best-found, grabbed-live}
@@ -100,7 +99,7 @@ module _ (c : ℕ) (t : Table) (whole : Whole t) (p : Bytes) (places : Ends) (ki
       let g : given 1 x y z (argumentAt p places 3) (argumentAt p places 4) ≡ f .arguments = forward-given p places 14 f Handle 1 _ _ _ _ _ refl refl refl refl refl refl refl in
       and-left (fits L.handle x) true (ap (fitAll (L.handle ∷ [])) g ∙ forward-sendable p places 14 f .fit)
 
-  status-orders : (o : Option ℕ) → find (λ j. hasHandle x (j .row)) (t .jobs) ≡ o → fits L.handle x ≡ true → Orders (planStatus o)
+  status-orders : (o : Option ℕ) → jobOf t x ≡ o → fits L.handle x ≡ true → Orders (planStatus o)
   unfolding hasHandle
   status-orders none e h = h
   status-orders (some q) e h =

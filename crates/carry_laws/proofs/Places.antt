@@ -13,12 +13,11 @@ use Rattle.octets.specs.Bytes.{Bytes, zeroFree, within, same}
 use Rattle.octets.proofs.Strings.{and-left, and-right}
 use Rattle.packet.specs.declared.Rule.the-variants.{Text, Digits}
 use Rattle.packet.specs.Arguments.{digits, fits}
-use Rattle.lists.specs.Lists.{find}
 use Rattle.lists.proofs.Searches.{found}
 use Rattle.server.specs.Sizes.{connectionCount, functionCount, jobCount}
 use Rattle.server.specs.Table.{Table, noRow, noJob, noFunction, rowsOf, live, known, roomFor, freeRow, freePlace, joined}
 use Rattle.server.specs.Requests.{Work, tells, reports, ends, throws, Request}
-use Rattle.server.specs.Events.{Send, Decision, holdsHandle}
+use Rattle.server.specs.Events.{Send, Decision, holdsHandle, heldJobOf}
 use Rattle.server_laws.proofs.Numbers.{rows-long}
 use Rattle.server_laws.proofs.Functions.{room}
 use Rattle.server_laws.proofs.Going.{best-found}
@@ -63,12 +62,12 @@ module _ (c : ℕ) (t : Table) (whole : Whole t) where
   unfolding joined
   joined-place f u p e = omega (arith, found _ noJob (t .jobs) (some p) e .inside, whole .jobs)
 
-  held-place : (h : Bytes) (p : ℕ) → find (λ j. holdsHandle c h (j .row)) (t .jobs) ≡ some p → p < jobCount
+  held-place : (h : Bytes) (p : ℕ) → heldJobOf t c h ≡ some p → p < jobCount
   held-place h p e = omega (arith, found (λ j. holdsHandle c h (j .row)) noJob (t .jobs) (some p) e .inside, whole .jobs)
 
   -- ---- the step
 
-  work-inside : (how : Work) (h : Bytes) (p : ℕ) → find (λ j. holdsHandle c h (j .row)) (t .jobs) ≡ some p → Inside (planWork (some p) how (valuesOf t) .step)
+  work-inside : (how : Work) (h : Bytes) (p : ℕ) → heldJobOf t c h ≡ some p → Inside (planWork (some p) how (valuesOf t) .step)
   unfolding planWork
   work-inside tells h p e = zero-le
   work-inside reports h p e = zero-le
@@ -109,7 +108,7 @@ module _ (w : Words) (c : ℕ) (t : Table) (whole : Whole t) (inside : c < conne
   abbrev Fits : Plan → Type 0
   Fits p = Fitting (p .change) (w .first) (w .second) (w .third)
 
-  work-fits : {how : Work} {n d : Bytes} (h : Bytes) → Says w how n d → Told how n d → (p : ℕ) → find (λ j. holdsHandle c h (j .row)) (t .jobs) ≡ some p → Fits (planWork (some p) how (valuesOf t))
+  work-fits : {how : Work} {n d : Bytes} (h : Bytes) → Says w how n d → Told how n d → (p : ℕ) → heldJobOf t c h ≡ some p → Fits (planWork (some p) how (valuesOf t))
   unfolding planWork
   work-fits h (that-tells n d) g p e = zero-le
   work-fits h that-reports g p e = (held-place c t whole h p e, digits-most 1 10 (w .second) (g .numerator), digits-most 1 10 (w .third) (g .denominator))

@@ -16,13 +16,13 @@ use Rattle.handle.specs.Handle.{handle, lap}
 use Rattle.handle.proofs.Handles.{handle-one-to-one}
 use Rattle.packet.specs.Packet.{Reading, refused, got, read, requests}
 use Rattle.packet_laws.proofs.Packets.{read-got}
-use Rattle.lists.specs.Lists.{any, find}
+use Rattle.lists.specs.Lists.{any}
 use Rattle.lists.proofs.Searches.{found}
 use Rattle.lists.proofs.Rows.{clash, never, or-left, or-right, all-at}
 use Rattle.server.specs.declared.Connection.{Connection}
 use Rattle.server.specs.Table.{Table, closed, noJob, connectionAt, jobAt, live, heldBy, hasHandle}
 use Rattle.server.specs.Requests.{Event, sends, Work, tells, reports, ends, throws, work, requested, fromReading, requestIn}
-use Rattle.server.specs.Events.{refuse, holdsHandle, workAt, served, isConnection, onlyIfOpen}
+use Rattle.server.specs.Events.{refuse, holdsHandle, workAt, served, isConnection, onlyIfOpen, heldJobOf}
 use Rattle.server.specs.Rules.{isOpen}
 use Rattle.server.specs.Server.{Server, decided, answer, next, after}
 use Rattle.server_laws.proofs.Serials.{Creates, Creation, nothing, one, creation, Numbered, numbered, grown-creates, last-kept, last-rises}
@@ -175,11 +175,11 @@ gone-ungiven n e s r h u g = never (given h (messagesOf e s)) (λ y. clash (give
 
 -- ---- late results
 
-nobody-holds : (c : ℕ) (h : Bytes) (t : Table) → stands h t ≡ false → find (λ j. holdsHandle c h (j .row)) (t .jobs) ≡ none
+nobody-holds : (c : ℕ) (h : Bytes) (t : Table) → stands h t ≡ false → heldJobOf t c h ≡ none
 unfolding holdsHandle hasHandle
-nobody-holds c h t g = go (find (λ j. holdsHandle c h (j .row)) (t .jobs)) refl
+nobody-holds c h t g = go (heldJobOf t c h) refl
   where
-    go : (o : Option ℕ) → find (λ j. holdsHandle c h (j .row)) (t .jobs) ≡ o → o ≡ none
+    go : (o : Option ℕ) → heldJobOf t c h ≡ o → o ≡ none
     go none e = refl
     go (some p) e =
         let f = found (λ j. holdsHandle c h (j .row)) noJob (t .jobs) (some p) e in

@@ -20,7 +20,7 @@ use Rattle.server.specs.Table.{Function, Job, Table, live, joins, joined, known
 use Rattle.server.specs.Requests.{Event, opens, closes, sends, Work, tells, reports, ends, throws, Request, reset, preSleep, echo, canDo, cantDo, identify, grab, submit, work, getStatus, option, requested, fromReading, requestIn}
 use Rattle.server.specs.Requests as R
 use Rattle.server.specs.Events as E
-use Rattle.server.specs.Events.{Decision, silence, refuse, settle, canDoAt, cantDoAt, grabAt, submitNew, submitTo, workAt, statusAt, optionIf, holdsHandle, exceptionsName, onlyIfOpen, onlyIfClosed}
+use Rattle.server.specs.Events.{Decision, silence, refuse, settle, canDoAt, cantDoAt, grabAt, submitNew, submitTo, workAt, statusAt, optionIf, holdsHandle, exceptionsName, onlyIfOpen, onlyIfClosed, heldJobOf}
 use Rattle.server.specs.Rules.{isKnown, isOpen}
 use Rattle.server.specs.Server.{answer, decided}
 use Rattle.server.specs.Layout.{tableOf}
@@ -209,11 +209,11 @@ module _ (c : ℕ) (t : Table) where
         rw (h .isAble, h .isNew, h .isWork′, h .isOption)
         (can-do-number (roomFor (t .functions) a) a ∙ ap (λ (x : Bool). cond (not x) 11 0) (room-some (t .functions) a) ∙ ap (λ (x : Bool). cond x 11 0) (not-not (not (any (λ x. same (x .name) a) (t .functions)) && all isKnown (t .functions))))
 
-    held-number : (how : Work) (k : ℕ) (n d : Bytes) → Tests kind false false true false → Number (workAt (find (λ j. holdsHandle c a (j .row)) (t .jobs)) how k c n d t .number)
+    held-number : (how : Work) (k : ℕ) (n d : Bytes) → Tests kind false false true false → Number (workAt (heldJobOf t c a) how k c n d t .number)
     unfolding first
     held-number how k n d h =
         rw (h .isAble, h .isNew, h .isWork′, h .isOption)
-        (work-number (find (λ j. holdsHandle c a (j .row)) (t .jobs)) how k n d ∙ ap (λ (x : Bool). cond (not x) 14 0) (find-any (λ j. holdsHandle c a (j .row)) (t .jobs)))
+        (work-number (heldJobOf t c a) how k n d ∙ ap (λ (x : Bool). cond (not x) 14 0) (find-any (λ j. holdsHandle c a (j .row)) (t .jobs)))
 
     named-number : Tests kind false false false true → Number (optionIf (same a exceptionsName) c a t .number)
     unfolding first

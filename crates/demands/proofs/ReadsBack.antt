@@ -23,13 +23,13 @@ use Rattle.packet_laws.proofs.Packets.{responses-well, Headed, header-good, Got
 use Rattle.packet_laws.proofs.Splitting.{split-join, text-short}
 use Rattle.packet_laws.proofs.RoundTrip.{packet-reads}
 use Rattle.packet_laws.proofs.Blindness.{data-whole}
-use Rattle.lists.specs.Lists.{fit, find}
+use Rattle.lists.specs.Lists.{fit}
 use Rattle.lists.proofs.Lists.{length-fit}
 use Rattle.lists.proofs.Searches.{found}
 use Rattle.lists.proofs.Rows.{clash, implies-use, all-at, all-row}
 use Rattle.lists.proofs.Cases.{All, all-more}
 use Rattle.server.specs.Sizes.{nameSize, uniqueSize}
-use Rattle.server.specs.Table.{Table, noFunction, noJob, functionAt, jobAt, live, queued, hasHandle}
+use Rattle.server.specs.Table.{Table, noFunction, noJob, functionAt, jobAt, live, queued, hasHandle, jobOf}
 use Rattle.server.specs.Rules.{textWithin, storedNumber, together}
 use Rattle.server.specs.Requests.{Event, sends, Work, requestIn, getStatus, echo, work}
 use Rattle.server.specs.Refusals.{isTold, errorText, refusalTexts}
@@ -271,7 +271,7 @@ module _ (e : Event) (s : Server) (to p : ℕ) (x : Texts (s .table) p) where
 -- ---- every event
 
 module _ (n : ℕ) (s : Server) (h : Running n s) where
-  reads-status : (c : ℕ) (b j : Bytes) (o : Option ℕ) → requestIn b ≡ getStatus j → find (λ x. hasHandle j (x .row)) (s .table .jobs) ≡ o → Reads (sends c b) s (plain c 20 (statusOf o j (s .table)))
+  reads-status : (c : ℕ) (b j : Bytes) (o : Option ℕ) → requestIn b ≡ getStatus j → jobOf (s .table) j ≡ o → Reads (sends c b) s (plain c 20 (statusOf o j (s .table)))
   unfolding hasHandle every
   reads-status c b j none q r = reads-plain _ s c 20 _ (status-sendable j _ _ false false (status-fits b j q) refl refl)
   reads-status c b j (some p) q r =

@@ -15,7 +15,7 @@ use Rattle.handle.specs.Handle.{handle, lap}
 use Rattle.handle.proofs.Handles.{handle-one-to-one}
 use Rattle.sets.specs.Sets.{has}
 use Rattle.packet.specs.Packet.{Reading, refused, got, read, requests}
-use Rattle.lists.specs.Lists.{find, implies}
+use Rattle.lists.specs.Lists.{implies}
 use Rattle.lists.proofs.Cases.{All}
 use Rattle.lists.proofs.Rows.{clash, never, or-left, any-imp, replicate-default}
 use Rattle.lists.proofs.Maps.{map-each}
@@ -23,7 +23,7 @@ use Rattle.lists.proofs.Searches.{found}
 use Rattle.server.specs.declared.Connection.{Connection}
 use Rattle.server.specs.Table.{Table, Job, closed, noJob, jobAt, live, heldBy, hasHandle, fresh}
 use Rattle.server.specs.Requests.{Event, sends, Work, tells, reports, ends, throws, Request, work, requestIn}
-use Rattle.server.specs.Events.{copy, Decision, refuse, silence, holdsHandle, hears, failure, toListener, worked, served, workAt, onlyIfOpen}
+use Rattle.server.specs.Events.{copy, Decision, refuse, silence, holdsHandle, hears, failure, toListener, worked, served, workAt, onlyIfOpen, heldJobOf}
 use Rattle.server.specs.Rules.{isOpen}
 use Rattle.server.specs.Sizes.{workloadsSize}
 use Rattle.server.specs.Layout.{tableSize}
@@ -167,9 +167,9 @@ module _ (n : ℕ) (s : Server) (r : Running n s) (d : ℕ) (b h : Bytes) (w : r
   unfolding decided onlyIfOpen
   decided-is = rw (opened .0, opened .1) (ap (λ (q : Request). served d q t) (asked .is))
 
-  held : (p : ℕ) × (find (λ j. holdsHandle d h (j .row)) (t .jobs) ≡ some p)
+  held : (p : ℕ) × (heldJobOf t d h ≡ some p)
   unfolding answer served
-  held = work-done (find (λ j. holdsHandle d h (j .row)) (t .jobs)) (asked .how) (asked .kind) d (asked .n) (asked .d) t (sym (ap (λ (x : Decision). x .number) decided-is) ∙ z)
+  held = work-done (heldJobOf t d h) (asked .how) (asked .kind) d (asked .n) (asked .d) t (sym (ap (λ (x : Decision). x .number) decided-is) ∙ z)
 
   held-at : At h t
   unfolding holdsHandle hasHandle

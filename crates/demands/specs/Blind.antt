@@ -9,10 +9,9 @@ use Rattle.octets.specs.Bytes.{Bytes}
 use Rattle.handle.specs.Handle.{handle, lap}
 use Rattle.sets.specs.Sets.{has}
 use Rattle.packet.specs.Packet.{got}
-use Rattle.lists.specs.Lists.{find}
 use Rattle.server.specs.Table.{Table, jobAt}
 use Rattle.server.specs.Requests.{Event, sends, Work, work, echo, requestIn}
-use Rattle.server.specs.Events.{holdsHandle, hears}
+use Rattle.server.specs.Events.{hears, heldJobOf}
 use Rattle.server.specs.Layout.{tableSize}
 use Rattle.server.specs.Call.{Result}
 use Rattle.server_calls.specs.History.{Call, Memory}
@@ -41,7 +40,7 @@ pub record AlikeResults (n : ℕ) (x y : Call) (r q : Result) : Type 0 where
 pub data Copied (t : Table) : Event → ℕ → ℕ → Type 0 where
   echoed : (c : ℕ) (b : Bytes) → requestIn b ≡ echo → Copied t (sends c b) c 17
   forwarded : (c : ℕ) (b : Bytes) (how : Work) (kind : ℕ) (h n d : Bytes) → requestIn b ≡ work how kind h n d
-      → (p : ℕ) → find (λ j. holdsHandle c h (j .row)) (t .jobs) ≡ some p → (l : ℕ) → has (jobAt t p .row .listeners) l ≡ true → hears how t l ≡ true → Copied t (sends c b) l kind
+      → (p : ℕ) → heldJobOf t c h ≡ some p → (l : ℕ) → has (jobAt t p .row .listeners) l ≡ true → hears how t l ≡ true → Copied t (sends c b) l kind
 
 -- two packets that the events e and f send: the same one, to the byte; or the copies, each with the arguments of its own event's packet
 pub data ButCopies (t : Table) (e f : Event) (a b : Addressed) : Type 0 where

@@ -20,9 +20,9 @@ use Rattle.lists.specs.Lists.{all, up, find, mapFrom}
 use Rattle.lists.proofs.Lists.{number-made}
 use Rattle.server.specs.declared.JobRow.{JobRow}
 use Rattle.server.specs.Sizes.{functionCount}
-use Rattle.server.specs.Table.{Function, Job, Table, noFunction, noRow, noJob, functionAt, rowsOf, ablesOf, live, heldBy, hasHandle, wanted}
+use Rattle.server.specs.Table.{Function, Job, Table, noFunction, noRow, noJob, functionAt, rowsOf, ablesOf, live, heldBy, hasHandle, wanted, jobOf}
 use Rattle.server.specs.Rules.{nextSmall, serialsBelow}
-use Rattle.server.specs.Events.{Send, lost, unlessLost, dropped, wokenIn, toWakeIn, toWake, forgot, settle, holdsHandle}
+use Rattle.server.specs.Events.{Send, lost, unlessLost, dropped, wokenIn, toWakeIn, toWake, forgot, settle, holdsHandle, heldJobOf}
 use Rattle.plan.specs.Values.{valuesOf, serialRow, heldRow, withConnectionRows, withAbles, withRows}
 use Rattle.plan.specs.Settling.{droppedRows, wantedIn, wantedMarks, settledValues}
 
@@ -121,20 +121,20 @@ module _ (t : Table) (h : Bytes) (small : nextSmall t ≡ true) (below : serials
   fits : (r : JobRow) → r .serial ≤ t .last → r .serial < 2 ^ 32
   fits r l = let k = ltb-true (t .last) 4294967296 small in omega arith
 
-  pub serial-values : (s : ℕ) → serialOf lap h ≡ Of s → find (λ j. hasHandle h (j .row)) (t .jobs) ≡ serialRow s (rowsOf t)
+  pub serial-values : (s : ℕ) → serialOf lap h ≡ Of s → jobOf t h ≡ serialRow s (rowsOf t)
   unfolding serialRow
   serial-values s e = find-same (hasHandle h) (λ r. live r && eqb (r .serial) s) (t .last) (λ r l. has-serial h s e r (fits r l)) (t .jobs) below
 
-  pub held-values : (c s : ℕ) → serialOf lap h ≡ Of s → find (λ j. holdsHandle c h (j .row)) (t .jobs) ≡ heldRow c s (rowsOf t)
+  pub held-values : (c s : ℕ) → serialOf lap h ≡ Of s → heldJobOf t c h ≡ heldRow c s (rowsOf t)
   unfolding heldRow
   held-values c s e =
       find-same (holdsHandle c h) (λ r. heldBy c r && eqb (r .serial) s) (t .last) (λ r l. holds-serial h s e c r (fits r l)) (t .jobs) below
 
   module _ (e : serialOf lap h ≡ None) where
-    pub serial-none : find (λ j. hasHandle h (j .row)) (t .jobs) ≡ none
+    pub serial-none : jobOf t h ≡ none
     serial-none = find-same (hasHandle h) (λ r. false) (t .last) (λ r l. no-serial h e r (fits r l)) (t .jobs) below ∙ find-nothing (rowsOf t)
 
-    pub held-none : (c : ℕ) → find (λ j. holdsHandle c h (j .row)) (t .jobs) ≡ none
+    pub held-none : (c : ℕ) → heldJobOf t c h ≡ none
     unfolding holdsHandle
     held-none c =
         find-same (holdsHandle c h) (λ r. false) (t .last) (λ r l. ap (λ (b : Bool). heldBy c r && b) (no-serial h e r (fits r l)) ∙ and-false (heldBy c r)) (t .jobs) below

@@ -7,10 +7,9 @@ use lib.Dec.{ltb}
 use Rattle.octets.specs.Bytes.{same}
 use Rattle.sets.specs.Sets.{insert, remove}
 use Rattle.server.specs.declared.Connection.{Connection}
-use Rattle.lists.specs.Lists.{find}
-use Rattle.server.specs.Table.{Table, withHolder, hasHandle, known, roomFor, best, freePlace, joined, justOpened, withAsleep}
+use Rattle.server.specs.Table.{Table, withHolder, known, roomFor, best, freePlace, joined, justOpened, withAsleep, jobOf}
 use Rattle.server.specs.Requests.{Work, tells, reports, ends, throws, Request, reset, preSleep, echo, bad, canDo, cantDo, identify, grab, submit, work, getStatus, option}
-use Rattle.server.specs.Events.{exceptionsName, catching, submittedBy, holdsHandle}
+use Rattle.server.specs.Events.{exceptionsName, catching, submittedBy, heldJobOf}
 use Rattle.plan.specs.declared.Values as V′
 use Rattle.plan.specs.declared.Change as C′
 use Rattle.plan.specs.declared.Change.the-variants as CV
@@ -95,7 +94,7 @@ planServed c preSleep t = done (SV.Flags c (sleepingRow true c (valuesOf t))) CV
 planServed c (grab uniq) t = planGrab (best t c) uniq c (valuesOf t)
 planServed c (submit priority background f u size) t =
     planSubmit (joined t f u) (roomFor (t .functions) f) (freePlace t) c priority background size (valuesOf t)
-planServed c (work how kind h n d) t = planWork (find (λ j. holdsHandle c h (j .row)) (t .jobs)) how (valuesOf t)
-planServed c (getStatus h) t = planStatus (find (λ j. hasHandle h (j .row)) (t .jobs))
+planServed c (work how kind h n d) t = planWork (heldJobOf t c h) how (valuesOf t)
+planServed c (getStatus h) t = planStatus (jobOf t h)
 planServed c (option name) t = planOption (same name exceptionsName) c (valuesOf t)
 planServed c echo t = done SV.Nothing CV.Nothing OV.Echo

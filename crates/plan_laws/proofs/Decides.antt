@@ -12,14 +12,13 @@ use lib.Dec.{eqb·suc-zero}
 use Rattle.octets.specs.Bytes.{Bytes, same}
 use Rattle.octets.proofs.Strings.{same-is}
 use Rattle.sets.specs.Sets.{has, insert, remove, members}
-use Rattle.lists.specs.Lists.{find}
 use Rattle.lists.proofs.Maps.{map-set, map-map}
 use Rattle.lists.proofs.Rows.{clash}
 use Rattle.server.specs.declared.JobRow.{JobRow}
 use Rattle.server.specs.Table.{Function, Job, Table, noRow, noJob, noFunction, closed, connectionAt, functionAt, jobAt, rowsOf, ablesOf, setConnection, setId, setFunction, setJob, withRow, withTexts, withHolder, live, heldBy, withName}
 use Rattle.server.specs.Rules.{obeys}
 use Rattle.server.specs.Requests.{Work, tells, reports, ends, throws, Request, reset, preSleep, echo, bad, canDo, cantDo, identify, grab, submit, work, getStatus, option}
-use Rattle.server.specs.Events.{Send, plain, copy, Decision, refuse, noop, settle, opening, closing, leftBy, deafTo, unable, ableTo, unableToAll, sleeping, submittedBy, created, newJob, accepted, holdsHandle, failure, toListeners, worked, listenersOf, statusOf, exceptionsName, catching, served, toWakeIn}
+use Rattle.server.specs.Events.{Send, plain, copy, Decision, refuse, noop, settle, opening, closing, leftBy, deafTo, unable, ableTo, unableToAll, sleeping, submittedBy, created, newJob, accepted, failure, toListeners, worked, listenersOf, statusOf, exceptionsName, catching, served, toWakeIn, heldJobOf}
 use Rattle.server.specs.Refusals.{lastNumber}
 use Rattle.server_laws.proofs.Numbers.{row-at, able-at}
 use Rattle.server_laws.proofs.Going.{grabbed-live, joined-found, held-found}
@@ -155,7 +154,7 @@ module _ (w : Words) (c : ℕ) (t : Table) (ok : obeys t ≡ true) where
   other-rows : (v : V′.Values) (p : ℕ) (j : Job) (r : JobRow) → j .row ≡ r → withRows (map (λ (k : Job). k .row) (set (t .jobs) p j)) v ≡ withRows (set (rowsOf t) p r) v
   other-rows v p j r e = ap (λ (l : List JobRow). withRows l v) (map-set (λ (k : Job). k .row) (t .jobs) p j ∙ ap (set (rowsOf t) p) e)
 
-  p-work : {how : Work} {n d : Bytes} (h : Bytes) → Says w how n d → (p : ℕ) → find (λ j. holdsHandle c h (j .row)) (t .jobs) ≡ some p
+  p-work : {how : Work} {n d : Bytes} (h : Bytes) → Says w how n d → (p : ℕ) → heldJobOf t c h ≡ some p
       → Planned w c t (planWork (some p) how (valuesOf t)) (settle (toListeners how (w .kind) t (jobAt t p .row)) (setJob t p (worked how n d (jobAt t p))))
   unfolding planWork changed ordered valuesOf stepped toListeners
   p-work h (that-tells n d) p e =

@@ -8,10 +8,9 @@ use mathlib.Core.List.{List}
 use lib.Dec.{ltb}
 use borrow.Author.Tests.{ltb-true}
 use Rattle.octets.specs.Bytes.{Bytes, same}
-use Rattle.lists.specs.Lists.{find}
 use Rattle.server.specs.Table.{Table, known, roomFor, best, freePlace, joined}
 use Rattle.server.specs.Requests.{Work, Request, reset, preSleep, echo, bad, canDo, cantDo, identify, grab, submit, work, getStatus, option}
-use Rattle.server.specs.Events.{Send, Decision, refuse, settle, canDoAt, cantDoAt, grabAt, submitNew, submitTo, holdsHandle, workAt, statusAt, exceptionsName, optionIf, served}
+use Rattle.server.specs.Events.{Send, Decision, refuse, settle, canDoAt, cantDoAt, grabAt, submitNew, submitTo, workAt, statusAt, exceptionsName, optionIf, served, heldJobOf}
 use Rattle.server_laws.proofs.Outcome.{Change, able, unknown, disabled, identified, cleared, slept, noJobFor, grabbed, joins, accepts, worker, status, optioned, echoed, Refuses, unread, noRoom, noFunction, noPlace, noSerial, notHeld, noOption}
 use Rattle.plan.specs.declared.Plan.{Plan}
 use Rattle.plan.specs.declared.Step.the-variants as SV
@@ -58,7 +57,7 @@ module _ (c : ℕ) (t : Table) where
   d-cantDo f none e = done (unknown f e)
   d-cantDo f (some q) e = done (disabled f q e)
 
-  d-work : (how : Work) (kind : ℕ) (h n d : Bytes) (o : Option ℕ) → find (λ j. holdsHandle c h (j .row)) (t .jobs) ≡ o
+  d-work : (how : Work) (kind : ℕ) (h n d : Bytes) (o : Option ℕ) → heldJobOf t c h ≡ o
       → Draws (work how kind h n d) (planWork o how (valuesOf t)) (workAt o how kind c n d t)
   unfolding workAt planWork
   d-work how kind h n d none e = refused _ _ (notHeld how kind h n d e)

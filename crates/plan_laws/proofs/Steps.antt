@@ -14,7 +14,7 @@ use Rattle.octets.specs.Bytes.{Bytes, same}
 use Rattle.octets.proofs.Strings.{and-left, and-right, and-both, and-false}
 use Rattle.sets.specs.Sets.{has, isEmpty, insert, remove, members}
 use Rattle.sets.proofs.Laws.{has-only}
-use Rattle.lists.specs.Lists.{any, find, implies}
+use Rattle.lists.specs.Lists.{any, implies}
 use Rattle.lists.specs.declared.Place.the-variants.{At, Nowhere}
 use Rattle.lists.proofs.Cases.{cond-both}
 use Rattle.lists.proofs.Maps.{map-set, any-set-same}
@@ -25,7 +25,7 @@ use Rattle.server.specs.declared.Connection.{Connection}
 use Rattle.server.specs.declared.JobRow.{JobRow}
 use Rattle.server.specs.Table.{Function, Job, Table, closed, noJob, noRow, noFunction, connectionAt, functionAt, jobAt, rowsOf, ablesOf, setConnection, setId, setFunction, setJob, withRow, withTexts, withHolder, live, queued, names, wanted, able, grabbable, roomFor, best, freeRow, freePlace, joined, withLastSerial, withFunctions, withJobs, justOpened, withName, withAble, freshRow, unstarted}
 use Rattle.server.specs.Requests.{Work, Request}
-use Rattle.server.specs.Events.{Send, Decision, dropped, newJob, accepted, submittedBy, holdsHandle, toWakeIn}
+use Rattle.server.specs.Events.{Send, Decision, dropped, newJob, accepted, submittedBy, holdsHandle, toWakeIn, heldJobOf}
 use Rattle.server.specs.Rules.{rowHasMeaning, obeys}
 use Rattle.server_laws.proofs.Numbers.{row-at, able-at, rows-long, row-passes}
 use Rattle.server_laws.proofs.Obeyed.{Obeyed, obeyed}
@@ -302,10 +302,10 @@ module _ (w : Words) (c : ℕ) (t : Table) (ok : obeys t ≡ true) where
 
   -- ---- worker packets
 
-  work-inside : (h : Bytes) (p : ℕ) → find (λ j. holdsHandle c h (j .row)) (t .jobs) ≡ some p → p < length (t .jobs)
+  work-inside : (h : Bytes) (p : ℕ) → heldJobOf t c h ≡ some p → p < length (t .jobs)
   work-inside h p e = found (λ j. holdsHandle c h (j .row)) noJob (t .jobs) (some p) e .inside
 
-  report-leans : (h : Bytes) (p : ℕ) (order : O′.Order) → find (λ j. holdsHandle c h (j .row)) (t .jobs) ≡ some p → Leans (done SV.Nothing (CV.Texts p) order)
+  report-leans : (h : Bytes) (p : ℕ) (order : O′.Order) → heldJobOf t c h ≡ some p → Leans (done SV.Nothing (CV.Texts p) order)
   unfolding stepped sparse changed ending valuesOf
   report-leans h p order e l =
       let k : Job = withTexts (w .second) (w .third) (jobAt t p) in
@@ -319,7 +319,7 @@ module _ (w : Words) (c : ℕ) (t : Table) (ok : obeys t ≡ true) where
       refl zero-le
 
   -- its function may be forgotten
-  end-leans : (h : Bytes) (p : ℕ) (order : O′.Order) → find (λ j. holdsHandle c h (j .row)) (t .jobs) ≡ some p → Leans (done (SV.End p) CV.Nothing order)
+  end-leans : (h : Bytes) (p : ℕ) (order : O′.Order) → heldJobOf t c h ≡ some p → Leans (done (SV.End p) CV.Nothing order)
   unfolding stepped sparse changed ending valuesOf
   end-leans h p order e l =
       let q : ℕ = getD (rowsOf t) p noRow .function in
@@ -341,7 +341,7 @@ module _ (w : Words) (c : ℕ) (t : Table) (ok : obeys t ≡ true) where
       refl
       (cond-both (Within (length (t .functions))) b zero-le here)
 
-  work-leans : {how : Work} {n d : Bytes} (h : Bytes) → Says w how n d → (p : ℕ) → find (λ j. holdsHandle c h (j .row)) (t .jobs) ≡ some p → Leans (planWork (some p) how (valuesOf t))
+  work-leans : {how : Work} {n d : Bytes} (h : Bytes) → Says w how n d → (p : ℕ) → heldJobOf t c h ≡ some p → Leans (planWork (some p) how (valuesOf t))
   unfolding planWork
   work-leans h (that-tells n d) p e = nothing-leans 0 (OV.Copies (rowIn (valuesOf t) p .listeners))
   work-leans h that-reports p e = report-leans h p (OV.Copies (rowIn (valuesOf t) p .listeners)) e

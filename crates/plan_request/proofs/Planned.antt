@@ -26,10 +26,10 @@ use Rattle.packet.specs.Packet.{read, requests}
 use Rattle.packet.specs.Answers.{answerOf, argumentAt}
 use Rattle.lists.specs.Lists.{find, numbers}
 use Rattle.server.specs.Sizes.{connectionCount, functionCount}
-use Rattle.server.specs.Table.{Table, hasHandle, known, roomFor, joined, ablesOf, rowsOf, freeRow, bestRow}
+use Rattle.server.specs.Table.{Table, known, roomFor, joined, ablesOf, rowsOf, freeRow, bestRow, jobOf}
 use Rattle.server.specs.Requests.{sends, Work, Request, work, requested, requestIn}
 use Rattle.server.specs.Requests as A
-use Rattle.server.specs.Events.{holdsHandle, exceptionsName}
+use Rattle.server.specs.Events.{exceptionsName, heldJobOf}
 use Rattle.server.specs.Layout.{tableOf}
 use Rattle.server.specs.Call.{isSound}
 use Rattle.lists.proofs.Places.{searched}
@@ -82,17 +82,17 @@ room-inside b f p e q h = omega (arith, sixteen b, F.room (tableOf connectionCou
 -- ---- jobs by handle: the handle's serial is looked for among the rows
 
 module _ (b h : Bytes) (sound : isSound connectionCount b ≡ true) where
-  pub job-found : (s : ℕ) (p : Place) → serialOf lap h ≡ Of s → p ≡ placed (serialRow s (rowsOf (tableOf connectionCount b))) → p ≡ placed (find (λ j. hasHandle h (j .row)) (tableOf connectionCount b .jobs))
+  pub job-found : (s : ℕ) (p : Place) → serialOf lap h ≡ Of s → p ≡ placed (serialRow s (rowsOf (tableOf connectionCount b))) → p ≡ placed (jobOf (tableOf connectionCount b) h)
   job-found s p e g = g ∙ ap placed (sym (serial-values (tableOf connectionCount b) h (sound-table b sound .small) (sound-table b sound .below) s e))
 
-  pub job-none : serialOf lap h ≡ None → Nowhere ≡ placed (find (λ j. hasHandle h (j .row)) (tableOf connectionCount b .jobs))
+  pub job-none : serialOf lap h ≡ None → Nowhere ≡ placed (jobOf (tableOf connectionCount b) h)
   job-none e = ap placed (sym (serial-none (tableOf connectionCount b) h (sound-table b sound .small) (sound-table b sound .below) e))
 
   module _ (c : ℕ) where
-    pub held-found : (s : ℕ) (p : Place) → serialOf lap h ≡ Of s → p ≡ placed (heldRow c s (rowsOf (tableOf connectionCount b))) → p ≡ placed (find (λ j. holdsHandle c h (j .row)) (tableOf connectionCount b .jobs))
+    pub held-found : (s : ℕ) (p : Place) → serialOf lap h ≡ Of s → p ≡ placed (heldRow c s (rowsOf (tableOf connectionCount b))) → p ≡ placed (heldJobOf (tableOf connectionCount b) c h)
     held-found s p e g = g ∙ ap placed (sym (held-values (tableOf connectionCount b) h (sound-table b sound .small) (sound-table b sound .below) c s e))
 
-    pub held-nothing : serialOf lap h ≡ None → Nowhere ≡ placed (find (λ j. holdsHandle c h (j .row)) (tableOf connectionCount b .jobs))
+    pub held-nothing : serialOf lap h ≡ None → Nowhere ≡ placed (heldJobOf (tableOf connectionCount b) c h)
     held-nothing e = ap placed (sym (held-none (tableOf connectionCount b) h (sound-table b sound .small) (sound-table b sound .below) e c))
 
 -- ---- names and sizes in a packet that was read
@@ -197,17 +197,17 @@ module _ (b p : Bytes) (c kind : ℕ) (ends : Ends) (e : answerOf (read requests
     unfolding requested planServed
     plan-option served r q g h = typed 26 r q (h ∙ rw (g, ef))
 
-    pub plan-status : (place : Place) (r : Plan) → kind ≡ 15 → place ≡ placed (find (λ j. hasHandle first (j .row)) (tableOf connectionCount b .jobs)) → r ≡ planStatus (unplaced place) → Answers r
+    pub plan-status : (place : Place) (r : Plan) → kind ≡ 15 → place ≡ placed (jobOf (tableOf connectionCount b) first) → r ≡ planStatus (unplaced place) → Answers r
     unfolding requested planServed
-    plan-status place r q g h = typed 15 r q (h ∙ rw (searched (find (λ j. hasHandle first (j .row)) (tableOf connectionCount b .jobs)) place g, ef))
+    plan-status place r q g h = typed 15 r q (h ∙ rw (searched (jobOf (tableOf connectionCount b) first) place g, ef))
 
     -- what a worker says of its job, held by the connection at this place
-    module _ (place : Place) (held : place ≡ placed (find (λ j. holdsHandle c first (j .row)) (tableOf connectionCount b .jobs))) (r : Plan) where
+    module _ (place : Place) (held : place ≡ placed (heldJobOf (tableOf connectionCount b) c first)) (r : Plan) where
       plan-work : (how : Work) (numerator denominator : Bytes) → requested kind (argument 0) (argument 1) (argument 2) ≡ work how kind (argument 0) numerator denominator
           → r ≡ planWork (unplaced place) how v → Answers r
       unfolding planServed
       plan-work how numerator denominator q h =
-          typed kind r refl (h ∙ rw (searched (find (λ j. holdsHandle c first (j .row)) (tableOf connectionCount b .jobs)) place held, q, ef))
+          typed kind r refl (h ∙ rw (searched (heldJobOf (tableOf connectionCount b) c first) place held, q, ef))
 
       pub plan-reports : kind ≡ 12 → r ≡ planWork (unplaced place) A.reports v → Answers r
       unfolding requested

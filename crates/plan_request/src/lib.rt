@@ -15,11 +15,10 @@ ghost use lib.ListN.{length};
 ghost use Rattle.packet.specs.declared.Read.the-variants as RV;
 ghost use Rattle.packet.specs.Packet.{read, requests};
 ghost use Rattle.packet.specs.Answers.{answerOf};
-ghost use Rattle.lists.specs.Lists.{find};
 ghost use Rattle.server.specs.Sizes.{connectionCount};
-ghost use Rattle.server.specs.Table.{best, hasHandle};
+ghost use Rattle.server.specs.Table.{best, jobOf};
 ghost use Rattle.server.specs.Requests.{requestIn};
-ghost use Rattle.server.specs.Events.{holdsHandle};
+ghost use Rattle.server.specs.Events.{heldJobOf};
 ghost use Rattle.server.specs.Layout.{tableOf, tableSize};
 ghost use Rattle.server.specs.Call.{isSound};
 ghost use Rattle.lists.specs.Places.{placed};
@@ -30,7 +29,7 @@ ghost use Rattle.plan_request.specs.Submissions.{Submits};
 // The place of the job that connection c holds under this handle: nowhere, where the text is no handle.
 fn held(table: &[u8], c: usize, handle: &[u8]) -> Place
     requires { ⌜ (isSound connectionCount (now table) ≡ true) × (tableSize connectionCount ≤ length (now table)) × (c < connectionCount) ⌝ }
-    ensures { λ r. ⌜ r ≡ placed (find (λ j. holdsHandle c (now (handle .entry)) (j .row)) (tableOf connectionCount (now (table .entry)) .jobs)) ⌝ }
+    ensures { λ r. ⌜ r ≡ placed (heldJobOf (tableOf connectionCount (now (table .entry))) c (now (handle .entry))) ⌝ }
 {
     match handle::serial_of(handle) {
         Serial::Of(serial) => plan_find_rows::held_row(table, c, serial),
@@ -41,7 +40,7 @@ fn held(table: &[u8], c: usize, handle: &[u8]) -> Place
 // The place of the unfinished job with this handle, whoever holds it: nowhere, where the text is no handle.
 fn found(table: &[u8], handle: &[u8]) -> Place
     requires { ⌜ (isSound connectionCount (now table) ≡ true) × (tableSize connectionCount ≤ length (now table)) ⌝ }
-    ensures { λ r. ⌜ r ≡ placed (find (λ j. hasHandle (now (handle .entry)) (j .row)) (tableOf connectionCount (now (table .entry)) .jobs)) ⌝ }
+    ensures { λ r. ⌜ r ≡ placed (jobOf (tableOf connectionCount (now (table .entry))) (now (handle .entry))) ⌝ }
 {
     match handle::serial_of(handle) {
         Serial::Of(serial) => plan_find_rows::serial_row(table, serial),

@@ -12,7 +12,7 @@ use Rattle.sets.specs.Sets.{insert, remove, isEmpty, members}
 use Rattle.server.specs.declared.Connection.{Connection}
 use Rattle.server.specs.declared.JobRow.{JobRow}
 use Rattle.lists.specs.Lists.{any, find, filter, mapFrom, numbers}
-use Rattle.server.specs.Table.{Function, Job, Table, closed, noFunction, noJob, connectionAt, functionAt, jobAt, withLastSerial, withConnections, withFunctions, withJobs, setConnection, setId, setFunction, setJob, justOpened, withAsleep, withExceptions, withName, withAble, freshRow, withListeners, inBackground, withHolder, withRow, withTexts, unstarted, queued, heldBy, hasHandle, rowsOf, ablesOf, known, roomFor, wanted, grabbable, best, freePlace, joined}
+use Rattle.server.specs.Table.{Function, Job, Table, closed, noFunction, noJob, connectionAt, functionAt, jobAt, withLastSerial, withConnections, withFunctions, withJobs, setConnection, setId, setFunction, setJob, justOpened, withAsleep, withExceptions, withName, withAble, freshRow, withListeners, inBackground, withHolder, withRow, withTexts, unstarted, queued, heldBy, hasHandle, rowsOf, ablesOf, known, roomFor, wanted, grabbable, best, freePlace, joined, jobOf}
 use Rattle.server.specs.Refusals.{errorText, isTold}
 use Rattle.server.specs.Requests.{Work, tells, reports, ends, throws, Request, reset, preSleep, echo, bad, canDo, cantDo, identify, grab, submit, work, getStatus, option}
 
@@ -180,6 +180,10 @@ submitTo none c priority background f u size t = submitNew (roomFor (t .function
 unfoldable pub holdsHandle : ℕ → Bytes → JobRow → Bool
 holdsHandle c h r = heldBy c r && hasHandle h r
 
+-- the place of the job that connection c holds under this handle
+abbrev pub heldJobOf : Table → ℕ → Bytes → Option ℕ
+heldJobOf t c h = find (λ j. holdsHandle c h (j .row)) (t .jobs)
+
 -- who gets the copy. 01: "Worker packets go to all listeners. [..] 25 ends the job and goes only to listeners that set `exceptions`."
 abbrev pub hears : Work → Table → ℕ → Bool
 hears tells t l = true
@@ -253,8 +257,8 @@ served c reset t = settle [] (unableToAll c t)
 served c preSleep t = settle [] (sleeping true c t)
 served c (grab uniq) t = grabAt (best t c) uniq c (sleeping false c t)
 served c (submit priority background f u size) t = submitTo (joined t f u) c priority background f u size t
-served c (work how kind h n d) t = workAt (find (λ j. holdsHandle c h (j .row)) (t .jobs)) how kind c n d t
-served c (getStatus h) t = statusAt (find (λ j. hasHandle h (j .row)) (t .jobs)) c h t
+served c (work how kind h n d) t = workAt (heldJobOf t c h) how kind c n d t
+served c (getStatus h) t = statusAt (jobOf t h) c h t
 served c (option name) t = optionIf (same name exceptionsName) c name t
 served c echo t = settle (copy c 17 ∷ []) t
 

@@ -152,6 +152,10 @@ heldBy c r = live r && eqb (r .holder) (suc c)
 unfoldable pub hasHandle : Bytes → JobRow → Bool
 hasHandle h r = live r && same (handle lap (r .serial)) h
 
+-- the place of the unfinished job with this handle
+abbrev pub jobOf : Table → Bytes → Option ℕ
+jobOf t h = find (λ j. hasHandle h (j .row)) (t .jobs)
+
 -- ---- the numbers that rules and searches look at
 
 -- the rows of the jobs

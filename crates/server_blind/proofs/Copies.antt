@@ -8,10 +8,9 @@ use mathlib.Core.Option.{some}
 use mathlib.Core.List.{List, map}
 use Rattle.octets.specs.Bytes.{Bytes}
 use Rattle.sets.specs.Sets.{has}
-use Rattle.lists.specs.Lists.{find}
 use Rattle.server.specs.Table.{Table, jobAt}
 use Rattle.server.specs.Requests.{Event, sends, Work, Request, echo, work, requestIn}
-use Rattle.server.specs.Events.{Send, plain, copy, assign, holdsHandle, hears}
+use Rattle.server.specs.Events.{Send, plain, copy, assign, hears, heldJobOf}
 use Rattle.server.specs.Server.{Server, Sent, render, answer}
 use Rattle.lists.proofs.Cases.{All, All2, all-more}
 use Rattle.server_laws.proofs.Packets.{Sends, why-sent}
@@ -20,7 +19,7 @@ use Rattle.server_blind.proofs.Alike.{Alike, Like, decided-alike, like-
 -- connection l listens to the job with this handle, which connection c holds
 pub record Listens (c : ℕ) (t : Table) (h : Bytes) (l : ℕ) : Type 0 where
   pub place : ℕ
-  pub held : find (λ j. holdsHandle c h (j .row)) (t .jobs) ≡ some place
+  pub held : heldJobOf t c h ≡ some place
   pub listens : has (jobAt t place .row .listeners) l ≡ true
 
 -- connection l may see the opaque bytes of what connection c asks: its own echo, and what is told of a job to which it listens; 02: "a

@@ -16,10 +16,10 @@ use Rattle.handle.specs.Handle.{handle, lap}
 use Rattle.handle.proofs.Handles.{handle-most}
 use Rattle.packet.specs.Arguments.{join}
 use Rattle.sets.specs.Sets.{has, members}
-use Rattle.lists.specs.Lists.{find, filter, numbers}
+use Rattle.lists.specs.Lists.{filter, numbers}
 use Rattle.server.specs.Sizes.{outputSize}
 use Rattle.server.specs.declared.JobRow.{JobRow}
-use Rattle.server.specs.Table.{Table, noJob, connectionAt, functionAt, jobAt, rowsOf, ablesOf, setJob, hasHandle}
+use Rattle.server.specs.Table.{Table, noJob, connectionAt, functionAt, jobAt, rowsOf, ablesOf, setJob, hasHandle, jobOf}
 use Rattle.server.specs.Rules.{together}
 use Rattle.server.specs.Refusals.{refusalTexts, isTold}
 use Rattle.server.specs.Requests.{Event, sends, Work, Request, echo, work, requestIn}
@@ -167,7 +167,7 @@ module _ (n : ℕ) (few : n ≤ 256) (e : Event) (s : Server) (h : Running n s) 
       let k = h .shaped .connections in
       rw (worker-wakes-nobody t p how x y (obeyed t (h .rules) .idle), weigh-append e s (map (toListener how kind t r) ls) [], weigh-none e s) (omega arith)
 
-  status-at-weight : (c : ℕ) (j : Bytes) (o : Option ℕ) → find (λ k. hasHandle j (k .row)) (s .table .jobs) ≡ o → length j ≤ 1024
+  status-at-weight : (c : ℕ) (j : Bytes) (o : Option ℕ) → jobOf (s .table) j ≡ o → length j ≤ 1024
       → decided e s ≡ statusAt o c j (s .table) → weighs e s (statusAt o c j (s .table) .packets) ≤ outputSize n
   unfolding statusAt
   status-at-weight c j none f l q = one-weight _ (s .table) q (status-weight e s c j false false (flag false) (flag false) l (omega arith) (omega arith))

@@ -14,10 +14,9 @@ use Rattle.packet.specs.Layout.{function, unique}
 use Rattle.packet.specs.Arguments.{fits}
 use Rattle.server.specs.declared.Connection.{Connection}
 use Rattle.server.specs.declared.JobRow.{JobRow}
-use Rattle.lists.specs.Lists.{find}
 use Rattle.server.specs.Table.{Job, Table, noJob, connectionAt, jobAt, setConnection, withRow, withTexts, withHolder, rowsOf, ablesOf, noRow, live, queued, heldBy, grabbable, rank, greatest, bestRow, best, freeRow, freePlace, joins, joined}
 use Rattle.server.specs.Requests.{Work, tells, reports, ends, throws}
-use Rattle.server.specs.Events.{sleeping, submittedBy, holdsHandle, worked}
+use Rattle.server.specs.Events.{sleeping, submittedBy, holdsHandle, worked, heldJobOf}
 use Rattle.server.specs.Rules.{storedNumber, rowHasMeaning, isOpen}
 use Rattle.lists.proofs.Searches.{found}
 use Rattle.lists.proofs.Rows.{implies-by, all-imp, all-set}
@@ -91,7 +90,7 @@ pub joined-inside : (t : Table) (f u : Bytes) (p : ℕ) → joined t f u ≡ som
 unfolding joined
 joined-inside t f u p e = found (joins (t .functions) f u) noJob (t .jobs) (some p) e .inside
 
-pub held-found : (t : Table) (c : ℕ) (h : Bytes) (p : ℕ) → find (λ j. holdsHandle c h (j .row)) (t .jobs) ≡ some p → live (jobAt t p .row) ≡ true
+pub held-found : (t : Table) (c : ℕ) (h : Bytes) (p : ℕ) → heldJobOf t c h ≡ some p → live (jobAt t p .row) ≡ true
 unfolding holdsHandle
 held-found t c h p e =
     and-left (live (jobAt t p .row)) _ (and-left (heldBy c (jobAt t p .row)) _ (found (λ j. holdsHandle c h (j .row)) noJob (t .jobs) (some p) e .passes))

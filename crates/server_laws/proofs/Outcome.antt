@@ -9,11 +9,10 @@ use lib.ListN.{length}
 use lib.Dec.{ltb}
 use borrow.Author.Tests.{ltb-true, lt-ltb}
 use Rattle.octets.specs.Bytes.{Bytes, same}
-use Rattle.lists.specs.Lists.{find}
 use Rattle.lists.proofs.Cases.{cond-cases}
-use Rattle.server.specs.Table.{Table, connectionAt, functionAt, jobAt, setConnection, setId, setFunction, setJob, withRow, withHolder, hasHandle, known, roomFor, best, freePlace, joined}
+use Rattle.server.specs.Table.{Table, connectionAt, functionAt, jobAt, setConnection, setId, setFunction, setJob, withRow, withHolder, known, roomFor, best, freePlace, joined, jobOf}
 use Rattle.server.specs.Requests.{Event, opens, closes, sends, Work, Request, reset, preSleep, echo, bad, canDo, cantDo, identify, grab, submit, work, getStatus, option, requestIn}
-use Rattle.server.specs.Events.{Send, plain, copy, assign, Decision, silence, refuse, settle, opening, closing, ableTo, unable, canDoAt, cantDoAt, unableToAll, sleeping, grabAt, submittedBy, created, newJob, accepted, submitNew, submitTo, holdsHandle, toListeners, worked, workAt, statusOf, statusAt, exceptionsName, catching, optionIf, served, isConnection, onlyIfOpen, onlyIfClosed}
+use Rattle.server.specs.Events.{Send, plain, copy, assign, Decision, silence, refuse, settle, opening, closing, ableTo, unable, canDoAt, cantDoAt, unableToAll, sleeping, grabAt, submittedBy, created, newJob, accepted, submitNew, submitTo, toListeners, worked, workAt, statusOf, statusAt, exceptionsName, catching, optionIf, served, isConnection, onlyIfOpen, onlyIfClosed, heldJobOf}
 use Rattle.server.specs.Server.{Server, decided}
 
 -- ---- what a request that is done changes and sends, before the table is settled
@@ -32,9 +31,9 @@ pub data Change (c : ℕ) (t : Table) : Request → List Send → Table → Type
       → Change c t (submit priority background f u size) (created c (jobAt t p .row .serial) ∷ []) (setJob t p (withRow (submittedBy c background (jobAt t p .row)) (jobAt t p)))
   accepts : (priority : ℕ) (background : Bool) (f u : Bytes) (size q p : ℕ) → joined t f u ≡ none → roomFor (t .functions) f ≡ some q → freePlace t ≡ some p → t .last < 4294967295
       → Change c t (submit priority background f u size) (created c (suc (t .last)) ∷ []) (accepted q f p (newJob c priority background q u size (suc (t .last))) t)
-  worker : (how : Work) (kind : ℕ) (h n d : Bytes) (p : ℕ) → find (λ j. holdsHandle c h (j .row)) (t .jobs) ≡ some p
+  worker : (how : Work) (kind : ℕ) (h n d : Bytes) (p : ℕ) → heldJobOf t c h ≡ some p
       → Change c t (work how kind h n d) (toListeners how kind t (jobAt t p .row)) (setJob t p (worked how n d (jobAt t p)))
-  status : (h : Bytes) (o : Option ℕ) → find (λ j. hasHandle h (j .row)) (t .jobs) ≡ o → Change c t (getStatus h) (plain c 20 (statusOf o h t) ∷ []) t
+  status : (h : Bytes) (o : Option ℕ) → jobOf t h ≡ o → Change c t (getStatus h) (plain c 20 (statusOf o h t) ∷ []) t
   optioned : (name : Bytes) → same name exceptionsName ≡ true → Change c t (option name) (plain c 27 (name ∷ []) ∷ []) (setConnection t c (catching (connectionAt t c)))
   echoed : Change c t echo (copy c 17 ∷ []) t
 
@@ -48,7 +47,7 @@ pub data Refuses (c : ℕ) (t : Table) : Request → ℕ → Type 0 where
       → Refuses c t (submit priority background f u size) 12
   noSerial : (priority : ℕ) (background : Bool) (f u : Bytes) (size q p : ℕ) → joined t f u ≡ none → roomFor (t .functions) f ≡ some q → freePlace t ≡ some p
       → ltb (t .last) 4294967295 ≡ false → Refuses c t (submit priority background f u size) 13
-  notHeld : (how : Work) (kind : ℕ) (h n d : Bytes) → find (λ j. holdsHandle c h (j .row)) (t .jobs) ≡ none → Refuses c t (work how kind h n d) 14
+  notHeld : (how : Work) (kind : ℕ) (h n d : Bytes) → heldJobOf t c h ≡ none → Refuses c t (work how kind h n d) 14
   noOption : (name : Bytes) → same name exceptionsName ≡ false → Refuses c t (option name) 15
 
 -- a request on a connection that is open
@@ -102,12 +101,12 @@ module _ (c : ℕ) (t : Table) where
   o-grab uniq none e = ok (noJobFor uniq e)
   o-grab uniq (some p) e = ok (grabbed uniq p e)
 
-  o-work : (how : Work) (kind : ℕ) (h n d : Bytes) (o : Option ℕ) → find (λ j. holdsHandle c h (j .row)) (t .jobs) ≡ o → Served c t (work how kind h n d) (workAt o how kind c n d t)
+  o-work : (how : Work) (kind : ℕ) (h n d : Bytes) (o : Option ℕ) → heldJobOf t c h ≡ o → Served c t (work how kind h n d) (workAt o how kind c n d t)
   unfolding workAt
   o-work how kind h n d none e = refused _ _ (notHeld how kind h n d e)
   o-work how kind h n d (some p) e = ok (worker how kind h n d p e)
 
-  o-status : (h : Bytes) (o : Option ℕ) → find (λ j. hasHandle h (j .row)) (t .jobs) ≡ o → Served c t (getStatus h) (statusAt o c h t)
+  o-status : (h : Bytes) (o : Option ℕ) → jobOf t h ≡ o → Served c t (getStatus h) (statusAt o c h t)
   unfolding statusAt
   o-status h o e = ok (status h o e)
 

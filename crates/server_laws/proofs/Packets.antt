@@ -8,13 +8,12 @@ use mathlib.Core.List.{List, [], _∷_}
 use lib.ListN.{length}
 use Rattle.octets.specs.Bytes.{Bytes, same}
 use Rattle.sets.specs.Sets.{has, members}
-use Rattle.lists.specs.Lists.{find}
 use Rattle.lists.proofs.Cases.{All, cond-cases, all-append, all-map, all-any}
 use Rattle.server.specs.declared.JobRow.{JobRow}
-use Rattle.server.specs.Table.{Table, jobAt, hasHandle, best, joined}
+use Rattle.server.specs.Table.{Table, jobAt, best, joined, jobOf}
 use Rattle.server.specs.Requests.{Event, sends, Work, Request, grab, submit, work, getStatus, option, echo, requestIn}
 use Rattle.server.specs.Refusals.{isTold}
-use Rattle.server.specs.Events.{Send, plain, copy, assign, Decision, silence, refuse, settle, error, noop, created, dropped, toWake, unableToAll, sleeping, holdsHandle, hears, failure, toListener, toListeners, statusOf, exceptionsName}
+use Rattle.server.specs.Events.{Send, plain, copy, assign, Decision, silence, refuse, settle, error, noop, created, dropped, toWake, unableToAll, sleeping, hears, failure, toListener, toListeners, statusOf, exceptionsName, heldJobOf}
 use Rattle.server.specs.Server.{Server, decided}
 use Rattle.server_laws.proofs.Outcome.{Change, Served, Outcome, outcome}
 use Rattle.server_laws.proofs.Places.{settled-last}
@@ -28,11 +27,11 @@ pub data Sends (t : Table) (last : ℕ) : Event → Send → Type 0 where
       → Sends t last (sends c b) (created c (jobAt t p .row .serial))
   handle-made : (c : ℕ) (b : Bytes) (priority : ℕ) (background : Bool) (f u : Bytes) (size : ℕ) → requestIn b ≡ submit priority background f u size → t .last < 4294967295 → last ≡ suc (t .last)
       → Sends t last (sends c b) (created c (suc (t .last)))
-  a-copy : (c : ℕ) (b : Bytes) (how : Work) (kind : ℕ) (h n d : Bytes) → requestIn b ≡ work how kind h n d → (p : ℕ) → find (λ j. holdsHandle c h (j .row)) (t .jobs) ≡ some p
+  a-copy : (c : ℕ) (b : Bytes) (how : Work) (kind : ℕ) (h n d : Bytes) → requestIn b ≡ work how kind h n d → (p : ℕ) → heldJobOf t c h ≡ some p
       → (l : ℕ) → has (jobAt t p .row .listeners) l ≡ true → hears how t l ≡ true → Sends t last (sends c b) (copy l kind)
-  a-failure : (c : ℕ) (b : Bytes) (how : Work) (kind : ℕ) (h n d : Bytes) → requestIn b ≡ work how kind h n d → (p : ℕ) → find (λ j. holdsHandle c h (j .row)) (t .jobs) ≡ some p
+  a-failure : (c : ℕ) (b : Bytes) (how : Work) (kind : ℕ) (h n d : Bytes) → requestIn b ≡ work how kind h n d → (p : ℕ) → heldJobOf t c h ≡ some p
       → (l : ℕ) → has (jobAt t p .row .listeners) l ≡ true → hears how t l ≡ false → Sends t last (sends c b) (failure (jobAt t p .row .serial) l)
-  a-status : (c : ℕ) (b h : Bytes) → requestIn b ≡ getStatus h → (o : Option ℕ) → find (λ j. hasHandle h (j .row)) (t .jobs) ≡ o → Sends t last (sends c b) (plain c 20 (statusOf o h t))
+  a-status : (c : ℕ) (b h : Bytes) → requestIn b ≡ getStatus h → (o : Option ℕ) → jobOf t h ≡ o → Sends t last (sends c b) (plain c 20 (statusOf o h t))
   an-option : (c : ℕ) (b name : Bytes) → requestIn b ≡ option name → same name exceptionsName ≡ true → Sends t last (sends c b) (plain c 27 (name ∷ []))
   an-echo : (c : ℕ) (b : Bytes) → requestIn b ≡ echo → Sends t last (sends c b) (copy c 17)
   a-noop : {e : Event} (l : ℕ) → Sends t last e (noop l)

@@ -10,14 +10,13 @@ use borrow.Author.Tests.{lt-ltb}
 use lib.ListN.{length, getD, set, List·getD-map}
 use lib.Dec.{ltb}
 use Rattle.octets.specs.Bytes.{Bytes}
-use Rattle.lists.specs.Lists.{find}
 use Rattle.lists.proofs.Cases.{cond-cases}
 use Rattle.lists.proofs.Rows.{clash, each-set}
 use Rattle.lists.proofs.Searches.{found}
 use Rattle.server.specs.Table.{Job, Table, noJob, jobAt, withRow, withHolder, roomFor, best, freePlace, joined}
 use Rattle.server.specs.Requests.{Event, opens, closes, sends, Work, Request, reset, preSleep, echo, canDo, cantDo, identify, grab, submit, work, getStatus, option, requestIn}
 use Rattle.server.specs.Requests as R
-use Rattle.server.specs.Events.{Send, Decision, silence, refuse, settle, dropped, forgot, lost, unlessLost, opening, closing, leftBy, unableToAll, sleeping, submittedBy, newJob, holdsHandle, worked}
+use Rattle.server.specs.Events.{Send, Decision, silence, refuse, settle, dropped, forgot, lost, unlessLost, opening, closing, leftBy, unableToAll, sleeping, submittedBy, newJob, holdsHandle, worked, heldJobOf}
 use Rattle.server_laws.proofs.Outcome.{Change, Refuses, Served, Stands, by-open, by-close, by-packet, Silences, noConnection, closesNone, sendsClosed, opensTwice, Outcome}
 use Rattle.server_laws.proofs.Going.{best-found, joined-inside, free-place}
 use Rattle.server_laws.proofs.Closing.{left-at}
@@ -35,7 +34,7 @@ placeFor none (some q) (some p) b = cond b (some p) none
 unfoldable pub placeChanged : ℕ → Table → Request → Option ℕ
 placeChanged c t (submit priority background f u size) = placeFor (joined t f u) (roomFor (t .functions) f) (freePlace t) (ltb (t .last) 4294967295)
 placeChanged c t (grab uniq) = best t c
-placeChanged c t (work how kind h n d) = find (λ j. holdsHandle c h (j .row)) (t .jobs)
+placeChanged c t (work how kind h n d) = heldJobOf t c h
 placeChanged c t (R.bad n) = none
 placeChanged c t reset = none
 placeChanged c t preSleep = none
@@ -62,7 +61,7 @@ pub data Becomes (t : Table) (last p : ℕ) (j : Job) : Event → Job → Type 0
   joins : (c : ℕ) (b : Bytes) (priority : ℕ) (background : Bool) (f u : Bytes) (size : ℕ) → Stands t c true → requestIn b ≡ submit priority background f u size → joined t f u ≡ some p
       → Becomes t last p j (sends c b) (withRow (submittedBy c background (j .row)) j)
   taken : (c : ℕ) (b : Bytes) (uniq : Bool) → Stands t c true → requestIn b ≡ grab uniq → best t c ≡ some p → Becomes t last p j (sends c b) (withRow (withHolder (suc c) (j .row)) j)
-  told : (c : ℕ) (b : Bytes) (how : Work) (kind : ℕ) (h n d : Bytes) → Stands t c true → requestIn b ≡ work how kind h n d → find (λ j. holdsHandle c h (j .row)) (t .jobs) ≡ some p
+  told : (c : ℕ) (b : Bytes) (how : Work) (kind : ℕ) (h n d : Bytes) → Stands t c true → requestIn b ≡ work how kind h n d → heldJobOf t c h ≡ some p
       → Becomes t last p j (sends c b) (worked how n d j)
   left : (c : ℕ) → Stands t c true → lost (leftBy c j .row) ≡ false → Becomes t last p j (closes c) (leftBy c j)
   drops : (c : ℕ) → Stands t c true → lost (leftBy c j .row) ≡ true → Becomes t last p j (closes c) noJob

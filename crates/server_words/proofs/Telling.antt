@@ -16,11 +16,11 @@ use Rattle.octets.specs.Bytes.{Bytes}
 use Rattle.octets.proofs.Strings.{and-left, and-right, and-both}
 use Rattle.sets.specs.Sets.{has, members}
 use Rattle.sets.proofs.Members.{map-members}
-use Rattle.lists.specs.Lists.{isIn, all, pairwise, find}
+use Rattle.lists.specs.Lists.{isIn, all, pairwise}
 use Rattle.server.specs.declared.JobRow.{JobRow}
 use Rattle.server.specs.Table.{Job, Table, noJob, connectionAt, jobAt, setJob, grabbable}
 use Rattle.server.specs.Requests.{Work, tells, reports, ends, throws, work}
-use Rattle.server.specs.Events.{Decision, copy, holdsHandle, failure, failures, toListener, toListeners, listenersOf, worked, workAt, served}
+use Rattle.server.specs.Events.{Decision, copy, holdsHandle, failure, failures, toListener, toListeners, listenersOf, worked, workAt, served, heldJobOf}
 use Rattle.server.specs.Rules.{obeys}
 use Rattle.lists.proofs.Cases.{cond-both}
 use Rattle.lists.proofs.Searches.{found}
@@ -107,7 +107,7 @@ worked-grabbable reports n d j ables k e = e
 worked-grabbable ends n d j ables k e = clash e refl
 worked-grabbable throws n d j ables k e = clash e refl
 
-module _ (t : Table) (c : ℕ) (how : Work) (kind : ℕ) (job n d : Bytes) (p : ℕ) (here : find (λ j. holdsHandle c job (j .row)) (t .jobs) ≡ some p) (h : obeys t ≡ true) where
+module _ (t : Table) (c : ℕ) (how : Work) (kind : ℕ) (job n d : Bytes) (p : ℕ) (here : heldJobOf t c job ≡ some p) (h : obeys t ≡ true) where
   work-quiet : Quiet (toListeners how kind t (jobAt t p .row)) (setJob t p (worked how n d (jobAt t p))) (served c (work how kind job n d) t)
   unfolding served workAt
   work-quiet =
