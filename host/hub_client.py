@@ -12,7 +12,9 @@ HEADER = 12
 CAN_DO, PRE_SLEEP, NOOP, SUBMIT_JOB, JOB_CREATED, GRAB_JOB, NO_JOB, JOB_ASSIGN = 1, 4, 6, 7, 8, 9, 10, 11
 WORK_COMPLETE, ECHO_REQ, ECHO_RES, SUBMIT_JOB_BG, ERROR, SET_CLIENT_ID = 13, 16, 17, 18, 19, 22
 WORK_FAIL, WORK_EXCEPTION, OPTION_REQ, OPTION_RES, WORK_DATA, JOB_ASSIGN_UNIQ, GRAB_JOB_ALL = 14, 25, 26, 27, 28, 31, 39
+GET_STATUS, STATUS_RES = 15, 20
 FUNCTION = b"reverse"
+LAP = "lap"  # the name of a hub, and of a replay, that is given none
 
 
 class Fault(Exception):
@@ -34,22 +36,31 @@ def expect(what, got, right):
 
 
 class Hub:
-    """A hub that was started, and its end."""
+    """A hub that was started, and its end. Its files have its own name and that of this life."""
 
-    def __init__(self, command, folder, name, serial, *options):
-        self.capture = os.path.join(folder, name + ".capture")
-        self.said = os.path.join(folder, name + ".stderr")
+    def __init__(self, command, folder, life, serial, *options, name=LAP):
+        self.name = name
+        self.capture = os.path.join(folder, f"{name}-{life}.capture")
+        self.said = os.path.join(folder, f"{name}-{life}.stderr")
         for path in (self.capture, self.said):
             if os.path.exists(path):
                 os.remove(path)
+        named = [] if name == LAP else ["-n", name]
         with open(self.said, "wb") as said:
-            self.process = subprocess.Popen([*command, "-p", "0", "-c", self.capture, *options, serial],
+            self.process = subprocess.Popen([*command, "-p", "0", "-c", self.capture, *named, *options, serial],
                                             stdout=subprocess.PIPE, stderr=said)
         line = self.process.stdout.readline().decode()
         if not line.startswith("hub: 127.0.0.1 port "):
-            raise Fault(f"the hub {name} did not start: {line!r} {self.stderr()!r}")
+            raise Fault(f"the hub {name}, {life}, did not start: {line!r} {self.stderr()!r}")
         self.port = int(line.split()[3])
         self.clients = []
+
+    def handle(self, serial):
+        return b"H:%s:%d" % (self.name.encode(), serial)
+
+    def replayed_by(self, replay):
+        """The command that replays its capture: under its own name, which the handles in worker packets have."""
+        return replay if self.name == LAP else [*replay, self.name]
 
     def stderr(self):
         with open(self.said, encoding="utf-8") as said:
@@ -227,7 +238,7 @@ def lives(replay, capture):
 
 def compare(hub, replay, leading=0):
     """Each client got the bytes that a replay of the capture sends to its connection. Returns the number of each client."""
-    found = lives(replay, hub.capture)[leading:]
+    found = lives(hub.replayed_by(replay), hub.capture)[leading:]
     expect("connections in the capture", len(found), len(hub.clients))
     numbers = {}
     for client in hub.clients:
@@ -244,9 +255,22 @@ def compare(hub, replay, leading=0):
     return numbers
 
 
+def refused_start(command, *words):
+    """A hub that ends before it serves: status 1, and a message, which is returned."""
+    ended = subprocess.run([*command, *words], stdout=subprocess.PIPE, stderr=subprocess.PIPE, timeout=SECONDS, check=False)
+    said = ended.stderr.decode()
+    expect(f"status of hub {words}, and a message", (ended.returncode, said.startswith("hub: ")), (1, True))
+    return said
+
+
 def serial_in(path):
     with open(path, encoding="ascii") as file:
         text = file.read()
     if len(text) != 11 or not text[:10].isdigit():
         raise Fault(f"{path} holds {text!r} and no serial")
     return int(text)
+
+
+def keep_serial(path, serial):
+    with open(path, "w", encoding="ascii") as file:
+        file.write(f"{serial:010}\n")

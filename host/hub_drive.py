@@ -13,10 +13,12 @@ import subprocess
 import sys
 import time
 
-from hub_client import (CAN_DO, ECHO_REQ, ECHO_RES, ERROR, FUNCTION, GRAB_JOB, GRAB_JOB_ALL, JOB_ASSIGN_UNIQ, JOB_CREATED, NO_JOB, NOOP,
+from hub_client import (CAN_DO, ECHO_REQ, ECHO_RES, FUNCTION, GRAB_JOB, GRAB_JOB_ALL, JOB_ASSIGN_UNIQ, JOB_CREATED, LAP, NO_JOB, NOOP,
                         OPTION_REQ, OPTION_RES, PRE_SLEEP, SET_CLIENT_ID, SUBMIT_JOB, SUBMIT_JOB_BG, WORK_COMPLETE, WORK_DATA,
-                        WORK_EXCEPTION, WORK_FAIL, Client, Fault, Hub, asleep, compare, expect, grab, header, lives, request, serial_in,
-                        submit, worker_of)
+                        WORK_EXCEPTION, WORK_FAIL, Client, Fault, Hub, asleep, compare, expect, grab, header, keep_serial, lives,
+                        refused_start, request, serial_in, submit, worker_of)
+from hub_names import foreign_handles, late_results, refuses_names
+from hub_restart import mains_off, second_life, without_the_serial
 from hub_streams import bad_streams, technician
 
 LIMIT = 180
@@ -156,75 +158,22 @@ def first_life(start, replay, serial):
     late = submit(boards[0], b"the pupil's profile")
     workers[1].reads(NOOP)
     expect("the job that is held at the end", grab(workers[1]), (late, b"the pupil's profile"))
-    expect("the kept serial", b"H:lap:%d" % serial_in(serial), late)
+    expect("the kept serial", hub.handle(serial_in(serial)), late)
     hub.end()
     numbers = compare(hub, replay)
     expect("the number after the slow board", numbers["board after the slow one"], numbers["slow board"])
     return late
 
 
-def late_result(hub, late):
-    """After a restart: a board's new job is held by the worker whose result of the life before comes late."""
-    board, worker = hub.client("board"), worker_of(hub, "worker")
-    handle = submit(board, b"the default")
-    worker.reads(NOOP)
-    expect("the new job", grab(worker), (handle, b"the default"))
-    worker.send(request(WORK_COMPLETE, late, b"the pupil's profile, done"))
-    return board, worker, handle
-
-
-def second_life(start, replay, serial, late):
-    """With the kept serial the late result is refused, and the new job has another handle."""
-    before = serial_in(serial)
-    hub = start("second", serial)
-    board, worker, handle = late_result(hub, late)
-    worker.reads(ERROR, b"14", b"handle")
-    worker.refused = [14]
-    expect("the next serial", handle, b"H:lap:%d" % (before + 1))
-    board.quiet()
-    worker.send(request(WORK_COMPLETE, handle, b"the default, done"))
-    board.reads(WORK_COMPLETE, handle, b"the default, done")
-    hub.end(signal.SIGINT)
-    compare(hub, replay, leading=-(-before // 32))
-
-
-def mains_off(start, serial):
-    """A hub that is killed has kept every serial of which it spoke, and the next one goes on after it."""
-    hub = start("killed", serial)
-    handles = [submit(hub.client("board"), b"", SUBMIT_JOB_BG) for _ in range(3)]
-    hub.kill()
-    hub = start("after", serial)
-    handles.append(submit(hub.client("board"), b"", SUBMIT_JOB_BG))
-    serials = [int(handle.split(b":")[2]) for handle in handles]
-    expect("serials over the cut", serials, list(range(serials[0], serials[0] + 4)))
-    hub.end()
-
-
-def without_the_serial(start, serial, late):
-    """Why it is kept: a hub that starts at 0 gives the old handles again, and a late result meets another's job."""
-    hub = start("without", serial)
-    filler = hub.client("filler")
-    for _ in range(int(late.split(b":")[2]) - 1):
-        submit(filler, b"")
-        filler.socket.shutdown(socket.SHUT_WR)
-        filler.drain()
-        filler = hub.client("filler")
-    board, _, handle = late_result(hub, late)
-    expect("the handle that is given again", handle, late)
-    board.reads(WORK_COMPLETE, late, b"the pupil's profile, done")
-    hub.end()
-
-
 def unmodified_workers(start, replay, serial):
     """-w: type 39 is answered as 30, and the capture has what was handed over. Serials go on after 70."""
-    with open(serial, "w", encoding="ascii") as file:
-        file.write("0000000070\n")
+    keep_serial(serial, 70)
     hub = start("unmodified", serial, "-w")
     board, worker = hub.client("board"), hub.client("worker")
     worker.send(request(SET_CLIENT_ID, b"name"), request(CAN_DO, FUNCTION), request(GRAB_JOB_ALL))
     worker.reads(NO_JOB)
     handle = submit(board, b"text", SUBMIT_JOB_BG)
-    expect("the handle after 70", handle, b"H:lap:71")
+    expect("the handle after 70", handle, hub.handle(71))
     expect("the job", worker.ask(request(GRAB_JOB_ALL), JOB_ASSIGN_UNIQ), b"\0".join((handle, FUNCTION, b"", b"text")))
     long_name = hub.client("too long a name")
     long_name.refused = [7]
@@ -243,8 +192,7 @@ def refuses_to_start(command, folder):
     hub = Hub(command, folder, "holder", taken)
     try:
         for words in (["-p", "0", taken], ["-p", "0", broken], ["-p", "0", "-c", hub.capture, taken + "2"], ["-p", "x", taken + "2"]):
-            ended = subprocess.run([*command, *words], stdout=subprocess.PIPE, stderr=subprocess.PIPE, timeout=20, check=False)
-            expect(f"status of hub {words}, and a message", (ended.returncode, ended.stderr.startswith(b"hub: ")), (1, True))
+            refused_start(command, *words)
         hub.end()
     finally:
         hub.kill()
@@ -253,11 +201,11 @@ def refuses_to_start(command, folder):
 def drive(folder, replay, command):
     hubs = []
 
-    def start(name, serial, *options):
-        hubs.append(Hub(command, folder, name, serial, *options))
+    def start(life, serial, *options, name=LAP):
+        hubs.append(Hub(command, folder, life, serial, *options, name=name))
         return hubs[-1]
 
-    paths = [os.path.join(folder, name) for name in ("serial", "other-serial", "third-serial")]
+    paths = [os.path.join(folder, name) for name in ("serial", "other-serial", "third-serial", "named-serial", "renamed-serial")]
     for path in paths:
         if os.path.exists(path):
             os.remove(path)
@@ -267,7 +215,10 @@ def drive(folder, replay, command):
         mains_off(start, paths[0])
         without_the_serial(start, paths[1], late)
         unmodified_workers(start, replay, paths[2])
+        late = foreign_handles(start, replay, paths[3])
+        late_results(start, replay, paths[3:], late)
         refuses_to_start(command, folder)
+        refuses_names(command, folder)
     finally:
         for hub in hubs:
             hub.kill()

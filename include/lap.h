@@ -13,12 +13,13 @@
  * WHAT THE HOST HAS TO SEE TO. Nothing else is asked of it: whatever the bytes are, a call answers by a number.
  *  - Each pointer leads to as many bytes as the length beside it says; no pointer is null, not even with a length of 0.
  *    Any alignment will do.
- *  - table, workloads, output, packet or line, and *length do not overlap. No one else touches them during the call.
+ *  - table, workloads, output, packet, line or name, and *length do not overlap. No one else touches them during the
+ *    call.
  *
  * TWO WARNINGS, because the core cannot see to these. docs/HOST.md says more, and host/hub/hub.c shows how.
- *  - RESTART. A fresh table gives the handles from H:lap:1 on again, and a worker's late result from before the restart
- *    can then meet another job. Keep the last serial, bytes 0 to 3 of the table, before you send what a call has
- *    written, and write it into the fresh table when you start again. That this avoids it is a theorem
+ *  - RESTART. A fresh table of the same name gives its handles again, H:NAME:1 first, and a worker's late result from
+ *    before the restart can then meet another job. Keep the last serial, bytes 0 to 3 of the table, before you send
+ *    what a call has written, and write it into the fresh table when you start again. That this avoids it is a theorem
  *    (restart-unheard in crates/demands/proofs/Demands.antt); request 9 will bring a cure that keeps the jobs too.
  *  - CONNECTION NUMBERS ARE USED AGAIN. Drop the bytes that are still unsent to a closed connection before you open its
  *    number for another one, which would get them.
@@ -35,7 +36,7 @@ extern "C" {
 
 /* The least lengths of the lent buffers. Longer ones are never refused, and what lies beyond is never written. */
 enum {
-    LAP_TABLE_BYTES = 4820,      /* the table: docs/TABLE.md has its layout */
+    LAP_TABLE_BYTES = 4836,      /* the table: docs/TABLE.md has its layout */
     LAP_WORKLOADS_BYTES = 32768, /* 32 places of 1,024 bytes, one for each unfinished job */
     LAP_OUTPUT_BYTES = 16592     /* the packets that one call sends, or one text */
 };
@@ -54,7 +55,7 @@ enum { LAP_CONNECTIONS = 16, LAP_MOST_FUNCTIONS = 16, LAP_MOST_JOBS = 32 };
  */
 enum lap_number {
     LAP_DONE = 0,
-    LAP_LENT = 1,          /* a lent buffer is too short, or the table breaks a table rule */
+    LAP_LENT = 1,          /* a lent buffer is too short, or the table breaks a table rule; lap_fresh: no such name */
     LAP_NO_CONNECTION = 2, /* connection above 15 */
     LAP_NOT_OPEN = 3,      /* packet, text line or close, connection not open */
     LAP_ALREADY_OPEN = 4,  /* open, already open */
@@ -96,7 +97,7 @@ enum {
     LAP_HEADER_BYTES = 12,
     LAP_DATA_BYTES = 1024,          /* the most data of a request */
     LAP_PACKET_BYTES = 1036,        /* the longest request, header and data */
-    LAP_RESPONSE_DATA_BYTES = 1088, /* the most data of a response; the core sends 1,041 at most */
+    LAP_RESPONSE_DATA_BYTES = 1088, /* the most data of a response; the core sends 1,053 at most */
     LAP_RESPONSE_BYTES = 1100       /* the longest response, header and data */
 };
 
@@ -157,11 +158,18 @@ static inline uint32_t lap_size_of(const uint8_t *packet) {
  */
 
 /*
- * Makes a fresh table: no connection is open, no function known, no job there, no serial given out. Sets the first
- * LAP_TABLE_BYTES of the table and the first LAP_WORKLOADS_BYTES of the workloads to zero. Answers LAP_DONE, or
- * LAP_LENT if a buffer is too short: then nothing is written. At a restart see the warning above.
+ * Makes a fresh table for the hub of this name: no connection is open, no function known, no job there, no serial given
+ * out. The name has 1 to LAP_HUB_BYTES bytes, lowercase letters and digits, with no zero byte behind them; it stands in
+ * every handle, H:NAME:1, and no later call changes it. Sets the first LAP_TABLE_BYTES of the table to zero but for the
+ * name, and the first LAP_WORKLOADS_BYTES of the workloads to zero. Answers LAP_DONE, or LAP_LENT if a buffer is too
+ * short or the name is no such name: then nothing is written. At a restart see the warning above.
+ *
+ * A table of zeros is no fresh table: it has no name, and every call refuses it by LAP_LENT. Give each hub a name of
+ * its own: handles of two names never agree, so that a result which reaches the wrong hub is refused there.
  */
-uint32_t lap_fresh(uint8_t *table, size_t table_len, uint8_t *workloads, size_t workloads_len);
+enum { LAP_HUB_BYTES = 15 };
+uint32_t lap_fresh(uint8_t *table, size_t table_len, uint8_t *workloads, size_t workloads_len,
+                   const uint8_t *name, size_t name_len);
 
 /*
  * Opens a connection. Answers LAP_DONE, LAP_LENT, LAP_NO_CONNECTION or LAP_ALREADY_OPEN. *length is set on every call

@@ -4,7 +4,8 @@
  * business. It is no part of the core: nothing here is proved, host/tests/hub.sh tries it. docs/HOST.md says why each
  * thing is done as it is.
  *
- * usage: hub [-a ADDRESS] [-p PORT] [-c CAPTURE] [-w] SERIAL_FILE
+ * usage: hub [-n NAME] [-a ADDRESS] [-p PORT] [-c CAPTURE] [-w] SERIAL_FILE
+ *   -n   the hub's name (lap): 1 to 15 lowercase letters and digits, which stand in every handle
  *   -a   the IPv4 address to listen at (127.0.0.1)
  *   -p   the port (4730); 0 takes one that the system chooses. Address and port are printed.
  *   -c   a new file that gets every event as a line, for replay and show. It holds all workloads.
@@ -232,11 +233,14 @@ static void run(int listener, int signals) {
     } while (signalled->revents == 0);
 }
 
-/* Makes a table that goes on after this serial: bytes 0 to 3 are the last one, little-endian. */
-static void start_table(uint32_t serial) {
-    uint32_t number = lap_fresh(table, sizeof table, workloads, sizeof workloads);
+/*
+ * Makes a table for the hub of this name that goes on after this serial: bytes 0 to 3 are the last one, little-endian.
+ * The core decides what is a name, and the buffers are long enough: what it refuses here is the name.
+ */
+static void start_table(const char *name, uint32_t serial) {
+    uint32_t number = lap_fresh(table, sizeof table, workloads, sizeof workloads, (const uint8_t *)name, strlen(name));
     if (number != LAP_DONE) {
-        fail("a fault of this program", lap_number_text(number));
+        fail(name, "is no hub's name; good ones have 1 to 15 lowercase letters and digits");
     }
     for (int i = 0; i < 4; i++) {
         table[i] = (uint8_t)(serial >> 8 * i);
@@ -244,9 +248,10 @@ static void start_table(uint32_t serial) {
 }
 
 int main(int count, char **words) {
-    const char *address = "127.0.0.1", *port = "4730", *capture = NULL;
-    for (int option; (option = getopt(count, words, "a:p:c:w")) != -1;) {
+    const char *name = "lap", *address = "127.0.0.1", *port = "4730", *capture = NULL;
+    for (int option; (option = getopt(count, words, "n:a:p:c:w")) != -1;) {
         switch (option) {
+        case 'n': name = optarg; break;
         case 'a': address = optarg; break;
         case 'p': port = optarg; break;
         case 'c': capture = optarg; break;
@@ -255,14 +260,14 @@ int main(int count, char **words) {
         }
     }
     if (optind + 1 != count) {
-        fprintf(stderr, "usage: hub [-a ADDRESS] [-p PORT] [-c CAPTURE] [-w] SERIAL_FILE\n");
+        fprintf(stderr, "usage: hub [-n NAME] [-a ADDRESS] [-p PORT] [-c CAPTURE] [-w] SERIAL_FILE\n");
         return 2;
     }
     for (unsigned c = 0; c < LAP_CONNECTIONS; c++) {
         connections[c].socket = -1;
     }
     uint32_t serial = open_serial(words[optind]);
-    start_table(serial);
+    start_table(name, serial);
     int signals = start_signals();
     int listener = start_listening(address, port);
     if (capture != NULL) {

@@ -17,8 +17,9 @@ static void send_all(uint32_t length) {
 
 int main(void) {
     static const uint8_t grab_job[LAP_HEADER_BYTES] = {0, 'R', 'E', 'Q', 0, 0, 0, LAP_TYPE_GRAB_JOB};
+    static const uint8_t name[] = {'h', 'u', 'b', '1'}; /* this hub's, in each of its handles: H:hub1:1 */
     uint32_t length;
-    uint32_t number = lap_fresh(table, sizeof table, workloads, sizeof workloads);
+    uint32_t number = lap_fresh(table, sizeof table, workloads, sizeof workloads, name, sizeof name);
     if (number == LAP_DONE) {
         number = lap_open(table, sizeof table, workloads, sizeof workloads, output, sizeof output, 1, &length);
         send_all(length);

@@ -2,10 +2,14 @@
  * Document 01's replay program in C, over the archive liblap.a: frames in hexadecimal go in, one a line; the
  * addressed packets that they send and the number of each come out. Format: a kind byte (01 open, 02 close, 03
  * packet), a connection byte, and for 03 alone the packet. A line that is not a frame is answered by 16. It holds one
- * line at a time, whatever the input. Exit status 1: reading or writing failed.
+ * line at a time, whatever the input. Exit status 1: reading or writing failed; 2: no such arguments.
+ *
+ * usage: replay [HUB] < CAPTURE
+ * HUB is the name of the hub that the capture is of; without it, lap, as in document 01.
  */
 #include <stdbool.h>
 #include <stdio.h>
+#include <string.h>
 
 #include "lap.h"
 
@@ -86,9 +90,18 @@ static void print_packets(size_t length) {
     }
 }
 
-int main(void) {
-    if (lap_fresh(table, sizeof table, workloads, sizeof workloads) != LAP_DONE) {
-        return 1;
+/* Makes a fresh table for the hub that the argument names, or for lap. False if there are more, or it is no name. */
+static bool start(int count, char **words) {
+    const char *name = count < 2 ? "lap" : words[1];
+    return count <= 2
+        && lap_fresh(table, sizeof table, workloads, sizeof workloads, (const uint8_t *)name, strlen(name)) == LAP_DONE;
+}
+
+int main(int count, char **words) {
+    if (!start(count, words)) {
+        fprintf(stderr, "usage: replay [HUB] < CAPTURE\n"
+                        "HUB is the name of the hub, 1 to 15 lowercase letters and digits; without it, lap.\n");
+        return 2;
     }
     for (int c = getchar(); c != EOF; c = getchar()) {
         uint32_t length;

@@ -1,6 +1,6 @@
--- A fresh table's bytes are zeros, column by column. Assumes nothing.
+-- A fresh table's bytes are zeros, column by column, but for the hub's name. Assumes nothing.
 use Prim.Native.Nat.{ℕ, zero, suc, _+_, _-_, _*_}
-use mathlib.Core.Path.{_≡_, refl, ap, ap₂, _∙_}
+use mathlib.Core.Path.{_≡_, refl, ap, ap₂, sym, _∙_}
 use mathlib.Core.List.{[], _∷_, _++_}
 use native.Mathlib.Nat.{mul-suc, mul-zero}
 use native.Mathlib.Omega.{arith}
@@ -9,9 +9,10 @@ use Rattle.octets.specs.Bytes.{Bytes}
 use Rattle.octets.specs.Put.{put}
 use Rattle.server.specs.declared.Connection.{Connection}
 use Rattle.lists.specs.Lists.{fit}
-use Rattle.server.specs.Sizes.{functionCount, jobCount, nameSize, uniqueSize, numberSize, idSize}
+use Rattle.server.specs.Sizes.{functionCount, jobCount, nameSize, uniqueSize, numberSize, idSize, hubSize}
 use Rattle.server.specs.Table.{Table, closed, noFunction, noJob, fresh}
-use Rattle.server.specs.Layout.{little, column, setSize, tableSize, rowBytes, bytesOf, serialsAt, namesAt}
+use Rattle.server.specs.Layout.{little, column, setSize, tableSize, rowBytes, bytesOf, serialsAt, namesAt, hubAt}
+use Rattle.table_laws.proofs.Puts.{put-hub}
 use Rattle.lists.proofs.Lists.{fit-none}
 use Rattle.table_texts.specs.Places.{zeros}
 
@@ -49,9 +50,9 @@ rows f x k e (suc m) =
 
 -- ---- the table
 
--- n connections, q functions and p jobs, all empty
+-- n connections, q functions and p jobs, all empty, and no name
 abbrev empty : ℕ → ℕ → ℕ → Table
-empty n q p = record { last = 0; connections = replicate n closed; ids = replicate n []; functions = replicate q noFunction; jobs = replicate p noJob }
+empty n q p = record { last = 0; connections = replicate n closed; ids = replicate n []; functions = replicate q noFunction; jobs = replicate p noJob; hub = [] }
 
 -- the bytes of a set
 abbrev sets : ℕ → ℕ
@@ -59,7 +60,7 @@ sets n = setSize (length (replicate n closed))
 
 -- the rows of p free places are k zeros
 empty-zeros : (n q p k : ℕ) → rowBytes (replicate p noJob) ≡ zeros k → bytesOf (empty n q p)
-    ≡ zeros (4 + (k + (nameSize * q + (uniqueSize * p + (numberSize * p + (numberSize * p + (sets n * q + (sets n * p + (1 * n + (1 * n + (1 * n + idSize * n)))))))))))
+    ≡ zeros (4 + (k + (nameSize * q + (uniqueSize * p + (numberSize * p + (numberSize * p + (hubSize + (sets n * q + (sets n * p + (1 * n + (1 * n + (1 * n + idSize * n))))))))))))
 unfolding bytesOf
 empty-zeros n q p k e =
     then 4 _ (little-zeros 4)
@@ -68,18 +69,25 @@ empty-zeros n q p k e =
     (then (uniqueSize * p) _ (rows _ noJob uniqueSize (text-zeros uniqueSize) p)
     (then (numberSize * p) _ (rows _ noJob numberSize (text-zeros numberSize) p)
     (then (numberSize * p) _ (rows _ noJob numberSize (text-zeros numberSize) p)
+    (then hubSize _ (text-zeros hubSize)
     (then (sets n * q) _ (rows _ noFunction (sets n) (little-zeros (sets n)) q)
     (then (sets n * p) _ (rows _ noJob (sets n) (little-zeros (sets n)) p)
     (then (1 * n) _ (rows _ closed 1 flag-zeros n)
     (then (1 * n) _ (rows _ closed 1 flag-zeros n)
-    (then (1 * n) _ (rows _ closed 1 flag-zeros n) (rows _ [] idSize (text-zeros idSize) n)))))))))))
+    (then (1 * n) _ (rows _ closed 1 flag-zeros n) (rows _ [] idSize (text-zeros idSize) n))))))))))))
 
 -- the rows of all places: the bytes between the serials and the names
 row-zeros : rowBytes (replicate jobCount noJob) ≡ zeros (namesAt - serialsAt)
 unfolding rowBytes little zeros
 row-zeros = refl
 
--- a fresh table of n connections
-pub fresh-zeros : (n : ℕ) → bytesOf (fresh n) ≡ zeros (tableSize n)
+-- a fresh table of n connections, before it has its name
+nameless-zeros : (n : ℕ) → bytesOf (fresh n []) ≡ zeros (tableSize n)
 unfolding fresh
-fresh-zeros n = empty-zeros n functionCount jobCount (namesAt - serialsAt) row-zeros ∙ ap (λ (k : ℕ). zeros k) (omega (arith, length-replicate {A = Connection} n closed))
+nameless-zeros n = empty-zeros n functionCount jobCount (namesAt - serialsAt) row-zeros ∙ ap (λ (k : ℕ). zeros k) (omega (arith, length-replicate {A = Connection} n closed))
+
+-- and with it: its name laid over zeros
+pub fresh-laid : (n : ℕ) (hub b : Bytes) → put hubAt (fit hubSize hub) (put 0 (zeros (tableSize n)) b) ≡ put 0 (bytesOf (fresh n hub)) b
+unfolding fresh
+fresh-laid n hub b =
+    ap (λ (s : Bytes). put hubAt (fit hubSize hub) (put 0 s b)) (sym (nameless-zeros n)) ∙ put-hub (fresh n []) (record { functions = refl; jobs = refl }) b hub

@@ -1,6 +1,8 @@
-// Making a fresh table over lent bytes: the table's bytes and the workloads are set to zero, and no byte beyond them is
-// written. Format: docs/TABLE.md. Buffers that are too short are refused by document 01's number 1, and nothing is changed then. No
-// caller has to check anything first.
+// Making a fresh table over lent bytes: the table's bytes and the workloads are set to zero, the hub's name is laid into the table, and no
+// byte beyond them is written. Format: docs/TABLE.md. Buffers that are too short, and what is no hub's name, are refused by document 01's
+// number 1, and nothing is changed then. No caller has to check anything first.
+use server::HUB_AT;
+use server::HUB_SIZE;
 use server::TABLE_SIZE;
 use server::WORKLOADS_SIZE;
 ghost use mathlib.Core.Path.{_≡_};
@@ -11,7 +13,7 @@ ghost use Rattle.server.specs.Sizes.{connectionCount};
 ghost use Rattle.server.specs.Call.{made, make};
 ghost use Rattle.table_texts.specs.Places.{zeros};
 
-const LENT: u8 = 1; // a lent buffer is too short
+const LENT: u8 = 1; // a lent buffer is too short, or there is no name
 
 // Sets the first n bytes to zero.
 fn clear(b: &mut [u8], n: usize)
@@ -21,9 +23,9 @@ fn clear(b: &mut [u8], n: usize)
     table_texts::put_text(b, 0, n, b"");
 }
 
-// Makes a fresh table.
-pub fn fresh(table: &mut [u8], workloads: &mut [u8]) -> u8
-    ensures { λ r. ⌜ made r (now (table .exit)) (now (workloads .exit)) ≡ make connectionCount (now (table .entry)) (now (workloads .entry)) ⌝ }
+// Makes a fresh table for the hub of this name.
+pub fn fresh(table: &mut [u8], workloads: &mut [u8], name: &[u8]) -> u8
+    ensures { λ r. ⌜ made r (now (table .exit)) (now (workloads .exit)) ≡ make connectionCount (now (name .entry)) (now (table .entry)) (now (workloads .entry)) ⌝ }
 {
     if table.len() < TABLE_SIZE {
         return LENT;
@@ -31,7 +33,11 @@ pub fn fresh(table: &mut [u8], workloads: &mut [u8]) -> u8
     if workloads.len() < WORKLOADS_SIZE {
         return LENT;
     }
+    if !handle::is_hub_name(name) {
+        return LENT;
+    }
     clear(table, TABLE_SIZE);
+    table_texts::put_text(table, HUB_AT, HUB_SIZE, name);
     clear(workloads, WORKLOADS_SIZE);
     0
 }

@@ -1,24 +1,28 @@
--- Lines told one after the other, from a fresh table: what is said is what the server says to the frames among them, whatever the
--- words. Assumes nothing.
+-- Lines told one after the other, from a fresh table of any hub: what is said is what the server says to the frames among them, whatever
+-- the words. Assumes nothing.
 use Prim.Native.Nat.{ℕ, suc, _+_, _≤_}
 use mathlib.Core.Path.{_≡_, refl, sym, ap, ap₂, _∙_}
+use mathlib.Core.Bool.{true}
 use mathlib.Core.Option.{Option, none, some}
-use mathlib.Core.List.{List, [], _∷_, _++_, append-nil, map}
+use mathlib.Core.List.{List, [], _∷_, _++_, map}
 use native.Mathlib.Omega.{arith}
 use borrow.Author.Tests.{le-ltb}
-use lib.ListN.{length, take, replicate, length-replicate}
-use lib.Seq.{take-append-seam, drop-length}
+use lib.ListN.{length, take}
+use lib.Seq.{take-append-seam}
 use Rattle.octets.specs.Bytes.{Bytes}
 use Rattle.octets.specs.Put.{put}
 use Rattle.octets.proofs.Laying.{put-start, length-put}
+use Rattle.handle.specs.Handle.{isHubName}
 use Rattle.lists.specs.Lists.{concat}
 use Rattle.server.specs.Sizes.{connectionCount, workloadsSize, outputSize}
-use Rattle.server.specs.Table.{Table, fresh}
+use Rattle.server.specs.Table.{Table}
+use Rattle.server.specs.Rules.{hubNamed}
 use Rattle.server.specs.Requests.{Event}
 use Rattle.server.specs.Server.{Server, addressed, next, answer, start}
-use Rattle.server.specs.Layout.{little, tableSize, rowBytes, bytesOf, tableOf}
+use Rattle.server.specs.Layout.{tableSize, tableOf}
 use Rattle.server.specs.Call.{Result, refusedBy, sentBytes, performed, Made, make}
 use Rattle.server.specs.Replay.{frame, serverAfter}
+use Rattle.server_laws.proofs.Obeyed.{obeyed}
 use Rattle.table_laws.proofs.Round.{table-put}
 use Rattle.server_calls.proofs.Output.{output-fits}
 use Rattle.server_calls.proofs.Follows.{Running, tableWith, workloadsWith, running-next, fitting, call-follows}
@@ -33,10 +37,14 @@ use Rattle.capture.proofs.Sent.{all-formed, output-packets}
 pub laid-start : (s b : Bytes) → length s ≤ length b → take (length s) (put 0 s b) ≡ s
 laid-start s b h = ap (take (length s)) (put-start s b h) ∙ take-append-seam s _
 
--- ---- words that fit into a text: those of packets that fit into the output
+-- ---- words that fit into a text: those of packets that fit into the output, at a table whose hub has a name
 
 abbrev pub Fits : ℕ → Speech → Type 0
-Fits room say = (f : Option Event) (ps : List Bytes) (n : ℕ) (u t : Table) → Addressed ps → length (concat ps) ≤ outputSize connectionCount → length (say f ps n u t) ≤ room
+Fits room say =
+    (f : Option Event) (ps : List Bytes) (n : ℕ) (u t : Table) → hubNamed t ≡ true → Addressed ps → length (concat ps) ≤ outputSize connectionCount → length (say f ps n u t) ≤ room
+
+running-named : (s : Server) → Running connectionCount s → hubNamed (s .table) ≡ true
+running-named s h = obeyed (s .table) (h .rules) .sound .named
 
 -- ---- one frame
 
@@ -51,8 +59,8 @@ module _ (s : Server) (h : Running connectionCount s) where
 
   spoken-short : (room : ℕ) (say : Speech) → Fits room say → (f : Option Event) → length (spokenTo say f s) ≤ room
   unfolding sentBytes
-  spoken-short room say k none = k none [] 16 (s .table) (s .table) tt (omega arith)
-  spoken-short room say k (some e) = k (some e) _ _ _ _ (sent-addressed e) (sent-few e)
+  spoken-short room say k none = k none [] 16 (s .table) (s .table) (running-named s h) tt (omega arith)
+  spoken-short room say k (some e) = k (some e) _ _ _ _ (running-named (next e s) (running-next connectionCount e s h)) (sent-addressed e) (sent-few e)
 
   pub running-after : (f : Option Event) → Running connectionCount (serverAfter f s)
   running-after none = h
@@ -122,38 +130,9 @@ module _ (room : ℕ) (says : ℕ → Speech) (fits : (k : ℕ) → Fits room (s
         ∙ ap₂ {C = Bytes} (λ (a b : Bytes). a ++ b) (laid-start l x (omega (arith, spoken-short s h room (says k) (fits k) f)))
         (said-follows (suc k) lines (serverAfter f s) (running-after s h f) (outputAfter s h t w lt lw o lo f) (put 0 l x) (long-after s h t w lt lw o lo f) (rw length-put lx))
 
-    -- from a fresh table
-    pub text-said : (k : ℕ) (lines : List Bytes) (o x : Bytes) → outputSize connectionCount ≤ length o → room ≤ length x
-        → said room says k lines (make connectionCount t w .table) (make connectionCount t w .workloads) o x ≡ spoken says k lines (start connectionCount)
-    text-said k lines o x lo lx =
-        ap (λ (m : Made). said room says k lines (m .table) (m .workloads) o x) (make-start connectionCount t w lt lw) ∙ said-follows k lines (start connectionCount) (running-start connectionCount) o x lo lx
-
--- ---- from zeros, as the programs lend them
-
-fresh-zeros : bytesOf (fresh connectionCount) ≡ replicate (tableSize connectionCount) 0
-unfolding bytesOf rowBytes fresh little
-fresh-zeros = refl
-
-put-itself : (s : Bytes) → put 0 s s ≡ s
-put-itself s = put-start s s (omega arith) ∙ ap (λ (r : Bytes). s ++ r) (drop-length s) ∙ append-nil s
-
-over-itself : (a b t w : Bytes) → a ≡ t → b ≡ w → _≡_ {A = Made} (record { number = 0; table = put 0 a t; workloads = put 0 b w }) (record { number = 0; table = t; workloads = w })
-over-itself a b t w p q = rw (p, q, put-itself t, put-itself w)
-
-module _ (t w : Bytes) (et : t ≡ replicate (tableSize connectionCount) 0) (ew : w ≡ replicate workloadsSize 0) where
-  pub long-table : tableSize connectionCount ≤ length t
-  long-table = omega (arith, ap length et, length-replicate {A = ℕ} (tableSize connectionCount) 0)
-
-  pub long-workloads : workloadsSize ≤ length w
-  long-workloads = omega (arith, ap length ew, length-replicate {A = ℕ} workloadsSize 0)
-
-  pub zeros-made : _≡_ {A = Made} (make connectionCount t w) (record { number = 0; table = t; workloads = w })
-  unfolding make
-  zeros-made =
-      rw (le-ltb (length t) (tableSize connectionCount) long-table, le-ltb (length w) workloadsSize long-workloads)
-      (over-itself (bytesOf (fresh connectionCount)) (replicate workloadsSize 0) t w (fresh-zeros ∙ sym et) (sym ew))
-
-  pub zeros-said : (room : ℕ) (says : ℕ → Speech) → ((k : ℕ) → Fits room (says k)) → (k : ℕ) (lines : List Bytes) (o x : Bytes) → outputSize connectionCount ≤ length o → room ≤ length x
-      → said room says k lines t w o x ≡ spoken says k lines (start connectionCount)
-  zeros-said room says fits k lines o x lo lx =
-      sym (ap (λ (m : Made). said room says k lines (m .table) (m .workloads) o x) zeros-made) ∙ text-said room says fits t w long-table long-workloads k lines o x lo lx
+    -- from a fresh table of the hub of this name
+    pub text-said : (hub : Bytes) → isHubName hub ≡ true → (k : ℕ) (lines : List Bytes) (o x : Bytes) → outputSize connectionCount ≤ length o → room ≤ length x
+        → said room says k lines (make connectionCount hub t w .table) (make connectionCount hub t w .workloads) o x ≡ spoken says k lines (start connectionCount hub)
+    text-said hub good k lines o x lo lx =
+        ap (λ (m : Made). said room says k lines (m .table) (m .workloads) o x) (make-start connectionCount hub good t w lt lw)
+        ∙ said-follows k lines (start connectionCount hub) (running-start connectionCount hub good) o x lo lx

@@ -77,9 +77,9 @@ unfoldable pub spoken : (ℕ → Speech) → ℕ → List Bytes → Server → B
 spoken says k [] s = []
 spoken says k (line ∷ lines) s = spokenTo (says k) (frame line) s ++ spoken says (suc k) lines (serverAfter (frame line) s)
 
--- a text from its first byte to its last, by a fresh server
-abbrev pub spokenText : (ℕ → Speech) → Bytes → Bytes
-spokenText says text = spoken says 1 (linesOf text) (start connectionCount)
+-- a text from its first byte to its last, by a fresh server of the hub of this name
+abbrev pub spokenText : (ℕ → Speech) → Bytes → Bytes → Bytes
+spokenText says hub text = spoken says 1 (linesOf text) (start connectionCount hub)
 
 -- as much of each line as a buffer held
 abbrev pub textsSeen : List Seen → List Bytes

@@ -2,7 +2,7 @@
 -- that it answers is one. Assumes nothing.
 use Prim.Native.Nat.{ℕ, _<_, zero-le}
 use mathlib.Core.Path.{_≡_, refl, sym, ap, _∙_, subst}
-use mathlib.Core.Bool.{Bool, true, false}
+use mathlib.Core.Bool.{Bool, true}
 use mathlib.Core.Option.{Option, none, some}
 use mathlib.Core.List.{List, [], _∷_}
 use native.Mathlib.Omega.{arith}
@@ -103,7 +103,7 @@ module _ (c : ℕ) (t : Table) (whole : Whole t) (p : Bytes) (places : Ends) (ki
   unfolding hasHandle
   status-orders none e h = h
   status-orders (some q) e h =
-      let w = found (λ j. hasHandle x (j .row)) noJob (t .jobs) (some q) e in
+      let w = found (λ j. hasHandle (t .hub) x (j .row)) noJob (t .jobs) (some q) e in
       (omega (arith, w .inside, whole .jobs), and-left (live (jobAt t q .row)) _ (w .passes), h)
 
   -- ---- every order

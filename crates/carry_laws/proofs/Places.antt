@@ -63,7 +63,7 @@ module _ (c : ℕ) (t : Table) (whole : Whole t) where
   joined-place f u p e = omega (arith, found _ noJob (t .jobs) (some p) e .inside, whole .jobs)
 
   held-place : (h : Bytes) (p : ℕ) → heldJobOf t c h ≡ some p → p < jobCount
-  held-place h p e = omega (arith, found (λ j. holdsHandle c h (j .row)) noJob (t .jobs) (some p) e .inside, whole .jobs)
+  held-place h p e = omega (arith, found (λ j. holdsHandle (t .hub) c h (j .row)) noJob (t .jobs) (some p) e .inside, whole .jobs)
 
   -- ---- the step
 

@@ -13,6 +13,7 @@ use Rattle.octets.proofs.Strings.{and-left, and-right, and-both}
 use Rattle.packet.specs.declared.Rule.the-variants.{Text}
 use Rattle.packet.specs.Layout as L
 use Rattle.packet.specs.Arguments.{fits}
+use Rattle.handle.specs.Handle.{isHubName}
 use Rattle.server.specs.declared.JobRow.{JobRow}
 use Rattle.lists.specs.Lists.{fit}
 use Rattle.server.specs.Sizes.{connectionCount, jobCount, nameSize, uniqueSize, workloadSize, workloadsSize}
@@ -51,6 +52,11 @@ take-take zero m s h = refl
 take-take (suc k) zero s h = absurd (omega arith)
 take-take (suc k) (suc m) [] h = refl
 take-take (suc k) (suc m) (x ∷ s) h = ap (λ (l : Bytes). x ∷ l) (take-take k m s (omega arith))
+
+-- the hub of a table that obeys the rules has a name
+pub hub-good : (b : Bytes) → isSound connectionCount b ≡ true → isHubName (tableOf connectionCount b .hub) ≡ true
+unfolding isSound
+hub-good b sound = obeyed (tableOf connectionCount b) (and-right (isImage connectionCount b) _ sound) .sound .named
 
 module _ (b : Bytes) (sound : isSound connectionCount b ≡ true) (p : ℕ) (row : JobRow) (same-row : row ≡ P.rowIn (valuesOf (tableOf connectionCount b)) p)
     (inside : p < jobCount) (alive : live (jobAt (tableOf connectionCount b) p .row) ≡ true) where

@@ -60,9 +60,9 @@ module _ (order : O′.Order) (c kind : ℕ) (h p t w : Bytes) where
   pub nothing-laid : order ≡ OV.Nothing → (o : Bytes) → (0 ≡ length (orderBytes order c kind h p t w)) × (o ≡ put 0 (orderBytes order c kind h p t w) o)
   nothing-laid e o = (ap length (nothing-order e), sym (put-none 0 o) ∙ ap (λ (s : Bytes). put 0 s o) (nothing-order e))
 
-  pub created-order : (serial : ℕ) → order ≡ OV.Created serial → message c 8 (join (handleArguments serial)) ≡ orderBytes order c kind h p t w
+  pub created-order : (hub : Bytes) → hub ≡ tableOf connectionCount t .hub → (serial : ℕ) → order ≡ OV.Created serial → message c 8 (join (handleArguments hub serial)) ≡ orderBytes order c kind h p t w
   unfolding orderBytes bytesSent ordered
-  created-order serial e = created-rendered (sends c p) (serverIn connectionCount t w) c serial ∙ known (OV.Created serial) e
+  created-order hub is serial e = rw is (created-rendered (sends c p) (serverIn connectionCount t w) (tableOf connectionCount t .hub) c serial ∙ known (OV.Created serial) e)
 
   pub no-job-order : order ≡ OV.NoJob → message c 10 [] ≡ orderBytes order c kind h p t w
   unfolding orderBytes bytesSent ordered
@@ -81,10 +81,11 @@ module _ (order : O′.Order) (c kind : ℕ) (h p t w : Bytes) where
   unfolding orderBytes bytesSent ordered
   copies-order to long e = copies-rendered c p (serverIn connectionCount t w) long kind (members connectionCount to) ∙ known (OV.Copies to) e
 
-  pub told-order : (to heard serial : ℕ) → 12 ≤ length p → order ≡ OV.Told to heard serial
-      → toldMessages (members connectionCount to) heard kind (drop 12 p) (join (handleArguments serial)) ≡ orderBytes order c kind h p t w
+  pub told-order : (hub : Bytes) → hub ≡ tableOf connectionCount t .hub → (to heard serial : ℕ) → 12 ≤ length p → order ≡ OV.Told to heard serial
+      → toldMessages (members connectionCount to) heard kind (drop 12 p) (join (handleArguments hub serial)) ≡ orderBytes order c kind h p t w
   unfolding orderBytes bytesSent ordered
-  told-order to heard serial long e = all-told-rendered c p (serverIn connectionCount t w) long heard kind serial (members connectionCount to) ∙ known (OV.Told to heard serial) e
+  told-order hub is to heard serial long e =
+      rw is (all-told-rendered c p (serverIn connectionCount t w) long heard kind (tableOf connectionCount t .hub) serial (members connectionCount to) ∙ known (OV.Told to heard serial) e)
 
   pub echo-order : 12 ≤ length p → order ≡ OV.Echo → message c 17 (drop 12 p) ≡ orderBytes order c kind h p t w
   unfolding orderBytes bytesSent ordered

@@ -58,7 +58,18 @@ fn send_job(
     let start = WORKLOAD_SIZE * place;
     let end = start + row.size as usize;
     let workload = &workloads[start..end];
-    carry_packet::send_assign(output, 0, c, uniq, row.serial, function, unique, workload)
+    let hub = table_texts::hub_of(table);
+    carry_packet::send_assign(
+        output,
+        0,
+        c,
+        hub,
+        uniq,
+        row.serial,
+        function,
+        unique,
+        workload,
+    )
 }
 
 // Lays the status of the job at a place as STATUS_RES, with the handle as asked.
@@ -104,12 +115,15 @@ pub fn send_order(
 {
     match order {
         Order::Nothing => 0,
-        Order::Created { serial } => carry_packet::send_created(output, 0, c, serial),
+        Order::Created { serial } => {
+            carry_packet::send_created(output, 0, c, table_texts::hub_of(table), serial)
+        }
         Order::NoJob => carry_packet::send_empty(output, 0, c, 10),
         Order::Assign { uniq, place } => send_job(output, c, uniq, place, table, workloads),
         Order::Copies { to } => carry_several::forward_all(output, 0, to, kind, packet, ends),
         Order::Told { to, heard, serial } => {
-            carry_several::tell_all(output, 0, to, heard, kind, packet, ends, serial)
+            let hub = table_texts::hub_of(table);
+            carry_several::tell_all(output, 0, to, heard, kind, packet, ends, hub, serial)
         }
         Order::Echo => carry_packet::forward(output, 0, c, 17, packet, ends),
         Order::Status { place } => send_progress(output, c, place, table, job),

@@ -17,9 +17,9 @@ use Rattle.packet.specs.declared.Rule.the-variants.{Digits}
 use Rattle.packet.specs.Layout as L
 use Rattle.packet.specs.Layout.{responseShape, rulesOf}
 use Rattle.packet.specs.Arguments.{digits, fits, fitAll, join}
-use Rattle.handle.specs.Handle.{handle, lap, padded, printed}
+use Rattle.handle.specs.Handle.{handle, handleMost, isHubName, padded, printed}
 use Rattle.handle.specs.declared.Handle.{Handle}
-use Rattle.handle.proofs.Handles.{handle-most}
+use Rattle.handle.proofs.Handles.{handle-bounded}
 use Rattle.handle.proofs.Printing.{printed-front}
 use Rattle.packet_kinds.proofs.Tests.{at-place}
 use Rattle.server.specs.Refusals.{refusalTexts, lastNumber, errorText, isTold}
@@ -88,29 +88,29 @@ module _ (to n : ℕ) (t : Bytes) (size : ℕ) (et : t ≡ padded 9 (errorText n
 
 -- ---- handles: the front of the printed text, as long as it says
 
-pub handle-short : (n : ℕ) → length (join (handleArguments n)) ≤ 16
+pub handle-short : (hub : Bytes) → isHubName hub ≡ true → (n : ℕ) → length (join (handleArguments hub n)) ≤ handleMost
 unfolding join handleArguments
-handle-short n = handle-most lap n
+handle-short hub good n = handle-bounded hub good n
 
-module _ (w : Handle) (n : ℕ) (e : w ≡ printed (handle lap n)) where
-  pub printed-data : take (w .length) (w .text) ≡ join (handleArguments n)
+module _ (hub : Bytes) (good : isHubName hub ≡ true) (w : Handle) (n : ℕ) (e : w ≡ printed (handle hub n)) where
+  pub printed-data : take (w .length) (w .text) ≡ join (handleArguments hub n)
   unfolding join handleArguments
-  printed-data = printed-front w n e
+  printed-data = printed-front hub good w n e
 
-  pub created-message : (to : ℕ) → message to 8 (take (w .length) (w .text)) ≡ message to 8 (join (handleArguments n))
+  pub created-message : (to : ℕ) → message to 8 (take (w .length) (w .text)) ≡ message to 8 (join (handleArguments hub n))
   created-message to = ap (message to 8) printed-data
 
-  pub printed-short : length (take (w .length) (w .text)) ≤ 16
-  printed-short = rw (printed-front w n e) (handle-most lap n)
+  pub printed-short : length (take (w .length) (w .text)) ≤ handleMost
+  printed-short = rw (printed-front hub good w n e) (handle-bounded hub good n)
 
   module _ (to : ℕ) (uniq : Bool) (f u j : Bytes) where
-    pub assign-message : uniq ≡ false → message to 11 (join (take (w .length) (w .text) ∷ f ∷ j ∷ [])) ≡ message to (cond uniq 31 11) (join (assignArguments uniq n f u j))
+    pub assign-message : uniq ≡ false → message to 11 (join (take (w .length) (w .text) ∷ f ∷ j ∷ [])) ≡ message to (cond uniq 31 11) (join (assignArguments hub uniq n f u j))
     unfolding assignArguments
-    assign-message z = rw (printed-front w n e, z)
+    assign-message z = rw (printed-front hub good w n e, z)
 
-    pub uniq-message : uniq ≡ true → message to 31 (join (take (w .length) (w .text) ∷ f ∷ u ∷ j ∷ [])) ≡ message to (cond uniq 31 11) (join (assignArguments uniq n f u j))
+    pub uniq-message : uniq ≡ true → message to 31 (join (take (w .length) (w .text) ∷ f ∷ u ∷ j ∷ [])) ≡ message to (cond uniq 31 11) (join (assignArguments hub uniq n f u j))
     unfolding assignArguments
-    uniq-message z = rw (printed-front w n e, z)
+    uniq-message z = rw (printed-front hub good w n e, z)
 
 -- ---- 20 STATUS_RES
 

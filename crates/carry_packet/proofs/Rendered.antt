@@ -50,9 +50,9 @@ module _ (e : Event) (s : Server) where
   unfolding errorArguments
   error-rendered c n = plain-rendered c 19 _
 
-  pub created-rendered : (c serial : ℕ) → message c 8 (join (handleArguments serial)) ≡ bytesFor (created c serial ∷ [])
+  pub created-rendered : (hub : Bytes) (c serial : ℕ) → message c 8 (join (handleArguments hub serial)) ≡ bytesFor (created hub c serial ∷ [])
   unfolding handleArguments
-  created-rendered c serial = plain-rendered c 8 _
+  created-rendered hub c serial = plain-rendered c 8 _
 
   pub no-job-rendered : (c : ℕ) → message c 10 [] ≡ bytesFor (plain c 10 [] ∷ [])
   unfolding join
@@ -68,11 +68,11 @@ module _ (e : Event) (s : Server) where
   status-rendered c h n d known running = plain-rendered c 20 _
 
   -- the job at place p as the table and the workloads before the event have it
-  module _ (p serial : ℕ) (f u w : Bytes) (es : serial ≡ jobAt (s .table) p .row .serial) (ef : f ≡ functionAt (s .table) (jobAt (s .table) p .row .function) .name)
+  module _ (p serial : ℕ) (hub f u w : Bytes) (eh : hub ≡ s .table .hub) (es : serial ≡ jobAt (s .table) p .row .serial) (ef : f ≡ functionAt (s .table) (jobAt (s .table) p .row .function) .name)
       (eu : u ≡ jobAt (s .table) p .unique) (ew : w ≡ fit (jobAt (s .table) p .row .size) (getD (s .workloads) p [])) where
-    pub assign-rendered : (uniq : Bool) (to : ℕ) → message to (cond uniq 31 11) (join (assignArguments uniq serial f u w)) ≡ bytesFor (assign uniq to p ∷ [])
+    pub assign-rendered : (uniq : Bool) (to : ℕ) → message to (cond uniq 31 11) (join (assignArguments hub uniq serial f u w)) ≡ bytesFor (assign uniq to p ∷ [])
     unfolding sentBytes render assignArguments message
-    assign-rendered uniq to = rw (es, ef, eu, ew) (ap (message to (cond uniq 31 11)) (assign-data uniq _ _ _ _) ∙ sym (append-nil _))
+    assign-rendered uniq to = rw (eh, es, ef, eu, ew) (ap (message to (cond uniq 31 11)) (assign-data uniq _ _ _ _) ∙ sym (append-nil _))
 
 module _ (c : ℕ) (p : Bytes) (s : Server) (long : 12 ≤ length p) where
   pub copy-rendered : (to kind : ℕ) → message to kind (drop 12 p) ≡ addressed (render (sends c p) s (copy to kind))

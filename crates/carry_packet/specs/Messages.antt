@@ -9,7 +9,7 @@ use Rattle.packet.specs.declared.Ends.{Ends}
 use Rattle.packet.specs.Layout.{isOwn, requestShape, responseShape, rulesOf}
 use Rattle.packet.specs.Arguments.{endsOf, fitAll, join}
 use Rattle.packet.specs.Packet.{got, packet, read, requests, responses}
-use Rattle.handle.specs.Handle.{handle, lap}
+use Rattle.handle.specs.Handle.{handle}
 use Rattle.server.specs.Events.{exceptionsName, flag}
 use Rattle.server.specs.Refusals.{errorText}
 
@@ -45,17 +45,17 @@ pub record Forwards (p : Bytes) (ends : Ends) (kind : ℕ) : Type 0 where
 unfoldable pub errorArguments : ℕ → List Bytes
 errorArguments n = ((n / 10 + 48) ∷ (n % 10 + 48) ∷ []) ∷ errorText n ∷ []
 
--- 8 JOB_CREATED and 14 WORK_FAIL
-unfoldable pub handleArguments : ℕ → List Bytes
-handleArguments serial = handle lap serial ∷ []
+-- 8 JOB_CREATED and 14 WORK_FAIL, from the hub of this name
+unfoldable pub handleArguments : Bytes → ℕ → List Bytes
+handleArguments hub serial = handle hub serial ∷ []
 
 -- 20 STATUS_RES
 unfoldable pub statusArguments : Bytes → Bool → Bool → Bytes → Bytes → List Bytes
 statusArguments h known running n d = h ∷ flag known ∷ flag running ∷ n ∷ d ∷ []
 
 -- 11 JOB_ASSIGN and 31 JOB_ASSIGN_UNIQ
-unfoldable pub assignArguments : Bool → ℕ → Bytes → Bytes → Bytes → List Bytes
-assignArguments uniq serial f u w = handle lap serial ∷ f ∷ cond uniq (u ∷ w ∷ []) (w ∷ [])
+unfoldable pub assignArguments : Bytes → Bool → ℕ → Bytes → Bytes → Bytes → List Bytes
+assignArguments hub uniq serial f u w = handle hub serial ∷ f ∷ cond uniq (u ∷ w ∷ []) (w ∷ [])
 
 -- 27 OPTION_RES: the one option there is
 unfoldable pub optionArguments : List Bytes

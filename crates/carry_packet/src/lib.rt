@@ -9,7 +9,7 @@ ghost use lib.ListN.{drop, length};
 ghost use Rattle.octets.specs.Put.{put};
 ghost use Rattle.packet.specs.Layout as L;
 ghost use Rattle.packet.specs.Arguments.{fits, join};
-ghost use Rattle.handle.specs.Handle.{padded};
+ghost use Rattle.handle.specs.Handle.{isHubName, padded};
 ghost use Rattle.server.specs.Refusals.{errorText, isTold, lastNumber};
 ghost use Rattle.carry_packet.specs.Messages.{Forwards, Sendable, assignArguments, handleArguments, ended, errorArguments, heading, message, optionArguments, statusArguments};
 
@@ -99,12 +99,13 @@ pub fn send_error(out: &mut [u8], at: usize, to: u8, number: u8) -> usize
     octets::put(out, place, &text[..size])
 }
 
-// Lays JOB_CREATED: the handle of a serial.
-pub fn send_created(out: &mut [u8], at: usize, to: u8, serial: u32) -> usize
-    requires { ⌜ at + length (message to 8 (join (handleArguments serial))) ≤ length (now out) ⌝ }
-    ensures { λ r. ⌜ (r ≡ at + length (message to 8 (join (handleArguments serial)))) × (now (out .exit) ≡ put at (message to 8 (join (handleArguments serial))) (now (out .entry))) ⌝ }
+// Lays JOB_CREATED: the handle of a serial at the hub of this name.
+pub fn send_created(out: &mut [u8], at: usize, to: u8, hub: &[u8], serial: u32) -> usize
+    requires { ⌜ (isHubName (now hub) ≡ true) × (at + length (message to 8 (join (handleArguments (now hub) serial))) ≤ length (now out)) ⌝ }
+    ensures { λ r. ⌜ (r ≡ at + length (message to 8 (join (handleArguments (now (hub .entry)) serial))))
+        × (now (out .exit) ≡ put at (message to 8 (join (handleArguments (now (hub .entry)) serial))) (now (out .entry))) ⌝ }
 {
-    let created = handle::handle_of(serial);
+    let created = handle::handle_of(hub, serial);
     let text = created.text;
     send(out, at, to, 8, &text[..created.length])
 }
@@ -191,24 +192,25 @@ fn assign_uniq(
     octets::put(out, load, workload)
 }
 
-// Lays JOB_ASSIGN, or JOB_ASSIGN_UNIQ with the job's unique.
+// Lays JOB_ASSIGN, or JOB_ASSIGN_UNIQ with the job's unique, from the hub of this name.
 pub fn send_assign(
     out: &mut [u8],
     at: usize,
     to: u8,
+    hub: &[u8],
     uniq: bool,
     serial: u32,
     function: &[u8],
     unique: &[u8],
     workload: &[u8],
 ) -> usize
-    requires { ⌜ (fits L.function (now function) ≡ true) × (fits L.unique (now unique) ≡ true)
+    requires { ⌜ (isHubName (now hub) ≡ true) × (fits L.function (now function) ≡ true) × (fits L.unique (now unique) ≡ true)
         × (length (now function) + length (now unique) + length (now workload) ≤ 1022)
-        × (at + length (message to (cond uniq 31 11) (join (assignArguments uniq serial (now function) (now unique) (now workload)))) ≤ length (now out)) ⌝ }
-    ensures { λ r. ⌜ (r ≡ at + length (message to (cond uniq 31 11) (join (assignArguments uniq serial (now (function .entry)) (now (unique .entry)) (now (workload .entry))))))
-        × (now (out .exit) ≡ put at (message to (cond uniq 31 11) (join (assignArguments uniq serial (now (function .entry)) (now (unique .entry)) (now (workload .entry))))) (now (out .entry))) ⌝ }
+        × (at + length (message to (cond uniq 31 11) (join (assignArguments (now hub) uniq serial (now function) (now unique) (now workload)))) ≤ length (now out)) ⌝ }
+    ensures { λ r. ⌜ (r ≡ at + length (message to (cond uniq 31 11) (join (assignArguments (now (hub .entry)) uniq serial (now (function .entry)) (now (unique .entry)) (now (workload .entry))))))
+        × (now (out .exit) ≡ put at (message to (cond uniq 31 11) (join (assignArguments (now (hub .entry)) uniq serial (now (function .entry)) (now (unique .entry)) (now (workload .entry))))) (now (out .entry))) ⌝ }
 {
-    let handle = handle::handle_of(serial);
+    let handle = handle::handle_of(hub, serial);
     let text = handle.text;
     let job = &text[..handle.length];
     if uniq {

@@ -6,7 +6,7 @@ use mathlib.Core.List.{List, [], _∷_, _++_, map, append-nil}
 use lib.ListN.{length, drop}
 use Rattle.octets.specs.Bytes.{Bytes}
 use Rattle.packet.specs.Arguments.{join}
-use Rattle.handle.specs.Handle.{handle, lap}
+use Rattle.handle.specs.Handle.{handle}
 use Rattle.sets.specs.Sets.{has}
 use Rattle.server.specs.Requests.{Event, sends}
 use Rattle.server.specs.Events.{copy, noop, failure}
@@ -29,16 +29,16 @@ module _ (c : ℕ) (p : Bytes) (s : Server) (long : 12 ≤ length p) where
   copies-rendered kind (l ∷ ls) = ap (λ (r : Bytes). r ++ messages ls kind (drop 12 p)) (copy-rendered c p s long l kind) ∙ ap (λ (r : Bytes). addressed (render (sends c p) s (copy l kind)) ++ r) (copies-rendered kind ls)
 
   -- 02: to each the copy, or WORK_FAIL with the handle
-  told-rendered : (to heard kind serial : ℕ) → toldMessage heard kind (drop 12 p) (join (handleArguments serial)) to ≡ addressed (render (sends c p) s (cond (has heard to) (copy to kind) (failure serial to)))
+  told-rendered : (to heard kind : ℕ) (hub : Bytes) (serial : ℕ) → toldMessage heard kind (drop 12 p) (join (handleArguments hub serial)) to ≡ addressed (render (sends c p) s (cond (has heard to) (copy to kind) (failure hub serial to)))
   unfolding toldMessage render message handleArguments
-  told-rendered to heard kind serial = by (has heard to)
+  told-rendered to heard kind hub serial = by (has heard to)
     where
-      by : (b : Bool) → cond b (message to kind (drop 12 p)) (message to 14 (join (handle lap serial ∷ []))) ≡ addressed (render (sends c p) s (cond b (copy to kind) (failure serial to)))
+      by : (b : Bool) → cond b (message to kind (drop 12 p)) (message to 14 (join (handle hub serial ∷ []))) ≡ addressed (render (sends c p) s (cond b (copy to kind) (failure hub serial to)))
       by true = copy-rendered c p s long to kind
       by false = ap (message to 14) (sym (append-nil _))
 
-  pub all-told-rendered : (heard kind serial : ℕ) (ls : List ℕ)
-      → toldMessages ls heard kind (drop 12 p) (join (handleArguments serial)) ≡ bytesFor (sends c p) s (map (λ l. cond (has heard l) (copy l kind) (failure serial l)) ls)
+  pub all-told-rendered : (heard kind : ℕ) (hub : Bytes) (serial : ℕ) (ls : List ℕ)
+      → toldMessages ls heard kind (drop 12 p) (join (handleArguments hub serial)) ≡ bytesFor (sends c p) s (map (λ l. cond (has heard l) (copy l kind) (failure hub serial l)) ls)
   unfolding toldMessages sentBytes
-  all-told-rendered heard kind serial [] = refl
-  all-told-rendered heard kind serial (l ∷ ls) = ap₂ (λ (x y : Bytes). x ++ y) (told-rendered l heard kind serial) (all-told-rendered heard kind serial ls)
+  all-told-rendered heard kind hub serial [] = refl
+  all-told-rendered heard kind hub serial (l ∷ ls) = ap₂ (λ (x y : Bytes). x ++ y) (told-rendered l heard kind hub serial) (all-told-rendered heard kind hub serial ls)

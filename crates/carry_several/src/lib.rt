@@ -5,13 +5,14 @@ use packet::Ends;
 use server::CONNECTIONS;
 ghost use mathlib.Core.Path.{_≡_};
 ghost use mathlib.Core.List.{[]};
-ghost use mathlib.Core.Bool.{_&&_};
+ghost use mathlib.Core.Bool.{true, _&&_};
 ghost use Prim.Native.Nat.{_+_, _/_, _^_, _≤_, _<_};
 ghost use lib.Dec.{ltb};
 ghost use lib.ListN.{drop, length};
 ghost use Rattle.octets.specs.Put.{put};
 ghost use Rattle.packet.specs.Arguments.{join};
 ghost use Rattle.sets.specs.Sets.{members};
+ghost use Rattle.handle.specs.Handle.{isHubName};
 ghost use Rattle.server.specs.Sizes.{connectionCount};
 ghost use Rattle.carry_packet.specs.Messages.{Forwards, handleArguments};
 ghost use Rattle.carry_several.specs.Several.{messageIf, messages, toldMessages};
@@ -88,8 +89,8 @@ pub fn forward_all(
     send_all(out, at, to, to, kind, &packet[12..], b"")
 }
 
-// Lays a copy of a packet's data for each connection of the set that hears it, and WORK_FAIL with the handle of a serial for the others,
-// in one rising order.
+// Lays a copy of a packet's data for each connection of the set that hears it, and WORK_FAIL with the handle of a serial at the hub of this
+// name for the others, in one rising order.
 pub fn tell_all(
     out: &mut [u8],
     at: usize,
@@ -98,14 +99,15 @@ pub fn tell_all(
     kind: u32,
     packet: &[u8],
     ends: Ends,
+    hub: &[u8],
     serial: u32,
 ) -> usize
-    requires { ⌜ Forwards (now packet) ends kind
-        × (at + length (toldMessages (members connectionCount to) heard kind (drop 12 (now packet)) (join (handleArguments serial))) ≤ length (now out)) ⌝ }
-    ensures { λ r. ⌜ (r ≡ at + length (toldMessages (members connectionCount to) heard kind (drop 12 (now (packet .entry))) (join (handleArguments serial))))
-        × (now (out .exit) ≡ put at (toldMessages (members connectionCount to) heard kind (drop 12 (now (packet .entry))) (join (handleArguments serial))) (now (out .entry))) ⌝ }
+    requires { ⌜ (isHubName (now hub) ≡ true) × Forwards (now packet) ends kind
+        × (at + length (toldMessages (members connectionCount to) heard kind (drop 12 (now packet)) (join (handleArguments (now hub) serial))) ≤ length (now out)) ⌝ }
+    ensures { λ r. ⌜ (r ≡ at + length (toldMessages (members connectionCount to) heard kind (drop 12 (now (packet .entry))) (join (handleArguments (now (hub .entry)) serial))))
+        × (now (out .exit) ≡ put at (toldMessages (members connectionCount to) heard kind (drop 12 (now (packet .entry))) (join (handleArguments (now (hub .entry)) serial))) (now (out .entry))) ⌝ }
 {
-    let failed = handle::handle_of(serial);
+    let failed = handle::handle_of(hub, serial);
     let text = failed.text;
     send_all(
         out,

@@ -14,12 +14,12 @@ use Rattle.octets.specs.Bytes.{Bytes, same, firstZero, zeroFree}
 use Rattle.octets.proofs.Strings.{and-left, and-right, and-both, zero-le-length}
 use Rattle.sets.specs.Sets.{isEmpty}
 use Rattle.lists.specs.Lists.{all, numbers, implies}
-use Rattle.server.specs.Sizes.{connectionCount, functionCount, jobCount, nameSize, uniqueSize, numberSize, idSize}
+use Rattle.server.specs.Sizes.{connectionCount, functionCount, jobCount, nameSize, uniqueSize, numberSize, idSize, hubSize}
 use Rattle.server.specs.Table.{live, queued}
-use Rattle.server.specs.Layout.{littleAt, textAt, idIn, functionIn, rowIn, jobIn, tableOf, backgroundsAt, namesAt, uniquesAt, numeratorsAt, denominatorsAt, openedAt, idsAt, tableSize}
-use Rattle.server.specs.Rules.{nextSmall, serialsBelow, serialsDistinct, textWithin, storedNumber, namesWithin, textsWithin, sizesWithin, numbersFree, numbersInRange, rowIsFree, rowHasMeaning, rowsHaveMeaning, functionsDistinct, functionsAsDefined, abilitiesOpen, listenersOpen, holdersOpen, closedClear, queuedAwaited, uniquesDistinct, sleepersIdle, idsWithin, idsOpen, obeys}
+use Rattle.server.specs.Layout.{littleAt, textAt, idIn, functionIn, rowIn, jobIn, tableOf, backgroundsAt, namesAt, uniquesAt, numeratorsAt, denominatorsAt, hubAt, openedAt, idsAt, tableSize}
+use Rattle.server.specs.Rules.{nextSmall, serialsBelow, serialsDistinct, textWithin, storedNumber, namesWithin, textsWithin, sizesWithin, numbersFree, numbersInRange, rowIsFree, rowHasMeaning, rowsHaveMeaning, functionsDistinct, functionsAsDefined, abilitiesOpen, listenersOpen, holdersOpen, closedClear, queuedAwaited, uniquesDistinct, sleepersIdle, idsWithin, idsOpen, hubNamed, obeys}
 use Rattle.server.specs.Call.{isSound}
-use Rattle.table_laws.specs.Tests.{areFlags, arePadded, imageTests}
+use Rattle.table_laws.specs.Tests.{areFlags, isPadded, arePadded, imageTests}
 use Rattle.table_laws.proofs.Image.{image-tests}
 use Rattle.lists.proofs.Rows.{below-by}
 use Rattle.table_passes.proofs.Tests.{iff, and-same, all-and, same-below}
@@ -31,6 +31,7 @@ use Rattle.check_numbers.specs.Numbers.{connectionRules, numberRules}
 use Rattle.check_exact.proofs.Texts.{text-within}
 use Rattle.check_texts.specs.Stored.{storedAt, storedRules}
 use Rattle.check_ids.specs.Ids.{idRules}
+use Rattle.check_hub.specs.Hub.{hubRules}
 use Rattle.check_table.specs.Parts.{byteRules, textRules}
 
 -- ---- rules that any bytes obey
@@ -141,26 +142,28 @@ module _ (b : Bytes) (long : tableSize connectionCount ≤ length b) where
 
 -- ---- all rules, in the order of the check and in that of document 01
 
--- in the order of the check: flags of jobs and of connections, padded names, uniques and ids, ids of open connections; rows, uniques of free ones, serials below the last and
--- distinct, connections, functions known as defined; padded numbers, stored ones, sizes, functions distinct, uniques of others. Then the three
--- rules of any bytes and the three of whole jobs
-module _ (backgrounds flags names uniques ids ids-open rows free below distinct abilities listeners holders closed sleepers known numerators denominators stored sizes functions others next-serial names-within-places ids-within-places texts meaning awaited : Bool) (next : next-serial ≡ true) (names-fit : names-within-places ≡ true) (ids-fit : ids-within-places ≡ true) (whole-jobs : rows && (free && stored) ≡ (texts && meaning) && awaited) where
+-- in the order of the check: flags of jobs and of connections, padded names, uniques and ids, ids of open connections, the hub's name padded
+-- and one; rows, uniques of free ones, serials below the last and distinct, connections, functions known as defined; padded numbers, stored
+-- ones, sizes, functions distinct, uniques of others. Then the three rules of any bytes and the three of whole jobs
+module _ (backgrounds flags names uniques ids ids-open hub hub-named rows free below distinct abilities listeners holders closed sleepers known numerators denominators stored sizes functions others next-serial names-within-places ids-within-places texts meaning awaited : Bool) (next : next-serial ≡ true) (names-fit : names-within-places ≡ true) (ids-fit : ids-within-places ≡ true) (whole-jobs : rows && (free && stored) ≡ (texts && meaning) && awaited) where
   checked : Bool
-  checked = ((backgrounds && flags) && (names && (uniques && (ids && ids-open)))) && ((rows && (free && ((below && distinct) && ((abilities && (listeners && (holders && (closed && sleepers)))) && known)))) && (((numerators && denominators) && stored) && (sizes && (functions && others))))
+  checked = ((backgrounds && flags) && (names && (uniques && ((ids && ids-open) && (hub && hub-named))))) && ((rows && (free && ((below && distinct) && ((abilities && (listeners && (holders && (closed && sleepers)))) && known)))) && (((numerators && denominators) && stored) && (sizes && (functions && others))))
 
   defined : Bool
   defined =
-      (backgrounds && (names && (uniques && (numerators && (denominators && (flags && ids)))))) && (next-serial && (below && (distinct && (names-within-places && (texts && (sizes && (meaning && (functions && (known && (abilities && (listeners && (holders && (closed && (awaited && (others && (sleepers && (ids-within-places && ids-open)))))))))))))))))
+      (backgrounds && (names && (uniques && (numerators && (denominators && (hub && (flags && ids))))))) && (next-serial && (below && (distinct && (names-within-places && (texts && (sizes && (meaning && (functions && (known && (abilities && (listeners && (holders && (closed && (awaited && (others && (sleepers && (ids-within-places && (ids-open && hub-named))))))))))))))))))
 
   to : checked ≡ true → defined ≡ true
   unfolding checked defined
   to h =
-      let byte-part = and-left ((backgrounds && flags) && (names && (uniques && (ids && ids-open)))) _ h in
-      let both-flags = and-left (backgrounds && flags) (names && (uniques && (ids && ids-open))) byte-part in
-      let both-texts = and-right (backgrounds && flags) (names && (uniques && (ids && ids-open))) byte-part in
-      let x9 = and-right names (uniques && (ids && ids-open)) both-texts in
-      let both-ids = and-right uniques (ids && ids-open) x9 in
-      let rest = and-right ((backgrounds && flags) && (names && (uniques && (ids && ids-open)))) _ h in
+      let byte-part = and-left ((backgrounds && flags) && (names && (uniques && ((ids && ids-open) && (hub && hub-named))))) _ h in
+      let both-flags = and-left (backgrounds && flags) (names && (uniques && ((ids && ids-open) && (hub && hub-named)))) byte-part in
+      let both-texts = and-right (backgrounds && flags) (names && (uniques && ((ids && ids-open) && (hub && hub-named)))) byte-part in
+      let x9 = and-right names (uniques && ((ids && ids-open) && (hub && hub-named))) both-texts in
+      let texts-by-place = and-right uniques ((ids && ids-open) && (hub && hub-named)) x9 in
+      let both-ids = and-left (ids && ids-open) (hub && hub-named) texts-by-place in
+      let both-hubs = and-right (ids && ids-open) (hub && hub-named) texts-by-place in
+      let rest = and-right ((backgrounds && flags) && (names && (uniques && ((ids && ids-open) && (hub && hub-named))))) _ h in
       let number-part = and-left (rows && (free && ((below && distinct) && ((abilities && (listeners && (holders && (closed && sleepers)))) && known)))) _ rest in
       let last = and-right (rows && (free && ((below && distinct) && ((abilities && (listeners && (holders && (closed && sleepers)))) && known)))) _ rest in
       let x1 = and-right rows _ number-part in
@@ -184,9 +187,11 @@ module _ (backgrounds flags names uniques ids ids-open rows free below distinct 
         and-left backgrounds flags both-flags,
         and-right backgrounds flags both-flags,
         and-left names _ both-texts,
-        and-left uniques (ids && ids-open) x9,
+        and-left uniques ((ids && ids-open) && (hub && hub-named)) x9,
         and-left ids ids-open both-ids,
         and-right ids ids-open both-ids,
+        and-left hub hub-named both-hubs,
+        and-right hub hub-named both-hubs,
         and-left below distinct serials,
         and-right below distinct serials,
         and-left abilities _ set-part,
@@ -208,13 +213,14 @@ module _ (backgrounds flags names uniques ids ids-open rows free below distinct 
   from : defined ≡ true → checked ≡ true
   unfolding checked defined
   from h =
-      let image = and-left (backgrounds && (names && (uniques && (numerators && (denominators && (flags && ids)))))) _ h in
+      let image = and-left (backgrounds && (names && (uniques && (numerators && (denominators && (hub && (flags && ids))))))) _ h in
       let i1 = and-right backgrounds _ image in
       let i2 = and-right names _ i1 in
       let i3 = and-right uniques _ i2 in
       let i4 = and-right numerators _ i3 in
-      let i5 = and-right denominators (flags && ids) i4 in
-      let x0 = and-right (backgrounds && (names && (uniques && (numerators && (denominators && (flags && ids)))))) _ h in
+      let i5 = and-right denominators (hub && (flags && ids)) i4 in
+      let i6 = and-right hub (flags && ids) i5 in
+      let x0 = and-right (backgrounds && (names && (uniques && (numerators && (denominators && (hub && (flags && ids))))))) _ h in
       let x1 = and-right next-serial _ x0 in
       let x2 = and-right below _ x1 in
       let x3 = and-right distinct _ x2 in
@@ -230,7 +236,8 @@ module _ (backgrounds flags names uniques ids ids-open rows free below distinct 
       let y3 = and-right closed _ y2 in
       let y4 = and-right awaited _ y3 in
       let y5 = and-right others _ y4 in
-      let y6 = and-right sleepers (ids-within-places && ids-open) y5 in
+      let y6 = and-right sleepers (ids-within-places && (ids-open && hub-named)) y5 in
+      let y7 = and-right ids-within-places (ids-open && hub-named) y6 in
       let whole : rows && (free && stored) ≡ true = whole-jobs ∙ and-both (texts && meaning) awaited (and-both texts meaning (and-left texts _ x4) (and-left meaning _ x6)) (and-left awaited _ y3) in
       let pair = and-right rows (free && stored) whole in
       rw (
@@ -238,9 +245,10 @@ module _ (backgrounds flags names uniques ids ids-open rows free below distinct 
         and-left names _ i1,
         and-left uniques _ i2,
         and-left numerators _ i3,
-        and-left denominators (flags && ids) i4,
-        and-left flags ids i5,
-        and-right flags ids i5,
+        and-left denominators (hub && (flags && ids)) i4,
+        and-left hub (flags && ids) i5,
+        and-left flags ids i6,
+        and-right flags ids i6,
         and-left below _ x1,
         and-left distinct _ x2,
         and-left sizes _ x5,
@@ -251,8 +259,9 @@ module _ (backgrounds flags names uniques ids ids-open rows free below distinct 
         and-left holders _ y1,
         and-left closed _ y2,
         and-left others _ y4,
-        and-left sleepers (ids-within-places && ids-open) y5,
-        and-right ids-within-places ids-open y6,
+        and-left sleepers (ids-within-places && (ids-open && hub-named)) y5,
+        and-left ids-open hub-named y7,
+        and-right ids-open hub-named y7,
         and-left rows (free && stored) whole,
         and-left free stored pair,
         and-right free stored pair,
@@ -262,10 +271,10 @@ module _ (backgrounds flags names uniques ids ids-open rows free below distinct 
   reorder = iff checked defined to from
 
 pub sound-is : (b : Bytes) → ((k : ℕ) → getD b k 0 < 256) → tableSize connectionCount ≤ length b → byteRules b && ((rowsMean b && numberRules b) && textRules b) ≡ isSound connectionCount b
-unfolding byteRules idRules numberRules connectionRules textRules storedRules isSound imageTests obeys checked defined
+unfolding byteRules idRules hubRules numberRules connectionRules textRules storedRules isSound imageTests obeys checked defined
 sound-is b small long =
     let t = tableOf connectionCount b in
-    reorder (areFlags jobCount b backgroundsAt) (areFlags (3 * connectionCount) b (openedAt connectionCount)) (arePadded nameSize functionCount b namesAt) (arePadded uniqueSize jobCount b uniquesAt) (arePadded idSize connectionCount b (idsAt connectionCount)) (idsOpen t) (rowsMean b) (all (freeOrJob b) (numbers 0 jobCount)) (serialsBelow t) (serialsDistinct t)
+    reorder (areFlags jobCount b backgroundsAt) (areFlags (3 * connectionCount) b (openedAt connectionCount)) (arePadded nameSize functionCount b namesAt) (arePadded uniqueSize jobCount b uniquesAt) (arePadded idSize connectionCount b (idsAt connectionCount)) (idsOpen t) (isPadded hubSize b hubAt) (hubNamed t) (rowsMean b) (all (freeOrJob b) (numbers 0 jobCount)) (serialsBelow t) (serialsDistinct t)
     (abilitiesOpen t) (listenersOpen t) (holdersOpen t) (closedClear t) (sleepersIdle t) (functionsAsDefined t) (arePadded numberSize jobCount b numeratorsAt) (arePadded numberSize jobCount b denominatorsAt) (all (storedAt b) (numbers 0 jobCount))
     (sizesWithin t) (functionsDistinct t) (uniquesDistinct t) (nextSmall t) (namesWithin t) (idsWithin t) (textsWithin t) (rowsHaveMeaning t) (queuedAwaited t) (next-small b small) (names-within b) (ids-within b) (jobs-hold b long)
     ∙ ap (λ (x : Bool). x && obeys t) (sym (image-tests connectionCount b small long))
@@ -274,10 +283,10 @@ sound-is b small long =
 pub each-of : (b : Bytes) → byteRules b ≡ true → (areFlags jobCount b backgroundsAt ≡ true) × (areFlags (3 * connectionCount) b (openedAt connectionCount) ≡ true) × (arePadded nameSize functionCount b namesAt ≡ true) × (arePadded uniqueSize jobCount b uniquesAt ≡ true)
 unfolding byteRules
 each-of b e =
-    let flags = and-left (areFlags jobCount b backgroundsAt && areFlags (3 * connectionCount) b (openedAt connectionCount)) (arePadded nameSize functionCount b namesAt && (arePadded uniqueSize jobCount b uniquesAt && idRules b)) e in
-    let texts = and-right (areFlags jobCount b backgroundsAt && areFlags (3 * connectionCount) b (openedAt connectionCount)) (arePadded nameSize functionCount b namesAt && (arePadded uniqueSize jobCount b uniquesAt && idRules b)) e in (
+    let flags = and-left (areFlags jobCount b backgroundsAt && areFlags (3 * connectionCount) b (openedAt connectionCount)) (arePadded nameSize functionCount b namesAt && (arePadded uniqueSize jobCount b uniquesAt && (idRules b && hubRules b))) e in
+    let texts = and-right (areFlags jobCount b backgroundsAt && areFlags (3 * connectionCount) b (openedAt connectionCount)) (arePadded nameSize functionCount b namesAt && (arePadded uniqueSize jobCount b uniquesAt && (idRules b && hubRules b))) e in (
       and-left (areFlags jobCount b backgroundsAt) (areFlags (3 * connectionCount) b (openedAt connectionCount)) flags,
       and-right (areFlags jobCount b backgroundsAt) (areFlags (3 * connectionCount) b (openedAt connectionCount)) flags,
       and-left (arePadded nameSize functionCount b namesAt) _ texts,
-      and-left (arePadded uniqueSize jobCount b uniquesAt) (idRules b) (and-right (arePadded nameSize functionCount b namesAt) _ texts),
+      and-left (arePadded uniqueSize jobCount b uniquesAt) (idRules b && hubRules b) (and-right (arePadded nameSize functionCount b namesAt) _ texts),
     )

@@ -8,10 +8,11 @@ use Rattle.server.specs.Rules.{sizesWithin, functionsDistinct, uniquesDistinct}
 use Rattle.table_laws.specs.Tests.{areFlags, arePadded}
 use Rattle.check_texts.specs.Stored.{storedRules}
 use Rattle.check_ids.specs.Ids.{idRules}
+use Rattle.check_hub.specs.Hub.{hubRules}
 
--- each flag is 0 or 1, zeros follow each name and unique, and the rules of ids
+-- each flag is 0 or 1, zeros follow each name and unique, and the rules of ids and of the hub's name
 unfoldable pub byteRules : Bytes → Bool
-byteRules b = (areFlags jobCount b backgroundsAt && areFlags (3 * connectionCount) b (openedAt connectionCount)) && (arePadded nameSize functionCount b namesAt && (arePadded uniqueSize jobCount b uniquesAt && idRules b))
+byteRules b = (areFlags jobCount b backgroundsAt && areFlags (3 * connectionCount) b (openedAt connectionCount)) && (arePadded nameSize functionCount b namesAt && (arePadded uniqueSize jobCount b uniquesAt && (idRules b && hubRules b)))
 
 -- the rules that read texts
 unfoldable pub textRules : Bytes → Bool

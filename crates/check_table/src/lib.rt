@@ -21,7 +21,7 @@ ghost use Rattle.check_table.specs.Parts.{byteRules, textRules};
 // The flags of all connections.
 const FLAGS: usize = 3 * CONNECTIONS;
 
-// Whether each flag is 0 or 1, each name, unique and client id is followed by zeros, and only open connections have an id.
+// Whether each flag is 0 or 1, each name, unique and client id is followed by zeros, only open connections have an id, and the hub has a name.
 fn bytes_hold(table: &[u8]) -> bool
     requires { ⌜ tableSize connectionCount ≤ length (now table) ⌝ }
     ensures { λ r. ⌜ r ≡ byteRules (now (table .entry)) ⌝ }
@@ -31,7 +31,7 @@ fn bytes_hold(table: &[u8]) -> bool
     {
         if check_image::names_padded(table) {
             if check_image::uniques_padded(table) {
-                return check_ids::ids_hold(table);
+                return check_ids::ids_hold(table) & check_hub::hub_holds(table);
             }
         }
     }

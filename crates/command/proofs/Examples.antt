@@ -6,7 +6,7 @@ use mathlib.Core.Bool.{true}
 use mathlib.Core.List.{List, [], _∷_}
 use lib.ListN.{replicate}
 use Rattle.octets.specs.Bytes.{Bytes, every, firstZero, same, text}
-use Rattle.handle.specs.Handle.{decimal, decimalIn}
+use Rattle.handle.specs.Handle.{decimal, decimalIn, isHubName, lap}
 use Rattle.prints.specs.Printed.{printed, printedOr}
 use Rattle.sets.specs.Sets.{has, members}
 use Rattle.server.specs.Table.{Function, Job, Table, closed, noFunction, noJob, justOpened, freshRow, inBackground, withHolder, withListeners, unstarted}
@@ -91,6 +91,7 @@ edge =
       ids = text "board" ∷ (32 ∷ 33 ∷ 126 ∷ 127 ∷ 255 ∷ []) ∷ [] ∷ [] ∷ [] ∷ [];
       functions = functions;
       jobs = jobs;
+      hub = lap;
     }
 
 -- one name that opens all that an answer uses
@@ -99,7 +100,7 @@ unfolding textFor says same statusText statusLine jobsOf heldOf ableOf members h
 compute t line = textFor line t
 
 edge-obeys : obeys edge ≡ true
-unfolding obeys same firstZero every has
+unfolding obeys isHubName same firstZero every has
 edge-obeys = refl
 
 -- by the true bytes: `?` is put in afterwards

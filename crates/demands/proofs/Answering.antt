@@ -44,7 +44,7 @@ error-bytes c n = ap (λ (d : Bytes). c ∷ packet (responses .magic) 19 d) (app
 
 error-reads : (c n : ℕ) → isTold n ≡ true → map messageIn (packetsIn (addressed (errorPacket c n))) ≡ record { to = c; says = got 19 (errorArguments n) } ∷ []
 unfolding sentBytes render messageOf join
-error-reads c n h = ap (λ (b : Bytes). map messageIn (packetsIn b)) (sym (append-nil (addressed (errorPacket c n)))) ∙ messages-read (sends c []) (start 0) (error c n ∷ []) (All.more (reads-error (sends c []) (start 0) c n h) All.none)
+error-reads c n h = ap (λ (b : Bytes). map messageIn (packetsIn b)) (sym (append-nil (addressed (errorPacket c n)))) ∙ messages-read (sends c []) (start 0 []) (error c n ∷ []) (All.more (reads-error (sends c []) (start 0 []) c n h) All.none)
 
 -- a result whose output begins with it tells it
 tells-error : (r : Result) (o : Bytes) (c : ℕ) → r .length′ ≡ length (errorBytes c (r .number)) → r .output ≡ errorBytes c (r .number) ++ drop (length (errorBytes c (r .number))) o

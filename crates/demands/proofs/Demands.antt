@@ -4,13 +4,14 @@ use Prim.Native.Nat.{ℕ}
 use mathlib.Core.Path.{_≡_}
 use mathlib.Core.Bool.{true, false, _||_}
 use mathlib.Core.List.{List}
-use lib.ListN.{take, drop}
+use lib.ListN.{take, drop, replicate}
 use Rattle.octets.specs.Bytes.{Bytes, every}
+use Rattle.handle.specs.Handle.{handle, isHubName}
 use Rattle.packet.specs.Packet.{read, requests}
 use Rattle.server.specs.Requests.{Event, sends, fromReading, requestIn}
 use Rattle.server.specs.Server.{Server, start}
 use Rattle.server.specs.Layout.{tableOf}
-use Rattle.server.specs.Call.{call}
+use Rattle.server.specs.Call.{made, make, refusedBy, call}
 use Rattle.server_calls.specs.History.{Call, Memory}
 use Rattle.server_calls.proofs.Follows.{Running, tableWith, workloadsWith}
 use Rattle.server_calls.proofs.Histories.{LongOutputs}
@@ -36,6 +37,7 @@ use Rattle.demands.proofs.Answering.{call-answered}
 use Rattle.demands.proofs.Numbers.{number-first}
 use Rattle.demands.proofs.Walking.{walk-hub}
 use Rattle.demands.proofs.Handles.{call-stands, call-makes, call-unheard, calls-gone}
+use Rattle.demands.proofs.Names.{make-refused, make-named, fresh-name, zeros-refused, calls-name, call-named, calls-foreign, calls-apart}
 use Rattle.demands.proofs.Restart.{restart-hub, told-restart}
 use Rattle.demands.proofs.Options.{calls-option}
 use Rattle.demands.proofs.Results.{calls-heard, call-tells-each, call-ends, fresh-results}
@@ -47,13 +49,13 @@ use Rattle.demands.proofs.Commands.{say-said, say-readable, say-number,
 
 -- ---- the memory
 
--- making a fresh table leaves such memory
-pub fresh-hub : (n : ℕ) (t w : Bytes) → Room n t w → Hub n (freshMemory n t w)
-fresh-hub n t w r = hub-fresh n (r .few) t w (r .longTable) (r .longWorkloads)
+-- making a fresh table for a hub's name leaves such memory
+pub fresh-hub : (n : ℕ) (name : Bytes) → isHubName name ≡ true → (t w : Bytes) → Room n t w → Hub n (freshMemory n name t w)
+fresh-hub = hub-fresh
 
 -- it holds the fresh server of the definitions
-pub fresh-holds : (n : ℕ) (t w : Bytes) → Room n t w → serverOf n (freshMemory n t w) ≡ start n
-fresh-holds n t w r = fresh-server n (r .few) t w (r .longTable) (r .longWorkloads)
+pub fresh-holds : (n : ℕ) (name : Bytes) → isHubName name ≡ true → (t w : Bytes) → Room n t w → serverOf n (freshMemory n name t w) ≡ start n name
+fresh-holds = fresh-server
 
 -- so does whatever a server that runs is laid into
 pub running-hub : (n : ℕ) (t w : Bytes) → Room n t w → (s : Server) → Running n s → Hub n (record { table = tableWith s t; workloads = workloadsWith s w })
@@ -136,10 +138,10 @@ module _ (n : ℕ) (m : Memory) (hub : Hub n m) where
 
 -- all together, from a fresh table on: a result goes exactly to those who were told this very handle since their open, and an exception
 -- to those of them who asked for exceptions since then; the others hear WORK_FAIL
-pub results-told : (n : ℕ) (t w : Bytes) → Room n t w → (xs : List Call) → LongOutputs n xs → let m = freshMemory n t w in let u = afterCalls n xs m in
+pub results-told : (n : ℕ) (name : Bytes) → isHubName name ≡ true → (t w : Bytes) → Room n t w → (xs : List Call) → LongOutputs n xs → let m = freshMemory n name t w in let u = afterCalls n xs m in
     (x : Call) → Long n x → (d : ℕ) (b h : Bytes) → x .event ≡ sends d b → readingTells h (read requests b) ≡ true → callOn n u x .number ≡ 0
     → EachOnce (λ l. heard l h false xs (resultsOf n xs m)) (resultFor (λ l. catches l false xs (resultsOf n xs m)) (typeOf b) (argumentsOf (sends d b)) h) (told (callOn n u x))
-results-told n t w r = fresh-results n (r .few) t w (r .longTable) (r .longWorkloads)
+results-told = fresh-results
 
 -- ---- demand 3
 
@@ -193,14 +195,51 @@ pub text-blind : (n : ℕ) {xs ys : List Call} → AlikeEvents xs ys → LongOut
     → (c : ℕ) (line o : Bytes) → let u = afterCalls n xs m in let v = afterCalls n ys k in SameText (say n c line (u .table) (u .workloads) o) (say n c line (v .table) (v .workloads) o)
 text-blind = texts-alike
 
+-- ---- the hub's name: 02, ask 5
+
+-- making a table under any name on any bytes: it is made, and then the name is a hub's; or it is refused by 1, and nothing is written
+pub fresh-refused : (n : ℕ) (name t w : Bytes) → ¬ (make n name t w .number ≡ 0) → make n name t w ≡ made 1 t w
+fresh-refused = make-refused
+
+pub fresh-good : (n : ℕ) (name t w : Bytes) → make n name t w .number ≡ 0 → isHubName name ≡ true
+fresh-good = make-named
+
+-- a fresh table has the name that it was made with
+pub fresh-named : (n : ℕ) (name : Bytes) → isHubName name ≡ true → (t w : Bytes) → Room n t w → tableIn n (freshMemory n name t w) .hub ≡ name
+fresh-named = fresh-name
+
+-- a table of zeros, which a host may have made by itself, has none: every call on it is refused by 1
+pub name-missing : (n : ℕ) (e : Event) (k : ℕ) (w o : Bytes) → call n e (replicate k 0) w o ≡ refusedBy 1 (replicate k 0) w o
+name-missing = zeros-refused
+
+module _ (n : ℕ) (m : Memory) (hub : Hub n m) where
+  -- no call changes the name
+  pub name-kept : (xs : List Call) → LongOutputs n xs → tableIn n (afterCalls n xs m) .hub ≡ tableIn n m .hub
+  name-kept = calls-name n m hub
+
+  -- it stands in every handle that a packet of types 8, 11 or 31 gives
+  pub handle-named : (h : Bytes) (x : Call) → Long n x → given h (told (callOn n m x)) ≡ true → (serial : ℕ) × (h ≡ handle (tableIn n m .hub) serial)
+  handle-named = call-named n m hub
+
+  -- a handle that names another hub, whatever its serial, is nobody's, after any calls: no call gives it out, a worker packet that names it is
+  -- refused by 14, and its status is unknown
+  pub handle-foreign : (other : Bytes) → isHubName other ≡ true → ¬ (other ≡ tableIn n m .hub) → (serial : ℕ) → (xs : List Call) → LongOutputs n xs → Spent n (handle other serial) (afterCalls n xs m)
+  handle-foreign = calls-foreign n m hub
+
+-- handles of two hubs never agree: what a call of one hub gives out, no call of a hub of another name does, in any two histories
+pub hubs-apart : (n k : ℕ) (m w : Memory) → Hub n m → Hub k w → ¬ (tableIn n m .hub ≡ tableIn k w .hub) → (xs ys : List Call) → LongOutputs n xs → LongOutputs k ys
+    → (x y : Call) → Long n x → Long k y → (h : Bytes) → given h (told (callOn n (afterCalls n xs m) x)) ≡ true → given h (told (callOn k (afterCalls k ys w) y)) ≡ false
+hubs-apart = calls-apart
+
 -- ---- restart
 
--- what is said of handles holds from one fresh table on: a second one begins with serial 1 again. But a fresh table, made of any long
--- enough buffers, into which the host writes bytes 0 to 3 of the old one, its last serial, is a host's memory
-pub restart-runs : (n : ℕ) (old : Memory) → Hub n old → (t w : Bytes) → Room n t w → Hub n (restarted n old t w)
-restart-runs n old hub t w r = restart-hub n old hub t w (r .longTable) (r .longWorkloads)
+-- what is said of handles holds from one fresh table on: a second one of the same name begins with serial 1 again. But a fresh table, made of
+-- any long enough buffers and any hub's name, into which the host writes bytes 0 to 3 of the old one, its last serial, is a host's memory
+pub restart-runs : (n : ℕ) (old : Memory) → Hub n old → (name : Bytes) → isHubName name ≡ true → (t w : Bytes) → Room n t w → Hub n (restarted n old name t w)
+restart-runs n old hub name good t w r = restart-hub n old hub name good t w (r .longTable) (r .longWorkloads)
 
--- and no handle that a call x gave before the restart is given after it, nor is a late result for it taken
+-- and no handle that a call x gave before the restart is given after it, nor is a late result for it taken, whichever name the new table has
 pub restart-unheard : (n : ℕ) (m : Memory) → Hub n m → (h : Bytes) (x : Call) → Long n x → given h (told (callOn n m x)) ≡ true → (between : List Call) → LongOutputs n between
-    → (t w : Bytes) → Room n t w → (later : List Call) → LongOutputs n later → Spent n h (afterCalls n later (restarted n (afterCalls n between (kept (callOn n m x))) t w))
-restart-unheard n m hub h x lx g between lb t w r = told-restart n m hub h x lx g between lb t w (r .longTable) (r .longWorkloads)
+    → (name : Bytes) → isHubName name ≡ true → (t w : Bytes) → Room n t w → (later : List Call) → LongOutputs n later
+    → Spent n h (afterCalls n later (restarted n (afterCalls n between (kept (callOn n m x))) name t w))
+restart-unheard n m hub h x lx g between lb name good t w r = told-restart n m hub h x lx g between lb name good t w (r .longTable) (r .longWorkloads)

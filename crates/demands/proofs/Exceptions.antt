@@ -6,7 +6,7 @@ use mathlib.Core.Bool.{true}
 use mathlib.Core.List.{List}
 use native.Mathlib.Omega.{arith}
 use Rattle.octets.specs.Bytes.{Bytes}
-use Rattle.handle.specs.Handle.{handle, lap}
+use Rattle.handle.specs.Handle.{handle}
 use Rattle.packet.specs.Layout.{requestShape}
 use Rattle.packet.specs.Packet.{got, requests}
 use Rattle.packet_laws.proofs.Packets.{read-got}
@@ -94,7 +94,7 @@ module _ (n : ℕ) (m w : Memory) (hm : Hub n m) (hw : Hub n w) (same : serverOf
   unfolding serverIn
   later-same (made-none f e p) = (e, p)
   later-same (made-one k z p f) =
-      let (i, e, d) = made-creates (x .event) (serverOf n m) (handle lap k) (subst (λ (s : Server). isMade (handle lap k) (tableIn n m) (s .table) ≡ true) (call-next n m hm x lx) z) in
+      let (i, e, d) = made-creates (x .event) (serverOf n m) (handle (tableIn n m .hub) k) (subst (λ (s : Server). isMade (handle (tableIn n m .hub) k) (tableIn n m) (s .table) ≡ true) (call-next n m hm x lx) z) in
       absurd (makes-none c b type (subst (λ (v : Event). Submits v (numbered d .sender)) q (numbered d .asks)))
 
   but-all : (e : Event) → e ≡ sends c b → {ps qs : List Addressed} → All2 (ButCopies (tableIn n m) e (y .event)) ps qs → All2 (ButExceptions (tableIn n m) e (y .event)) ps qs

@@ -8,7 +8,7 @@ use lib.ListN.{length}
 use lib.Dec.{eqb}
 use Rattle.octets.specs.Bytes.{Bytes}
 use Rattle.octets.proofs.Strings.{and-left, and-right, and-both, same-is, same-refl}
-use Rattle.handle.specs.Handle.{handle, lap}
+use Rattle.handle.specs.Handle.{handle}
 use Rattle.packet.specs.Layout.{isOwn, requestShape}
 use Rattle.packet.specs.Packet.{requests}
 use Rattle.packet_laws.proofs.Packets.{read-got}
@@ -32,18 +32,18 @@ pub record At (h : Bytes) (t : Table) : Type 0 where
   pub place : ℕ
   pub inside : place < length (t .jobs)
   pub live′ : live (jobAt t place .row) ≡ true
-  pub is : h ≡ handle lap (jobAt t place .row .serial)
+  pub is : h ≡ handle (t .hub) (jobAt t place .row .serial)
 
 pub stands-at : (h : Bytes) (t : Table) → stands h t ≡ true → At h t
 unfolding stands hasHandle
 stands-at h t e =
-    let (p, i, q) = any-where (λ j. hasHandle h (j .row)) (t .jobs) noJob e in
+    let (p, i, q) = any-where (λ j. hasHandle (t .hub) h (j .row)) (t .jobs) noJob e in
     record { place = p; inside = i; live′ = and-left (live (jobAt t p .row)) _ q; is = sym (same-is _ _ (and-right (live (jobAt t p .row)) _ q)) }
 
 pub at-stands : (h : Bytes) (t : Table) → At h t → stands h t ≡ true
 unfolding stands hasHandle
 at-stands h t a =
-    any-at (λ j. hasHandle h (j .row)) (t .jobs) (a .place) noJob (a .inside)
+    any-at (λ j. hasHandle (t .hub) h (j .row)) (t .jobs) (a .place) noJob (a .inside)
     (and-both (live (jobAt t (a .place) .row)) _ (a .live′) (rw (a .is) (same-refl _)))
 
 -- ---- the types that give a handle are no request's
@@ -68,7 +68,7 @@ work-gives-none b how kind h n d q =
 -- the handle is that of a job that stands in the table before the event, or of the job with the next serial, which is m then
 pub data Known (s : Server) (m : ℕ) (h : Bytes) : Type 0 where
   standing : At h (s .table) → Known s m h
-  newest : s .table .last < 4294967295 → m ≡ suc (s .table .last) → h ≡ handle lap (suc (s .table .last)) → Known s m h
+  newest : s .table .last < 4294967295 → m ≡ suc (s .table .last) → h ≡ handle (s .table .hub) (suc (s .table .last)) → Known s m h
 
 module _ (e : Event) (s : Server) where
   -- whatever handle it gives
@@ -83,11 +83,11 @@ module _ (e : Event) (s : Server) where
   unfolding messageOf
   gives-copy m to kind q h g = clash (and-left (givesHandle kind) _ g) q
 
-  gives-joined : (m to p : ℕ) → p < length (s .table .jobs) → live (jobAt (s .table) p .row) ≡ true → Gives m (created to (jobAt (s .table) p .row .serial))
+  gives-joined : (m to p : ℕ) → p < length (s .table .jobs) → live (jobAt (s .table) p .row) ≡ true → Gives m (created (s .table .hub) to (jobAt (s .table) p .row .serial))
   unfolding messageOf
   gives-joined m to p i l h g = standing (record { place = p; inside = i; live′ = l; is = sym (same-is _ _ g) })
 
-  gives-made : (m to : ℕ) → s .table .last < 4294967295 → m ≡ suc (s .table .last) → Gives m (created to (suc (s .table .last)))
+  gives-made : (m to : ℕ) → s .table .last < 4294967295 → m ≡ suc (s .table .last) → Gives m (created (s .table .hub) to (suc (s .table .last)))
   unfolding messageOf
   gives-made m to l z h g = newest l z (sym (same-is _ _ g))
 

@@ -12,7 +12,7 @@ use lib.ListN.{length, getD, List·getD-eq-default}
 use lib.Dec.{eqb, leb, ltb}
 use Rattle.octets.specs.Bytes.{Bytes, same, numberAt}
 use Rattle.octets.proofs.Strings.{and-left, and-right, and-both, same-is, same-refl}
-use Rattle.handle.specs.Handle.{handle, lap}
+use Rattle.handle.specs.Handle.{handle}
 use Rattle.handle.proofs.Handles.{handle-one-to-one}
 use Rattle.packet.specs.Packet.{Reading, refused, got, read, requests}
 use Rattle.packet_laws.proofs.Packets.{read-got}
@@ -20,16 +20,18 @@ use Rattle.lists.specs.Lists.{any}
 use Rattle.lists.proofs.Searches.{found}
 use Rattle.lists.proofs.Rows.{clash, never, or-left, or-right, all-at}
 use Rattle.server.specs.declared.Connection.{Connection}
-use Rattle.server.specs.Table.{Table, closed, noJob, connectionAt, jobAt, live, heldBy, hasHandle}
-use Rattle.server.specs.Requests.{Event, sends, Work, tells, reports, ends, throws, work, requested, fromReading, requestIn}
-use Rattle.server.specs.Events.{refuse, holdsHandle, workAt, served, isConnection, onlyIfOpen, heldJobOf}
+use Rattle.server.specs.Table.{Table, closed, noJob, connectionAt, jobAt, live, heldBy, hasHandle, jobOf}
+use Rattle.server.specs.Requests.{Event, sends, Work, tells, reports, ends, throws, work, getStatus, requested, fromReading, requestIn}
+use Rattle.server.specs.Events.{plain, refuse, holdsHandle, workAt, statusOf, statusAt, served, isConnection, onlyIfOpen, heldJobOf}
 use Rattle.server.specs.Rules.{isOpen}
 use Rattle.server.specs.Server.{Server, decided, answer, next, after}
 use Rattle.server_laws.proofs.Serials.{Creates, Creation, nothing, one, creation, Numbered, numbered, grown-creates, last-kept, last-rises}
+use Rattle.server_laws.proofs.Lengths.{hub-kept, hub-after}
+use Rattle.server_laws.proofs.AtRest.{settle-nothing}
 use Rattle.server_laws.proofs.Obeyed.{obeyed}
 use Rattle.server_calls.proofs.Follows.{Running, running-next}
 use Rattle.demands.specs.Messages.{messageOf, messagesOf}
-use Rattle.demands.specs.Handles.{given, stands, isMade, isWork, isEnding, readingTells, firstIs, readingGives}
+use Rattle.demands.specs.Handles.{given, stands, isMade, isWork, isEnding, readingTells, readingAsks, unknownJob, firstIs, readingGives}
 use Rattle.demands.proofs.Unmasked.{request-read}
 use Rattle.packet.specs.Layout.{requestShape}
 use Rattle.server_laws.proofs.Fates.{endsJob}
@@ -42,7 +44,7 @@ use Rattle.demands.proofs.Given.{At, stands-at, at-stands, Known, stand
 -- the handle is that of a serial that is used up
 pub record Used (h : Bytes) (t : Table) : Type 0 where
   pub serial : ℕ
-  pub is : h ≡ handle lap serial
+  pub is : h ≡ handle (t .hub) serial
   pub some : 1 ≤ serial
   pub past : serial ≤ t .last
 
@@ -65,10 +67,10 @@ pub stands-used : (n : ℕ) (s : Server) → Running n s → (h : Bytes) → sta
 stands-used n s r h e = at-used n s r h (stands-at h (s .table) e)
 
 pub used-after : (es : List Event) (s : Server) (h : Bytes) → Used h (s .table) → Used h (after s es .table)
-used-after es s h u = record { serial = u .serial; is = u .is; some = u .some; past = le-trans (u .past) (last-rises es s) }
+used-after es s h u = record { serial = u .serial; is = u .is ∙ ap (λ (name : Bytes). handle name (u .serial)) (sym (hub-after es s)); some = u .some; past = le-trans (u .past) (last-rises es s) }
 
 pub used-next : (e : Event) (s : Server) (h : Bytes) → Used h (s .table) → Used h (next e s .table)
-used-next e s h u = record { serial = u .serial; is = u .is; some = u .some; past = le-trans (u .past) (last-kept s e) }
+used-next e s h u = record { serial = u .serial; is = u .is ∙ ap (λ (name : Bytes). handle name (u .serial)) (sym (hub-kept e s)); some = u .some; past = le-trans (u .past) (last-kept s e) }
 
 -- what was given is used up
 pub given-used : (n : ℕ) (e : Event) (s : Server) → Running n s → (h : Bytes) → given h (messagesOf e s) ≡ true → Used h (next e s .table)
@@ -76,7 +78,7 @@ given-used n e s r h g = by (given-known e s h g)
   where
     by : Known s (next e s .table .last) h → Used h (next e s .table)
     by (standing a) = used-next e s h (at-used n s r h a)
-    by (newest room last q) = record { serial = suc (s .table .last); is = q; some = omega arith; past = omega arith }
+    by (newest room last q) = record { serial = suc (s .table .last); is = q ∙ ap (λ (name : Bytes). handle name (suc (s .table .last))) (sym (hub-kept e s)); some = omega arith; past = omega arith }
 
 -- ---- a job that is made
 
@@ -87,25 +89,29 @@ inside-live t p l = by (ltb p (length (t .jobs))) refl
     by true e = ltb-true p (length (t .jobs)) e
     by false e = let q : jobAt t p ≡ noJob = List·getD-eq-default (t .jobs) noJob (ltb-false p (length (t .jobs)) e) in clash (rw q at l) refl
 
+-- the job that stands after the event, with its handle as the hub had it before
+pub hub-before : (e : Event) (s : Server) (h : Bytes) (a : At h (next e s .table)) → h ≡ handle (s .table .hub) (jobAt (next e s .table) (a .place) .row .serial)
+hub-before e s h a = a .is ∙ ap (λ (name : Bytes). handle name (jobAt (next e s .table) (a .place) .row .serial)) (hub-kept e s)
+
 -- a job stands after the event that stood not before it: the event creates it
-pub made-creates : (e : Event) (s : Server) (h : Bytes) → isMade h (s .table) (next e s .table) ≡ true → (k : ℕ) × (h ≡ handle lap k) × Creates s e k
+pub made-creates : (e : Event) (s : Server) (h : Bytes) → isMade h (s .table) (next e s .table) ≡ true → (k : ℕ) × (h ≡ handle (s .table .hub) k) × Creates s e k
 made-creates e s h m =
     let a = stands-at h (next e s .table) (and-left (stands h (next e s .table)) _ m) in
     let k = jobAt (next e s .table) (a .place) .row .serial in
     let absent : jobAt (s .table) (a .place) .row .serial ≡ k → ⊥ = λ q. clash (at-stands h (s .table) (before a q)) (not-true _ (and-right (stands h (next e s .table)) _ m)) in
-    (k, a .is, record { place = a .place; is = refl; some = eqb-false k 0 (not-true _ (a .live′)); new = absent })
+    (k, hub-before e s h a, record { place = a .place; is = refl; some = eqb-false k 0 (not-true _ (a .live′)); new = absent })
   where
     before : (a : At h (next e s .table)) → jobAt (s .table) (a .place) .row .serial ≡ jobAt (next e s .table) (a .place) .row .serial → At h (s .table)
     before a q =
         let i : live (jobAt (s .table) (a .place) .row) ≡ true = ap (λ (k : ℕ). not (eqb k 0)) q ∙ a .live′ in
-        record { place = a .place; inside = inside-live (s .table) (a .place) i; live′ = i; is = a .is ∙ ap (handle lap) (sym q) }
+        record { place = a .place; inside = inside-live (s .table) (a .place) i; live′ = i; is = hub-before e s h a ∙ ap (handle (s .table .hub)) (sym q) }
 
 -- so it has the next serial
-pub made-newest : (e : Event) (s : Server) (h : Bytes) → isMade h (s .table) (next e s .table) ≡ true → (h ≡ handle lap (suc (s .table .last))) × (suc (s .table .last) < 2 ^ 32)
+pub made-newest : (e : Event) (s : Server) (h : Bytes) → isMade h (s .table) (next e s .table) ≡ true → (h ≡ handle (s .table .hub) (suc (s .table .last))) × (suc (s .table .last) < 2 ^ 32)
 made-newest e s h m =
     let (k, q, c) = made-creates e s h m in
     let x : Numbered s e k = numbered c in
-    (q ∙ ap (handle lap) (x .is), omega (arith, x .is, x .room))
+    (q ∙ ap (handle (s .table .hub)) (x .is), omega (arith, x .is, x .room))
 
 -- and the event gives its handle out: JOB_CREATED is its first packet
 pub made-given : (e : Event) (s : Server) (h : Bytes) → isMade h (s .table) (next e s .table) ≡ true → given h (messagesOf e s) ≡ true
@@ -114,24 +120,24 @@ made-given e s h m =
     let (k, q, c) = made-creates e s h m in
     by k q c (creation s e)
   where
-    by : (k : ℕ) → h ≡ handle lap k → Creates s e k → Creation s e → any (λ x. readingGives h (x .says)) (map (messageOf e s) (decided e s .packets)) ≡ true
+    by : (k : ℕ) → h ≡ handle (s .table .hub) k → Creates s e k → Creation s e → any (λ x. readingGives h (x .says)) (map (messageOf e s) (decided e s .packets)) ≡ true
     by k q c (nothing w z) = absurd (z k c)
-    by k q c (one d i w x f) = rw (w .packets) (or-left (same (handle lap (suc (s .table .last))) h) _ (rw (q, f k c .is) (same-refl (handle lap (suc (s .table .last))))))
+    by k q c (one d i w x f) = rw (w .packets) (or-left (same (handle (s .table .hub) (suc (s .table .last))) h) _ (rw (q, f k c .is) (same-refl (handle (s .table .hub) (suc (s .table .last))))))
 
 -- the job with the next serial is made: it stands, and stood not
 pub newest-made : (n : ℕ) (e : Event) (s : Server) → Running n s → s .table .last < 4294967295 → next e s .table .last ≡ suc (s .table .last)
-    → isMade (handle lap (suc (s .table .last))) (s .table) (next e s .table) ≡ true
+    → isMade (handle (s .table .hub) (suc (s .table .last))) (s .table) (next e s .table) ≡ true
 newest-made n e s r room g =
-    let h = handle lap (suc (s .table .last)) in
+    let h = handle (s .table .hub) (suc (s .table .last)) in
     let c = grown-creates s e g in
     let i : live (jobAt (next e s .table) (c .place) .row) ≡ true = rw (c .is, ne-eqb (suc (s .table .last)) 0 (c .some)) in
-    let a : At h (next e s .table) = record { place = c .place; inside = inside-live (next e s .table) (c .place) i; live′ = i; is = rw (c .is) } in
+    let a : At h (next e s .table) = record { place = c .place; inside = inside-live (next e s .table) (c .place) i; live′ = i; is = ap (λ (name : Bytes). handle name (suc (s .table .last))) (sym (hub-kept e s)) ∙ ap (handle (next e s .table .hub)) (sym (c .is)) } in
     and-both (stands h (next e s .table)) _ (at-stands h (next e s .table) a) (rw (never (stands h (s .table)) (old h refl)))
   where
-    old : (h : Bytes) → h ≡ handle lap (suc (s .table .last)) → stands h (s .table) ≡ true → ⊥
+    old : (h : Bytes) → h ≡ handle (s .table .hub) (suc (s .table .last)) → stands h (s .table) ≡ true → ⊥
     old h q e =
         let u = stands-used n s r h e in
-        let k : u .serial ≡ suc (s .table .last) = handle-one-to-one lap _ _ (omega (arith, u .past)) (omega arith) (sym (u .is) ∙ q) in
+        let k : u .serial ≡ suc (s .table .last) = handle-one-to-one (s .table .hub) _ _ (omega (arith, u .past)) (omega arith) (sym (u .is) ∙ q) in
         omega (arith, u .past)
 
 -- ---- what a packet gives stands before the event, or is made by it
@@ -152,7 +158,7 @@ new-unheard n e s k between f h j m = never (given h (messagesOf e s)) (λ g.
     let r = after (next e s) between in
     let u = used-after between (next e s) h (given-used n e s k h g) in
     let (q, room) = made-newest f r h m in
-    let z : u .serial ≡ suc (r .table .last) = handle-one-to-one lap _ _ (omega (arith, u .past)) room (sym (u .is) ∙ q) in
+    let z : u .serial ≡ suc (r .table .last) = handle-one-to-one (r .table .hub) _ _ (omega (arith, u .past)) room (sym (u .is) ∙ q) in
     omega (arith, u .past))
 
 -- ---- gone for ever
@@ -160,7 +166,7 @@ new-unheard n e s k between f h j m = never (given h (messagesOf e s)) (λ g.
 gone-next : (n : ℕ) (e : Event) (s : Server) → Running n s → (h : Bytes) → Used h (s .table) → stands h (s .table) ≡ false → stands h (next e s .table) ≡ false
 gone-next n e s r h u g = never (stands h (next e s .table)) (λ y.
     let (q, room) = made-newest e s h (and-both (stands h (next e s .table)) _ y (rw g)) in
-    let z : u .serial ≡ suc (s .table .last) = handle-one-to-one lap _ _ (omega (arith, u .past)) room (sym (u .is) ∙ q) in
+    let z : u .serial ≡ suc (s .table .last) = handle-one-to-one (s .table .hub) _ _ (omega (arith, u .past)) room (sym (u .is) ∙ q) in
     omega (arith, u .past))
 
 -- a handle that was given out and is nobody's stays nobody's
@@ -182,9 +188,9 @@ nobody-holds c h t g = go (heldJobOf t c h) refl
     go : (o : Option ℕ) → heldJobOf t c h ≡ o → o ≡ none
     go none e = refl
     go (some p) e =
-        let f = found (λ j. holdsHandle c h (j .row)) noJob (t .jobs) (some p) e in
+        let f = found (λ j. holdsHandle (t .hub) c h (j .row)) noJob (t .jobs) (some p) e in
         let r = jobAt t p .row in
-        let a : hasHandle h r ≡ true = and-right (heldBy c r) _ (f .passes) in
+        let a : hasHandle (t .hub) h r ≡ true = and-right (heldBy c r) _ (f .passes) in
         clash (at-stands h t (record { place = p; inside = f .inside; live′ = and-left (live r) _ a; is = sym (same-is _ _ (and-right (live r) _ a)) })) g
 
 -- what a worker packet asks, by its type: 25 is an exception, and 13, 14 and 25 end the job
@@ -249,3 +255,32 @@ unfolding answer decided onlyIfOpen served workAt refuse
 late-number c b h s g o z =
     let a = asks-work b h z in
     rw (open-inside (s .table) c o, o, a .is, nobody-holds c h (s .table) g)
+
+-- ---- the status of a job that does not stand
+
+nobody-has : (h : Bytes) (t : Table) → stands h t ≡ false → jobOf t h ≡ none
+unfolding hasHandle
+nobody-has h t g = go (jobOf t h) refl
+  where
+    go : (o : Option ℕ) → jobOf t h ≡ o → o ≡ none
+    go none e = refl
+    go (some p) e =
+        let f = found (λ j. hasHandle (t .hub) h (j .row)) noJob (t .jobs) (some p) e in
+        let r = jobAt t p .row in
+        clash (at-stands h t (record { place = p; inside = f .inside; live′ = and-left (live r) _ (f .passes); is = sym (same-is _ _ (and-right (live r) _ (f .passes))) })) g
+
+asks-status : (b h : Bytes) → readingAsks h (read requests b) ≡ true → requestIn b ≡ getStatus h
+unfolding requested
+asks-status b h e = by (read requests b) refl e
+  where
+    by : (r : Reading) → read requests b ≡ r → readingAsks h r ≡ true → requestIn b ≡ getStatus h
+    by (refused m) q z = clash z refl
+    by (got kind args) q z =
+        let k : kind ≡ 15 = eqb-true kind 15 (and-left (eqb kind 15) _ z) in
+        request-read b ∙ ap fromReading q ∙ ap (λ (i : ℕ). requested i (getD args 0 []) (getD args 1 []) (getD args 2 [])) k ∙ ap getStatus (first-is h args (and-right (eqb kind 15) _ z))
+
+-- GET_STATUS for it: the unknown status, and nothing else
+pub unknown-told : (n : ℕ) (c : ℕ) (b h : Bytes) (s : Server) → Running n s → stands h (s .table) ≡ false → isOpen (s .table) c ≡ true → readingAsks h (read requests b) ≡ true
+    → messagesOf (sends c b) s ≡ unknownJob c h ∷ []
+unfolding messagesOf messageOf decided onlyIfOpen served statusAt
+unknown-told n c b h s r g o z = rw (open-inside (s .table) c o, o, asks-status b h z, nobody-has h (s .table) g, settle-nothing (plain c 20 (statusOf none h (s .table)) ∷ []) (s .table) (r .rules))

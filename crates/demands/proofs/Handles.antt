@@ -11,11 +11,11 @@ use Rattle.server.specs.Call.{serverIn}
 use Rattle.server_calls.specs.History.{Call, Memory, events}
 use Rattle.server_calls.proofs.Follows.{Running}
 use Rattle.server_calls.proofs.Histories.{LongOutputs}
-use Rattle.demands.specs.Messages.{told}
+use Rattle.demands.specs.Messages.{told, messagesOf}
 use Rattle.demands.specs.Handles.{given, stands, isMade, Spent}
 use Rattle.demands.specs.Hub.{Hub, Long, callOn, kept, afterCalls, tableIn, serverOf}
 use Rattle.demands.proofs.Hubs.{hub-runs, call-number, call-tells, call-hub, call-next, table-in, calls-hub, calls-after}
-use Rattle.demands.proofs.Gone.{Used, stands-used, used-after, given-stands, made-given, new-unheard, gone-after, gone-ungiven, late-number}
+use Rattle.demands.proofs.Gone.{Used, stands-used, used-after, given-stands, made-given, new-unheard, gone-after, gone-ungiven, late-number, unknown-told}
 
 -- the table that a call leaves, and that calls leave
 module _ (n : ℕ) (m : Memory) (hub : Hub n m) where
@@ -27,14 +27,19 @@ module _ (n : ℕ) (m : Memory) (hub : Hub n m) where
   unfolding serverIn
   table-after xs l = ap (λ (s : Server). s .table) (calls-after n xs m hub l)
 
--- what a used handle without a job comes to
-pub no-more : (n : ℕ) (h : Bytes) (u : Memory) → Hub n u → Used h (serverOf n u .table) → stands h (serverOf n u .table) ≡ false → Spent n h u
-no-more n h u hu used g =
+-- a handle that no unfinished job has, and that no event gives out
+pub nobodys : (n : ℕ) (h : Bytes) (u : Memory) → Hub n u → stands h (serverOf n u .table) ≡ false → ((e : Event) → given h (messagesOf e (serverOf n u)) ≡ false) → Spent n h u
+nobodys n h u hu g f =
     record {
       nobody = rw (table-in n u hu) g;
-      ungiven = λ x l. ap (given h) (call-tells n u hu x l) ∙ gone-ungiven n (x .event) (serverOf n u) (hub-runs n u hu) h used g;
+      ungiven = λ x l. ap (given h) (call-tells n u hu x l) ∙ f (x .event);
       late = λ x l c b e o z. call-number n u hu x l ∙ ap (λ (v : Event). answer v (serverOf n u) .number) e ∙ late-number c b h (serverOf n u) g (rw (← (table-in n u hu)) o) z;
+      unknown = λ x l c b e o z. call-tells n u hu x l ∙ ap (λ (v : Event). messagesOf v (serverOf n u)) e ∙ unknown-told n c b h (serverOf n u) (hub-runs n u hu) g (rw (← (table-in n u hu)) o) z;
     }
+
+-- what a used handle without a job comes to
+pub no-more : (n : ℕ) (h : Bytes) (u : Memory) → Hub n u → Used h (serverOf n u .table) → stands h (serverOf n u .table) ≡ false → Spent n h u
+no-more n h u hu used g = nobodys n h u hu g (λ e. gone-ungiven n e (serverOf n u) (hub-runs n u hu) h used g)
 
 module _ (n : ℕ) (m : Memory) (hub : Hub n m) (h : Bytes) where
   pub call-stands : (x : Call) → Long n x → given h (told (callOn n m x)) ≡ true

@@ -2,6 +2,7 @@
 -- calls, one after the other. Assumes nothing.
 use Prim.Native.Nat.{ℕ, _≤_}
 use mathlib.Core.Path.{_≡_, refl, ap, sym, _∙_, subst}
+use mathlib.Core.Bool.{true}
 use mathlib.Core.List.{List, [], _∷_}
 use native.Mathlib.Omega.{arith}
 use borrow.Author.Tests.{le-ltb}
@@ -9,18 +10,19 @@ use lib.ListN.{length, replicate, length-replicate}
 use Rattle.octets.specs.Bytes.{Bytes}
 use Rattle.octets.proofs.Strings.{and-left, and-right}
 use Rattle.octets.proofs.Laying.{length-put}
+use Rattle.handle.specs.Handle.{isHubName}
 use Rattle.lists.proofs.Cases.{All}
 use Rattle.server.specs.Sizes.{workloadsSize, outputSize}
 use Rattle.server.specs.Server.{Server, answer, next, start, after}
 use Rattle.server.specs.Layout.{tableSize, isImage}
-use Rattle.server.specs.Call.{Result, Made, serverIn, tooShort, isSound, performed, call, make}
+use Rattle.server.specs.Call.{Result, Made, serverIn, tooShort, isSound, performed, call}
 use Rattle.server_calls.specs.History.{Call, Memory, events, leaves}
 use Rattle.server_calls.proofs.Refusals.{Taken}
 use Rattle.server_calls.proofs.EveryCall.{taken-running}
 use Rattle.server_calls.proofs.Follows.{tableWith, workloadsWith, Running, running-next, sound-with, server-back}
 use Rattle.server_calls.proofs.Histories.{LongOutputs, make-start, running-start}
 use Rattle.demands.specs.Messages.{told, messagesOf}
-use Rattle.demands.specs.Hub.{Hub, Long, callOn, kept, afterCalls, tableIn, serverOf}
+use Rattle.demands.specs.Hub.{Hub, Long, callOn, kept, afterCalls, tableIn, serverOf, freshMemory, Room}
 use Rattle.demands.proofs.Told.{told-performed}
 
 -- ---- memory that holds a running server
@@ -31,15 +33,15 @@ pub hub-with : (n : ℕ) → n ≤ 256 → (s : Server) → Running n s → (t w
 hub-with n few s h t w lt lw = record { few = few; longTable = rw length-put lt; longWorkloads = rw length-put lw; sound = sound-with n few s h t lt }
 
 -- a fresh table
-pub hub-fresh : (n : ℕ) → n ≤ 256 → (t w : Bytes) → tableSize n ≤ length t → workloadsSize ≤ length w
-    → Hub n (record { table = make n t w .table; workloads = make n t w .workloads })
-hub-fresh n few t w lt lw =
-    subst (λ (x : Made). Hub n (record { table = x .table; workloads = x .workloads })) (sym (make-start n t w lt lw)) (hub-with n few (start n) (running-start n) t w lt lw)
+pub hub-fresh : (n : ℕ) (name : Bytes) → isHubName name ≡ true → (t w : Bytes) → Room n t w → Hub n (freshMemory n name t w)
+hub-fresh n name good t w r =
+    subst (λ (x : Made). Hub n (record { table = x .table; workloads = x .workloads })) (sym (make-start n name good t w (r .longTable) (r .longWorkloads)))
+    (hub-with n (r .few) (start n name) (running-start n name good) t w (r .longTable) (r .longWorkloads))
 
-pub fresh-server : (n : ℕ) → n ≤ 256 → (t w : Bytes) → tableSize n ≤ length t → workloadsSize ≤ length w
-    → serverOf n (record { table = make n t w .table; workloads = make n t w .workloads }) ≡ start n
-fresh-server n few t w lt lw =
-    ap (λ (x : Made). serverIn n (x .table) (x .workloads)) (make-start n t w lt lw) ∙ server-back n few (start n) (running-start n) t w lt lw
+pub fresh-server : (n : ℕ) (name : Bytes) → isHubName name ≡ true → (t w : Bytes) → Room n t w → serverOf n (freshMemory n name t w) ≡ start n name
+fresh-server n name good t w r =
+    ap (λ (x : Made). serverIn n (x .table) (x .workloads)) (make-start n name good t w (r .longTable) (r .longWorkloads))
+    ∙ server-back n (r .few) (start n name) (running-start n name good) t w (r .longTable) (r .longWorkloads)
 
 module _ (n : ℕ) (m : Memory) (h : Hub n m) where
   hub-taken : (o : Bytes) → outputSize n ≤ length o → Taken n (m .table) (m .workloads) o

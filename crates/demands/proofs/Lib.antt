@@ -6,6 +6,7 @@ pub mod Hubs
 pub mod Given
 pub mod Gone
 pub mod Handles
+pub mod Names
 pub mod Numbers
 pub mod Answering
 pub mod Walking

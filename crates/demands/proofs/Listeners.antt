@@ -11,7 +11,7 @@ use lib.ListN.{length}
 use lib.Dec.{eqb, ltb}
 use Rattle.octets.specs.Bytes.{Bytes}
 use Rattle.octets.proofs.Strings.{and-false, and-left, and-right, and-both, same-refl, same-is}
-use Rattle.handle.specs.Handle.{handle, lap}
+use Rattle.handle.specs.Handle.{handle}
 use Rattle.handle.proofs.Handles.{handle-one-to-one}
 use Rattle.sets.specs.Sets.{has, insert, remove}
 use Rattle.sets.proofs.Laws.{zero-has, has-insert-same, has-insert-other, has-remove-same, has-remove-other, has-above}
@@ -37,7 +37,7 @@ use Rattle.demands.specs.Handles.{stands}
 use Rattle.demands.specs.Conditions.{typeOf}
 use Rattle.demands.specs.Listening.{isForeground, tellsCreated, heardAfter, listens}
 use Rattle.demands.proofs.Given.{At, stands-at}
-use Rattle.demands.proofs.Gone.{last-fits, serial-past, inside-live}
+use Rattle.demands.proofs.Gone.{last-fits, serial-past, inside-live, hub-before}
 use Rattle.demands.proofs.Submissions.{foreground-asks, other-foreground, tells-created, join-packets, make-packets, Created, by-joining, by-making, created-known}
 
 -- ---- one place for each serial
@@ -61,38 +61,38 @@ module _ (n : ℕ) (s : Server) (r : Running n s) where
       by false f false g = let x = ltb-false p q f in let y = ltb-false q p g in omega arith
 
   -- the job with this handle stands at one place
-  pub handle-place : (h : Bytes) (a : At h t) (q : ℕ) → q < length (t .jobs) → live (jobAt t q .row) ≡ true → h ≡ handle lap (jobAt t q .row .serial) → q ≡ a .place
+  pub handle-place : (h : Bytes) (a : At h t) (q : ℕ) → q < length (t .jobs) → live (jobAt t q .row) ≡ true → h ≡ handle (t .hub) (jobAt t q .row .serial) → q ≡ a .place
   handle-place h a q i l e =
       let m = last-fits n s r in
       let x = serial-past n s r q i in
       let y = serial-past n s r (a .place) (a .inside) in
-      same-place q (a .place) i (a .inside) l (a .live′) (handle-one-to-one lap _ _ (omega arith) (omega arith) (sym e ∙ a .is))
+      same-place q (a .place) i (a .inside) l (a .live′) (handle-one-to-one (t .hub) _ _ (omega arith) (omega arith) (sym e ∙ a .is))
 
   -- its listeners
   pub listens-at : (c : ℕ) (h : Bytes) (a : At h t) → listens c h t ≡ has (jobAt t (a .place) .row .listeners) c
   unfolding listens hasHandle
   listens-at c h a = iff _ _ forth back
     where
-      forth : any (λ j. hasHandle h (j .row) && has (j .row .listeners) c) (t .jobs) ≡ true → has (jobAt t (a .place) .row .listeners) c ≡ true
+      forth : any (λ j. hasHandle (t .hub) h (j .row) && has (j .row .listeners) c) (t .jobs) ≡ true → has (jobAt t (a .place) .row .listeners) c ≡ true
       forth e =
-          let (p, i, q) = any-where (λ j. hasHandle h (j .row) && has (j .row .listeners) c) (t .jobs) noJob e in
+          let (p, i, q) = any-where (λ j. hasHandle (t .hub) h (j .row) && has (j .row .listeners) c) (t .jobs) noJob e in
           let row = jobAt t p .row in
-          let x = and-left (hasHandle h row) _ q in
+          let x = and-left (hasHandle (t .hub) h row) _ q in
           let z : p ≡ a .place = handle-place h a p i (and-left (live row) _ x) (sym (same-is _ _ (and-right (live row) _ x))) in
-          subst (λ (k : ℕ). has (jobAt t k .row .listeners) c ≡ true) z (and-right (hasHandle h row) _ q)
+          subst (λ (k : ℕ). has (jobAt t k .row .listeners) c ≡ true) z (and-right (hasHandle (t .hub) h row) _ q)
 
-      back : has (jobAt t (a .place) .row .listeners) c ≡ true → any (λ j. hasHandle h (j .row) && has (j .row .listeners) c) (t .jobs) ≡ true
+      back : has (jobAt t (a .place) .row .listeners) c ≡ true → any (λ j. hasHandle (t .hub) h (j .row) && has (j .row .listeners) c) (t .jobs) ≡ true
       back e =
           let row = jobAt t (a .place) .row in
-          any-at (λ j. hasHandle h (j .row) && has (j .row .listeners) c) (t .jobs) (a .place) noJob (a .inside)
-          (and-both (hasHandle h row) _ (and-both (live row) _ (a .live′) (rw (a .is) (same-refl _))) e)
+          any-at (λ j. hasHandle (t .hub) h (j .row) && has (j .row .listeners) c) (t .jobs) (a .place) noJob (a .inside)
+          (and-both (hasHandle (t .hub) h row) _ (and-both (live row) _ (a .live′) (rw (a .is) (same-refl _))) e)
 
   -- nobody listens to a job that does not stand
   pub nobody-listens : (c : ℕ) (h : Bytes) → (stands h t ≡ true → ⊥) → listens c h t ≡ false
   unfolding listens stands
   nobody-listens c h z = never _ (λ e.
-      let (p, i, q) = any-where (λ j. hasHandle h (j .row) && has (j .row .listeners) c) (t .jobs) noJob e in
-      z (any-at (λ j. hasHandle h (j .row)) (t .jobs) p noJob i (and-left (hasHandle h (jobAt t p .row)) _ q)))
+      let (p, i, q) = any-where (λ j. hasHandle (t .hub) h (j .row) && has (j .row .listeners) c) (t .jobs) noJob e in
+      z (any-at (λ j. hasHandle (t .hub) h (j .row)) (t .jobs) p noJob i (and-left (hasHandle (t .hub) h (jobAt t p .row)) _ q)))
 
   -- a listener is a connection, and it is open
   module _ (c p : ℕ) (e : has (jobAt t p .row .listeners) c ≡ true) where
@@ -162,10 +162,10 @@ module _ (n : ℕ) (s : Server) (r : Running n s) (c : ℕ) (h : Bytes) where
   Heard e x = x ≡ heardAfter c h (listens c h u) e (answer e s .number) (messagesOf e s)
 
   -- the job stood there before, with the same serial
-  abbrev before : (p : ℕ) → live (jobAt u p .row) ≡ true → h ≡ handle lap (jobAt u p .row .serial) → At h u
+  abbrev before : (p : ℕ) → live (jobAt u p .row) ≡ true → h ≡ handle (u .hub) (jobAt u p .row .serial) → At h u
   before p l e = record { place = p; inside = inside-live u p l; live′ = l; is = e }
 
-  was : (p : ℕ) → live (jobAt u p .row) ≡ true → h ≡ handle lap (jobAt u p .row .serial) → listens c h u ≡ has (jobAt u p .row .listeners) c
+  was : (p : ℕ) → live (jobAt u p .row) ≡ true → h ≡ handle (u .hub) (jobAt u p .row .serial) → listens c h u ≡ has (jobAt u p .row .listeners) c
   was p l e = listens-at n s r c h (before p l e)
 
   -- a packet that tells nobody of this job changes nothing
@@ -179,7 +179,7 @@ module _ (n : ℕ) (s : Server) (r : Running n s) (c : ℕ) (h : Bytes) where
   other-heard d b z = unheard d b (rw z)
 
   -- a job that stays as it is
-  stays-heard : (e : Event) (p : ℕ) → Untouched u p e → live (jobAt u p .row) ≡ true → h ≡ handle lap (jobAt u p .row .serial) → Heard e (listens c h u)
+  stays-heard : (e : Event) (p : ℕ) → Untouched u p e → live (jobAt u p .row) ≡ true → h ≡ handle (u .hub) (jobAt u p .row .serial) → Heard e (listens c h u)
   stays-heard (opens d) p z l q = by (eqb (answer (opens d) s .number) 0) refl (eqb d c) refl
     where
       by : (x : Bool) → eqb (answer (opens d) s .number) 0 ≡ x → (y : Bool) → eqb d c ≡ y → listens c h u ≡ cond (x && y) false (listens c h u || false)
@@ -199,7 +199,7 @@ module _ (n : ℕ) (s : Server) (r : Running n s) (c : ℕ) (h : Bytes) where
       by (by-joining o i y k v w) = z o (y ∙ ap some (handle-place n s r h (before p l q) i k v w))
       by (by-making room w) =
           let x = serial-past n s r p (inside-live u p l) in
-          let y : jobAt u p .row .serial ≡ suc (u .last) = handle-one-to-one lap _ _ (omega arith) (omega arith) (sym q ∙ w) in
+          let y : jobAt u p .row .serial ≡ suc (u .last) = handle-one-to-one (u .hub) _ _ (omega arith) (omega arith) (sym q ∙ w) in
           omega arith
 
   -- a submission's mark, its sender and its handle
@@ -224,32 +224,32 @@ module _ (n : ℕ) (s : Server) (r : Running n s) (c : ℕ) (h : Bytes) where
       both false false = refl
 
   -- no job has the next serial yet
-  new-none : stands h u ≡ true → h ≡ handle lap (suc (u .last)) → u .last < 4294967295 → ⊥
+  new-none : stands h u ≡ true → h ≡ handle (u .hub) (suc (u .last)) → u .last < 4294967295 → ⊥
   new-none y k m =
       let a = stands-at h u y in
       let x = serial-past n s r (a .place) (a .inside) in
-      let z : jobAt u (a .place) .row .serial ≡ suc (u .last) = handle-one-to-one lap _ _ (omega arith) (omega arith) (sym (a .is) ∙ k) in
+      let z : jobAt u (a .place) .row .serial ≡ suc (u .last) = handle-one-to-one (u .hub) _ _ (omega arith) (omega arith) (sym (a .is) ∙ k) in
       omega arith
 
   -- ---- each fate
 
-  heard-by : (p : ℕ) {last : ℕ} {e : Event} {k : Job} → Becomes u last p (jobAt u p) e k → live (k .row) ≡ true → h ≡ handle lap (k .row .serial) → Heard e (has (k .row .listeners) c)
+  heard-by : (p : ℕ) {last : ℕ} {e : Event} {k : Job} → Becomes u last p (jobAt u p) e k → live (k .row) ≡ true → h ≡ handle (u .hub) (k .row .serial) → Heard e (has (k .row .listeners) c)
   heard-by p (stays e z) l q = sym (was p l q) ∙ stays-heard e p z l q
   heard-by p (begins d b priority background f v size i o a z r₁ r₂ r₃ m e) l q =
       let row = freshRow (suc (u .last)) i priority size in
       let (ls, g) = make-packets s d b o priority background f v size a i p r₁ r₂ r₃ m in
-      let k : h ≡ handle lap (suc (u .last)) = q ∙ ap (handle lap) (submitted-keeps d background row .serial) in
-      let w : tellsCreated c h (messagesOf (sends d b) s) ≡ eqb d c && true = tells-created c h (sends d b) s d (suc (u .last)) ls g ∙ rw k (ap (λ (x : Bool). eqb d c && x) (same-refl (handle lap (suc (u .last))))) in
+      let k : h ≡ handle (u .hub) (suc (u .last)) = q ∙ ap (handle (u .hub)) (submitted-keeps d background row .serial) in
+      let w : tellsCreated c h (messagesOf (sends d b) s) ≡ eqb d c && true = tells-created c h (sends d b) s d (suc (u .last)) ls g ∙ rw k (ap (λ (x : Bool). eqb d c && x) (same-refl (handle (u .hub) (suc (u .last))))) in
       joined-listeners d background row
       ∙ ap (λ (x : Bool). x || (not background && eqb d c)) (zero-has c ∙ sym (nobody-listens n s r c h (λ y. new-none y k m)))
       ∙ submission-heard d b background (foreground-asks b priority background f v size a) w
   heard-by p (joins d b priority background f v size o a y) l q =
       let j = jobAt u p in
       let x = submitted-keeps d background (j .row) .serial in
-      let k : h ≡ handle lap (j .row .serial) = q ∙ ap (handle lap) x in
+      let k : h ≡ handle (u .hub) (j .row .serial) = q ∙ ap (handle (u .hub)) x in
       let i : live (j .row) ≡ true = ap (λ (m : ℕ). not (eqb m 0)) (sym x) ∙ l in
       let (ls, g) = join-packets s d b o priority background f v size a p y in
-      let w : tellsCreated c h (messagesOf (sends d b) s) ≡ eqb d c && true = tells-created c h (sends d b) s d (j .row .serial) ls g ∙ rw k (ap (λ (x : Bool). eqb d c && x) (same-refl (handle lap (j .row .serial)))) in
+      let w : tellsCreated c h (messagesOf (sends d b) s) ≡ eqb d c && true = tells-created c h (sends d b) s d (j .row .serial) ls g ∙ rw k (ap (λ (x : Bool). eqb d c && x) (same-refl (handle (u .hub) (j .row .serial)))) in
       joined-listeners d background (j .row)
       ∙ ap (λ (x : Bool). x || (not background && eqb d c)) (sym (was p i k))
       ∙ submission-heard d b background (foreground-asks b priority background f v size a) w
@@ -262,7 +262,7 @@ module _ (n : ℕ) (s : Server) (r : Running n s) (c : ℕ) (h : Bytes) where
       let j = jobAt u p in
       let x = left-serial d j in
       let y : leftBy d j .row .listeners ≡ remove (j .row .listeners) d = cond-both (λ (k : Job). k .row .listeners ≡ remove (j .row .listeners) d) (heldBy d (j .row)) refl refl in
-      let k : h ≡ handle lap (j .row .serial) = q ∙ ap (handle lap) x in
+      let k : h ≡ handle (u .hub) (j .row .serial) = q ∙ ap (handle (u .hub)) x in
       let i : live (j .row) ≡ true = ap (λ (m : ℕ). not (eqb m 0)) (sym x) ∙ l in
       ap (λ (m : ℕ). has m c) y
       ∙ by (j .row .listeners) (ℕ-discrete d c)
@@ -279,4 +279,4 @@ pub step-heard : (n : ℕ) (s : Server) → Running n s → (c : ℕ) (h : Bytes
 unfolding next
 step-heard n s r c h e y =
     let a = stands-at h (next e s .table) y in
-    listens-at n (next e s) (running-next n e s r) c h a ∙ heard-by n s r c h (a .place) (fates e s (r .rules) (a .place)) (a .live′) (a .is)
+    listens-at n (next e s) (running-next n e s r) c h a ∙ heard-by n s r c h (a .place) (fates e s (r .rules) (a .place)) (a .live′) (hub-before e s h a)

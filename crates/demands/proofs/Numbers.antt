@@ -213,7 +213,7 @@ module _ (c : ℕ) (t : Table) where
     unfolding first
     held-number how k n d h =
         rw (h .isAble, h .isNew, h .isWork′, h .isOption)
-        (work-number (heldJobOf t c a) how k n d ∙ ap (λ (x : Bool). cond (not x) 14 0) (find-any (λ j. holdsHandle c a (j .row)) (t .jobs)))
+        (work-number (heldJobOf t c a) how k n d ∙ ap (λ (x : Bool). cond (not x) 14 0) (find-any (λ j. holdsHandle (t .hub) c a (j .row)) (t .jobs)))
 
     named-number : Tests kind false false false true → Number (optionIf (same a exceptionsName) c a t .number)
     unfolding first

@@ -7,7 +7,7 @@ use mathlib.Core.List.{List, [], _∷_, _++_, map}
 use native.Mathlib.Decide.{ℕ-discrete}
 use lib.ListN.{getD}
 use Rattle.octets.specs.Bytes.{Bytes}
-use Rattle.handle.specs.Handle.{handle, lap}
+use Rattle.handle.specs.Handle.{handle}
 use Rattle.packet.specs.Packet.{got}
 use Rattle.lists.specs.Lists.{fit}
 use Rattle.lists.proofs.Lists.{length-fit}
@@ -20,6 +20,7 @@ use Rattle.server.specs.Server.{Server, render, decided, next}
 use Rattle.server.specs.Call.{serverIn}
 use Rattle.server_laws.proofs.Packets.{Sends, why-sent}
 use Rattle.server_laws.proofs.Serials.{Creation, nothing, one, creation, creates-grown}
+use Rattle.server_laws.proofs.Lengths.{hub-kept}
 use Rattle.server_calls.specs.History.{Call, Memory, calls, leaves}
 use Rattle.server_calls.proofs.Follows.{Running}
 use Rattle.server_calls.proofs.Histories.{LongOutputs}
@@ -83,19 +84,19 @@ module _ {e f : Event} (a : Alike e f) (s : Server) where
 -- what an assignment of the job with serial k says
 assigned-says : (e : Event) {k : ℕ} (z : Bool) (to p : ℕ) (w : Bytes) (s : Server) → jobAt (s .table) p .row .serial ≡ k → fit (jobAt (s .table) p .row .size) (getD (s .workloads) p []) ≡ w
     → messageOf e s (assign z to p)
-    ≡ record { to = to; says = got (cond z 31 11) (handle lap k ∷ functionAt (s .table) (jobAt (s .table) p .row .function) .name ∷ (cond z (jobAt (s .table) p .unique ∷ []) [] ++ (w ∷ []))) }
+    ≡ record { to = to; says = got (cond z 31 11) (handle (s .table .hub) k ∷ functionAt (s .table) (jobAt (s .table) p .row .function) .name ∷ (cond z (jobAt (s .table) p .unique ∷ []) [] ++ (w ∷ []))) }
 unfolding messageOf
 assigned-says e true to p w s q i = rw (q, i)
 assigned-says e false to p w s q i = rw (q, i)
 
 module _ (k : ℕ) (e : Event) (s r : Server) (a : Apart k s r) where
-  but-assigned : (x : Send) → Reads e s x → Reads e r x → ButWorkload k (sentAs e s x) (sentAs e r x)
+  but-assigned : (x : Send) → Reads e s x → Reads e r x → ButWorkload (handle (s .table .hub) k) (sentAs e s x) (sentAs e r x)
   unfolding render
   but-assigned (plain to kind as′) i o = B.ButWorkload.equal refl
   but-assigned (copy to kind) i o = B.ButWorkload.equal refl
   but-assigned (assign uniq to p) i o = by uniq i o (ℕ-discrete (jobAt (s .table) p .row .serial) k)
     where
-      by : (z : Bool) → Reads e s (assign z to p) → Reads e r (assign z to p) → Dec (jobAt (s .table) p .row .serial ≡ k) → ButWorkload k (sentAs e s (assign z to p)) (sentAs e r (assign z to p))
+      by : (z : Bool) → Reads e s (assign z to p) → Reads e r (assign z to p) → Dec (jobAt (s .table) p .row .serial ≡ k) → ButWorkload (handle (s .table .hub) k) (sentAs e s (assign z to p)) (sentAs e r (assign z to p))
       by z i o (no m) = B.ButWorkload.equal (rw (near-at (a .workloads) p m, a .table))
       by z i o (yes q) =
           let j = jobAt (s .table) p in
@@ -105,11 +106,11 @@ module _ (k : ℕ) (e : Event) (s r : Server) (a : Apart k s r) where
           assigned to z (functionAt (s .table) (j .row .function) .name) (cond z (j .unique ∷ []) []) w v (length-fit n _ ∙ sym (length-fit n _))
           (same-message e s (assign z to p) i ∙ assigned-says e z to p w s q refl) (same-message e r (assign z to p) o ∙ rw (a .table) (assigned-says e z to p _ r (rw (← (a .table)) q) refl))
 
-  all-assigned : (xs : List Send) → All (Reads e s) xs → All (Reads e r) xs → All2 (ButWorkload k) (map (sentAs e s) xs) (map (sentAs e r) xs)
+  all-assigned : (xs : List Send) → All (Reads e s) xs → All (Reads e r) xs → All2 (ButWorkload (handle (s .table .hub) k)) (map (sentAs e s) xs) (map (sentAs e r) xs)
   all-assigned [] All.none All.none = All2.none
   all-assigned (x ∷ xs) (All.more i is) (All.more o os) = All2.more (but-assigned x i o) (all-assigned xs is os)
 
-  apart-packets : {n : ℕ} → Running n s → Running n r → All2 (ButWorkload k) (map (sentAs e s) (decided e s .packets)) (map (sentAs e r) (decided e r .packets))
+  apart-packets : {n : ℕ} → Running n s → Running n r → All2 (ButWorkload (handle (s .table .hub) k)) (map (sentAs e s) (decided e s .packets)) (map (sentAs e r) (decided e r .packets))
   apart-packets {n} h g =
       let d = decided-alike (alike-same e) s r (a .table) in
       let o : All (Reads e r) (decided e s .packets) = subst (λ (x : Decision). All (Reads e r) (x .packets)) (sym d) (all-read n e r g) in
@@ -140,13 +141,19 @@ module _ (n : ℕ) where
       → Apart k (serverOf n (kept (callOn n u x))) (serverOf n (kept (callOn n v y)))
   apart-next k u v hu hv a x y lx ly e = rw (call-next n u hu x lx, call-next n v hv y ly, ← e) (next-apart k (x .event) (serverOf n u) (serverOf n v) a)
 
-  apart-calls : (k : ℕ) {xs ys : List Call} → SameEvents xs ys → LongOutputs n xs → LongOutputs n ys → (u v : Memory) → Hub n u → Hub n v → Apart k (serverOf n u) (serverOf n v)
-      → Both (Packets (ButWorkload k)) xs ys (resultsOf n xs u) (resultsOf n ys v) × Apart k (serverOf n (afterCalls n xs u)) (serverOf n (afterCalls n ys v))
+  hub-next : (u : Memory) → Hub n u → (x : Call) → Long n x → serverOf n (kept (callOn n u x)) .table .hub ≡ serverOf n u .table .hub
+  hub-next u hu x lx = ap (λ (s : Server). s .table .hub) (call-next n u hu x lx) ∙ hub-kept (x .event) (serverOf n u)
+
+  apart-calls : (name : Bytes) (k : ℕ) {xs ys : List Call} → SameEvents xs ys → LongOutputs n xs → LongOutputs n ys → (u v : Memory) → Hub n u → Hub n v → serverOf n u .table .hub ≡ name → Apart k (serverOf n u) (serverOf n v)
+      → Both (Packets (ButWorkload (handle name k))) xs ys (resultsOf n xs u) (resultsOf n ys v) × Apart k (serverOf n (afterCalls n xs u)) (serverOf n (afterCalls n ys v))
   unfolding calls leaves
-  apart-calls k All2.none All.none All.none u v hu hv a = (Both.none, a)
-  apart-calls k (All2.more {a = x} {b = y} e rest) (All.more lx ls) (All.more ly ms) u v hu hv a =
-      let (b, c) = apart-calls k rest ls ms (kept (callOn n u x)) (kept (callOn n v y)) (call-hub n u hu x lx) (call-hub n v hv y ly) (apart-next k u v hu hv a x y lx ly e) in
-      let q : Packets (ButWorkload k) x y (callOn n u x) (callOn n v y) = rw (call-packets n u hu x lx, call-packets n v hv y ly, ← e) (apart-packets k (x .event) (serverOf n u) (serverOf n v) a (hub-runs n u hu) (hub-runs n v hv)) in
+  apart-calls name k All2.none All.none All.none u v hu hv is a = (Both.none, a)
+  apart-calls name k (All2.more {a = x} {b = y} e rest) (All.more lx ls) (All.more ly ms) u v hu hv is a =
+      let (b, c) = apart-calls name k rest ls ms (kept (callOn n u x)) (kept (callOn n v y)) (call-hub n u hu x lx) (call-hub n v hv y ly) (hub-next u hu x lx ∙ is) (apart-next k u v hu hv a x y lx ly e) in
+      let p : All2 (ButWorkload (handle name k)) (map (sentAs (x .event) (serverOf n u)) (decided (x .event) (serverOf n u) .packets)) (map (sentAs (x .event) (serverOf n v)) (decided (x .event) (serverOf n v) .packets))
+      = subst (λ (hub : Bytes). All2 (ButWorkload (handle hub k)) (map (sentAs (x .event) (serverOf n u)) (decided (x .event) (serverOf n u) .packets)) (map (sentAs (x .event) (serverOf n v)) (decided (x .event) (serverOf n v) .packets))) is
+      (apart-packets k (x .event) (serverOf n u) (serverOf n v) a (hub-runs n u hu) (hub-runs n v hv)) in
+      let q : Packets (ButWorkload (handle name k)) x y (callOn n u x) (callOn n v y) = rw (call-packets n u hu x lx, call-packets n v hv y ly, ← e) p in
       (Both.more q b, c)
 
 -- ---- one changed call
@@ -182,8 +189,8 @@ module _ (n : ℕ) (m w : Memory) (hm : Hub n m) (hw : Hub n w) (same : serverOf
       let s = serverOf n m in
       let l : ℕ = suc (s .table .last) in
       let ap′ : Apart l (serverOf n u) (serverOf n v) = rw (call-next n m hm x lx, server-v) (created-apart a s l d) in
-      let (b, r) = apart-calls n l rest lxs lys u v hu hv ap′ in
-      made-one l (subst (λ (z : Server). isMade (handle lap l) (tableIn n m) (z .table) ≡ true) (sym (call-next n m hm x lx)) (newest-made n (x .event) s (hub-runs n m hm) (k .room) (creates-grown d)))
+      let (b, r) = apart-calls n (s .table .hub) l rest lxs lys u v hu hv (hub-next n m hm x lx) ap′ in
+      made-one l (subst (λ (z : Server). isMade (handle (s .table .hub) l) (tableIn n m) (z .table) ≡ true) (sym (call-next n m hm x lx)) (newest-made n (x .event) s (hub-runs n m hm) (k .room) (creates-grown d)))
       b (λ p z. near-at (r .workloads) p z)
 
   pub one-changed : One n m w x y xs ys

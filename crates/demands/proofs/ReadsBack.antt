@@ -10,8 +10,8 @@ use lib.ListN.{length, getD, drop, length-append, length-drop, List·getD-eq-def
 use lib.Dec.{leb, ltb, eqb}
 use Rattle.octets.specs.Bytes.{Bytes, same, within, zeroFree, every, firstZero}
 use Rattle.octets.proofs.Strings.{and-left, and-right, and-both, same-is}
-use Rattle.handle.specs.Handle.{handle, lap}
-use Rattle.handle.proofs.Handles.{handle-least, handle-most, lap-zero-free}
+use Rattle.handle.specs.Handle.{handle, isHubName}
+use Rattle.handle.proofs.Handles.{handle-least, handle-bounded, handle-clean}
 use Rattle.packet.specs.Layout.{rulesOf, requestShape, responseShape, isOwn}
 use Rattle.packet.specs.Layout as L
 use Rattle.packet.specs.declared.Shape.the-variants.{Handle}
@@ -30,7 +30,7 @@ use Rattle.lists.proofs.Rows.{clash, implies-use, all-at, all-row}
 use Rattle.lists.proofs.Cases.{All, all-more}
 use Rattle.server.specs.Sizes.{nameSize, uniqueSize}
 use Rattle.server.specs.Table.{Table, noFunction, noJob, functionAt, jobAt, live, queued, hasHandle, jobOf}
-use Rattle.server.specs.Rules.{textWithin, storedNumber, together}
+use Rattle.server.specs.Rules.{textWithin, storedNumber, together, hubNamed}
 use Rattle.server.specs.Requests.{Event, sends, Work, requestIn, getStatus, echo, work}
 use Rattle.server.specs.Refusals.{isTold, errorText, refusalTexts}
 use Rattle.server.specs.Events.{Send, plain, copy, assign, error, created, flag, statusOf, exceptionsName}
@@ -56,18 +56,19 @@ reads-by p args q h = rw q (packet-reads responses responses-well (p .kind) args
 
 -- ---- arguments
 
-handle-fits : (n : ℕ) → fits L.handle (handle lap n) ≡ true
-unfolding fits
-handle-fits n =
-    let a = handle-least lap n in
-    let b = handle-most lap n in
-    and-both (within 1 63 (length (handle lap n))) _ (and-both (leb 1 (length (handle lap n))) _ (le-leb 1 (length (handle lap n)) (omega arith)) (le-leb (length (handle lap n)) 63 (omega arith))) (lap-zero-free n)
+module _ (hub : Bytes) (good : isHubName hub ≡ true) where
+  handle-fits : (n : ℕ) → fits L.handle (handle hub n) ≡ true
+  unfolding fits
+  handle-fits n =
+      let a = handle-least hub n in
+      let b = handle-bounded hub good n in
+      and-both (within 1 63 (length (handle hub n))) _ (and-both (leb 1 (length (handle hub n))) _ (le-leb 1 (length (handle hub n)) (omega arith)) (le-leb (length (handle hub n)) 63 (omega arith))) (handle-clean hub good n)
 
--- 8 JOB_CREATED and 14 WORK_FAIL: a handle alone
-handle-sendable : (kind : ℕ) → responseShape kind ≡ Handle → (n : ℕ) → Sendable kind (handle lap n ∷ [])
-unfolding rulesOf fitAll join
-handle-sendable kind e n =
-    record { own = rw e; fit = rw e (and-both (fits L.handle (handle lap n)) true (handle-fits n) refl); limited = omega (arith, handle-most lap n) }
+  -- 8 JOB_CREATED and 14 WORK_FAIL: a handle alone
+  handle-sendable : (kind : ℕ) → responseShape kind ≡ Handle → (n : ℕ) → Sendable kind (handle hub n ∷ [])
+  unfolding rulesOf fitAll join
+  handle-sendable kind e n =
+      record { own = rw e; fit = rw e (and-both (fits L.handle (handle hub n)) true (handle-fits n) refl); limited = omega (arith, handle-bounded hub good n) }
 
 empty-sendable : (kind : ℕ) → isOwn (responseShape kind) ≡ true → rulesOf (responseShape kind) ≡ [] → Sendable kind []
 unfolding fitAll join
@@ -169,9 +170,9 @@ module _ (e : Event) (s : Server) where
   pub reads-error : (c n : ℕ) → isTold n ≡ true → Reads (error c n)
   reads-error c n h = reads-plain c 19 _ (error-sendable n h)
 
-  reads-created : (c n : ℕ) → Reads (created c n)
+  reads-created : hubNamed (s .table) ≡ true → (c n : ℕ) → Reads (created (s .table .hub) c n)
   unfolding responseShape
-  reads-created c n = reads-plain c 8 _ (handle-sendable 8 refl n)
+  reads-created good c n = reads-plain c 8 _ (handle-sendable (s .table .hub) good 8 refl n)
 
 -- ---- copies
 
@@ -191,8 +192,9 @@ module _ (c : ℕ) (b : Bytes) (s : Server) where
 
 -- ---- assignments
 
--- the texts of an unfinished job of a running server
+-- the hub's name, and the texts of an unfinished job of a running server
 record Texts (t : Table) (p : ℕ) : Type 0 where
+  hub : hubNamed t ≡ true
   function : fits L.function (functionAt t (jobAt t p .row .function) .name) ≡ true
   unique : fits L.unique (jobAt t p .unique) ≡ true
   numerator : storedNumber (jobAt t p .numerator) ≡ true
@@ -220,6 +222,7 @@ texts n s h p i l =
     let m = and-right (textWithin uniqueSize (j .unique)) _ u in
     let k : not (same f []) ≡ true = implies-use (live (j .row)) _ (all-at (jobNamed t) (t .jobs) p noJob (o .jobsKnown) i) l in
     record {
+      hub = o .named;
       function = text-fits 1 32 f (some-length f k) (all-row (λ x. textWithin nameSize (x .name)) (t .functions) (j .row .function) noFunction (o .names) refl);
       unique = text-fits 0 64 (j .unique) (omega arith) (and-left (textWithin uniqueSize (j .unique)) _ u);
       numerator = and-left (storedNumber (j .numerator)) _ m;
@@ -238,26 +241,26 @@ opaque-fits w = refl
 
 module _ (e : Event) (s : Server) (to p : ℕ) (x : Texts (s .table) p) where
   assign-sendable : (uniq : Bool) (w : Bytes) → length w ≡ jobAt (s .table) p .row .size
-      → let j = jobAt (s .table) p in Sendable (cond uniq 31 11) (handle lap (j .row .serial) ∷ functionAt (s .table) (j .row .function) .name ∷ cond uniq (j .unique ∷ w ∷ []) (w ∷ []))
+      → let j = jobAt (s .table) p in Sendable (cond uniq 31 11) (handle (s .table .hub) (j .row .serial) ∷ functionAt (s .table) (j .row .function) .name ∷ cond uniq (j .unique ∷ w ∷ []) (w ∷ []))
   unfolding rulesOf responseShape fitAll join
   assign-sendable true w l =
       let j = jobAt (s .table) p in
-      let h = handle lap (j .row .serial) in
+      let h = handle (s .table .hub) (j .row .serial) in
       let f = functionAt (s .table) (j .row .function) .name in
-      let m = handle-most lap (j .row .serial) in
+      let m = handle-bounded (s .table .hub) (x .hub) (j .row .serial) in
       record {
         own = refl;
-        fit = and-both (fits L.handle h) _ (handle-fits _) (and-both (fits L.function f) _ (x .function) (and-both (fits L.unique (j .unique)) _ (x .unique) (opaque-fits w)));
+        fit = and-both (fits L.handle h) _ (handle-fits (s .table .hub) (x .hub) _) (and-both (fits L.function f) _ (x .function) (and-both (fits L.unique (j .unique)) _ (x .unique) (opaque-fits w)));
         limited = rw (length-append h (0 ∷ (f ++ (0 ∷ (j .unique ++ (0 ∷ w))))), length-append f (0 ∷ (j .unique ++ (0 ∷ w))), length-append (j .unique) (0 ∷ w)) (omega (arith, x .small));
       }
   assign-sendable false w l =
       let j = jobAt (s .table) p in
-      let h = handle lap (j .row .serial) in
+      let h = handle (s .table .hub) (j .row .serial) in
       let f = functionAt (s .table) (j .row .function) .name in
-      let m = handle-most lap (j .row .serial) in
+      let m = handle-bounded (s .table .hub) (x .hub) (j .row .serial) in
       record {
         own = refl;
-        fit = and-both (fits L.handle h) _ (handle-fits _) (and-both (fits L.function f) _ (x .function) (opaque-fits w));
+        fit = and-both (fits L.handle h) _ (handle-fits (s .table .hub) (x .hub) _) (and-both (fits L.function f) _ (x .function) (opaque-fits w));
         limited = rw (length-append h (0 ∷ (f ++ (0 ∷ w))), length-append f (0 ∷ w)) (omega (arith, x .small));
       }
 
@@ -266,16 +269,19 @@ module _ (e : Event) (s : Server) (to p : ℕ) (x : Texts (s .table) p) where
   reads-assigned uniq =
       let j = jobAt (s .table) p in
       let w = fit (j .row .size) (getD (s .workloads) p []) in
-      reads-by (render e s (assign uniq to p)) _ (assign-data uniq (handle lap (j .row .serial)) (functionAt (s .table) (j .row .function) .name) (j .unique) w) (assign-sendable uniq w (length-fit (j .row .size) _))
+      reads-by (render e s (assign uniq to p)) _ (assign-data uniq (handle (s .table .hub) (j .row .serial)) (functionAt (s .table) (j .row .function) .name) (j .unique) w) (assign-sendable uniq w (length-fit (j .row .size) _))
 
 -- ---- every event
 
 module _ (n : ℕ) (s : Server) (h : Running n s) where
+  named : hubNamed (s .table) ≡ true
+  named = obeyed (s .table) (h .rules) .sound .named
+
   reads-status : (c : ℕ) (b j : Bytes) (o : Option ℕ) → requestIn b ≡ getStatus j → jobOf (s .table) j ≡ o → Reads (sends c b) s (plain c 20 (statusOf o j (s .table)))
   unfolding hasHandle every
   reads-status c b j none q r = reads-plain _ s c 20 _ (status-sendable j _ _ false false (status-fits b j q) refl refl)
   reads-status c b j (some p) q r =
-      let f = found (λ x. hasHandle j (x .row)) noJob (s .table .jobs) (some p) r in
+      let f = found (λ x. hasHandle (s .table .hub) j (x .row)) noJob (s .table .jobs) (some p) r in
       let x = texts n s h p (f .inside) (and-left (live (jobAt (s .table) p .row)) _ (f .passes)) in
       let k = jobAt (s .table) p in
       reads-plain _ s c 20 _ (status-sendable j (k .numerator) (k .denominator) true (not (eqb (k .row .holder) 0)) (status-fits b j q) (x .numerator) (x .denominator))
@@ -289,10 +295,10 @@ module _ (n : ℕ) (s : Server) (h : Running n s) where
       let (i, g) = best-found (s .table) c p r in
       let l = and-left (live (jobAt (s .table) p .row)) _ (and-left (queued (jobAt (s .table) p .row)) _ g) in
       reads-assigned _ s c p (texts n s h p i l) uniq
-  reads-sent (Sends.handle-joined c b priority background f u size q p r) = reads-created _ s c _
-  reads-sent (Sends.handle-made c b priority background f u size q l m) = reads-created _ s c _
+  reads-sent (Sends.handle-joined c b priority background f u size q p r) = reads-created _ s named c _
+  reads-sent (Sends.handle-made c b priority background f u size q l m) = reads-created _ s named c _
   reads-sent (Sends.a-copy c b how kind j x y q p r l m w) = reads-work c b s how kind j x y q l
-  reads-sent (Sends.a-failure c b how kind j x y q p r l m w) = reads-plain _ s l 14 _ (handle-sendable 14 refl (jobAt (s .table) p .row .serial))
+  reads-sent (Sends.a-failure c b how kind j x y q p r l m w) = reads-plain _ s l 14 _ (handle-sendable (s .table .hub) named 14 refl (jobAt (s .table) p .row .serial))
   reads-sent (Sends.a-status c b j q o r) = reads-status c b j o q r
   reads-sent (Sends.an-option c b name q r) = reads-plain _ s c 27 _ (option-sendable name r)
   reads-sent (Sends.an-echo c b q) = reads-echo c b s q

@@ -1,6 +1,6 @@
 -- Over a history, the listeners of a job are those who were told its handle since they opened; and a worker packet goes to each of them
 -- once. Assumes nothing.
-use Prim.Native.Nat.{ℕ, suc, _<_, _≤_}
+use Prim.Native.Nat.{ℕ, suc, _<_}
 use mathlib.Core.Path.{_≡_, refl, ap, ap₂, sym, _∙_, subst}
 use mathlib.Core.Bool.{Bool, true, false, cond, _||_, _&&_}
 use mathlib.Core.Option.{Option, none, some}
@@ -11,7 +11,7 @@ use lib.ListN.{length}
 use lib.Dec.{eqb, ltb}
 use Rattle.octets.specs.Bytes.{Bytes}
 use Rattle.octets.proofs.Strings.{and-false, and-left, and-right, and-both, same-is}
-use Rattle.handle.specs.Handle.{handle, lap}
+use Rattle.handle.specs.Handle.{handle, isHubName}
 use Rattle.handle.proofs.Handles.{handle-one-to-one}
 use Rattle.sets.specs.Sets.{has}
 use Rattle.packet.specs.Packet.{Reading, refused, got, read, requests}
@@ -25,8 +25,6 @@ use Rattle.server.specs.Table.{Table, Job, closed, noJob, jobAt, live, heldBy, 
 use Rattle.server.specs.Requests.{Event, sends, Work, tells, reports, ends, throws, Request, work, requestIn}
 use Rattle.server.specs.Events.{copy, Decision, refuse, silence, holdsHandle, hears, failure, toListener, worked, served, workAt, onlyIfOpen, heldJobOf}
 use Rattle.server.specs.Rules.{isOpen}
-use Rattle.server.specs.Sizes.{workloadsSize}
-use Rattle.server.specs.Layout.{tableSize}
 use Rattle.server.specs.Server.{Server, answer, decided, next, start}
 use Rattle.server.specs.Call.{serverIn}
 use Rattle.server_laws.proofs.Places.{placeChanged, Untouched, Becomes, stays, begins, joins, taken}
@@ -38,12 +36,12 @@ use Rattle.server_calls.proofs.Follows.{Running}
 use Rattle.server_calls.proofs.Histories.{LongOutputs}
 use Rattle.demands.specs.Messages.{Message, told, argumentsOf, messageOf, messagesOf}
 use Rattle.demands.specs.Handles.{isEnding, givesHandle, readingGives, readingTells, given, stands}
-use Rattle.demands.specs.Hub.{Hub, Long, callOn, kept, afterCalls, resultsOf, tableIn, serverOf, freshMemory}
+use Rattle.demands.specs.Hub.{Hub, Long, callOn, kept, afterCalls, resultsOf, tableIn, serverOf, freshMemory, Room}
 use Rattle.demands.specs.Conditions.{typeOf}
 use Rattle.demands.specs.Listening.{createdIs, tellsCreated, submits, turns, heardAfter, heard, listens, catches, optionIn, wants, resultFor, EachOnce}
 use Rattle.demands.proofs.Given.{At, stands-at, at-stands}
 use Rattle.demands.proofs.Numbers.{throwing}
-use Rattle.demands.proofs.Gone.{Used, given-used, stands-used, used-next, made-newest, inside-live, AsksWork, asks-work}
+use Rattle.demands.proofs.Gone.{Used, given-used, stands-used, used-next, made-newest, inside-live, hub-before, AsksWork, asks-work}
 use Rattle.demands.proofs.Hubs.{hub-fresh, fresh-server, hub-runs, call-number, call-tells, call-hub, call-next, calls-hub}
 use Rattle.demands.proofs.Options.{calls-option}
 use Rattle.demands.proofs.Listeners.{handle-place, listens-at, nobody-listens, listener-inside, step-heard}
@@ -61,7 +59,7 @@ tells-given c h ms e = any-imp (λ m. eqb (m .to) c && createdIs h (m .says)) (�
 
 listens-stands : (c : ℕ) (h : Bytes) (t : Table) → listens c h t ≡ true → stands h t ≡ true
 unfolding listens stands
-listens-stands c h t e = any-imp (λ j. hasHandle h (j .row) && has (j .row .listeners) c) (λ j. hasHandle h (j .row)) (λ j z. and-left (hasHandle h (j .row)) _ z) (t .jobs) e
+listens-stands c h t e = any-imp (λ j. hasHandle (t .hub) h (j .row) && has (j .row .listeners) c) (λ j. hasHandle (t .hub) h (j .row)) (λ j z. and-left (hasHandle (t .hub) h (j .row)) _ z) (t .jobs) e
 
 heard-used : (n : ℕ) (e : Event) (s : Server) → Running n s → (c : ℕ) (h : Bytes) (x : Bool) → (x ≡ true → Used h (s .table))
     → heardAfter c h x e (answer e s .number) (messagesOf e s) ≡ true → Used h (next e s .table)
@@ -85,7 +83,7 @@ module _ (n : ℕ) (c : ℕ) (h : Bytes) where
       by false q = nobody-listens n s r c h (λ z. clash z q) ∙ sym (never x (λ z.
           let v = u z in
           let (k, room) = made-newest e s h (and-both (stands h (next e s .table)) _ y (rw q)) in
-          let w : v .serial ≡ suc (s .table .last) = handle-one-to-one lap _ _ (omega (arith, v .past)) room (sym (v .is) ∙ k) in
+          let w : v .serial ≡ suc (s .table .last) = handle-one-to-one (s .table .hub) _ _ (omega (arith, v .past)) room (sym (v .is) ∙ k) in
           omega (arith, v .past)))
 
   history-heard : (xs : List Call) (m : Memory) → Hub n m → LongOutputs n xs → (x : Bool) → (stands h (serverOf n m .table) ≡ true → listens c h (serverOf n m .table) ≡ x)
@@ -140,8 +138,8 @@ ended-row ends n d j e = refl
 ended-row throws n d j e = refl
 
 -- what each of them is told
-module _ (e : Event) (s : Server) (how : Work) (kind p : ℕ) (h : Bytes) (t : throwing how ≡ eqb kind 25) (q : h ≡ handle lap (jobAt (s .table) p .row .serial)) where
-  told-one : (l : ℕ) (b : Bool) → messageOf e s (cond b (copy l kind) (failure (jobAt (s .table) p .row .serial) l)) ≡ record { to = l; says = cond b (got kind (argumentsOf e)) (got 14 (h ∷ [])) }
+module _ (e : Event) (s : Server) (how : Work) (kind p : ℕ) (h : Bytes) (t : throwing how ≡ eqb kind 25) (q : h ≡ handle (s .table .hub) (jobAt (s .table) p .row .serial)) where
+  told-one : (l : ℕ) (b : Bool) → messageOf e s (cond b (copy l kind) (failure (s .table .hub) (jobAt (s .table) p .row .serial) l)) ≡ record { to = l; says = cond b (got kind (argumentsOf e)) (got 14 (h ∷ [])) }
   unfolding messageOf
   told-one l true = refl
   told-one l false = rw q
@@ -175,12 +173,12 @@ module _ (n : ℕ) (s : Server) (r : Running n s) (d : ℕ) (b h : Bytes) (w : r
   unfolding holdsHandle hasHandle
   held-at =
       let (p, q) = held in
-      let f = found (λ j. holdsHandle d h (j .row)) noJob (t .jobs) (some p) q in
+      let f = found (λ j. holdsHandle (t .hub) d h (j .row)) noJob (t .jobs) (some p) q in
       let row = jobAt t p .row in
-      let x : hasHandle h row ≡ true = and-right (heldBy d row) _ (f .passes) in
+      let x : hasHandle (t .hub) h row ≡ true = and-right (heldBy d row) _ (f .passes) in
       record { place = p; inside = f .inside; live′ = and-left (live row) _ x; is = sym (same-is _ _ (and-right (live row) _ x)) }
 
-  held-is : h ≡ handle lap (jobAt t (held .0) .row .serial)
+  held-is : h ≡ handle (t .hub) (jobAt t (held .0) .row .serial)
   unfolding held-at
   held-is = held-at .is
 
@@ -209,14 +207,14 @@ module _ (n : ℕ) (s : Server) (r : Running n s) (d : ℕ) (b h : Bytes) (w : r
       }
 
   -- a job that it ends stands no more: what stands afterwards with its handle would be a job that it did not touch
-  not-untouched : (i : ℕ) → i < length (t .jobs) → live (jobAt t i .row) ≡ true → h ≡ handle lap (jobAt t i .row .serial) → ¬ Untouched t i (sends d b)
+  not-untouched : (i : ℕ) → i < length (t .jobs) → live (jobAt t i .row) ≡ true → h ≡ handle (t .hub) (jobAt t i .row .serial) → ¬ Untouched t i (sends d b)
   unfolding held-at placeChanged
   not-untouched i j l q u =
       let (p, f) = held in
       let e : i ≡ p = handle-place n s r h held-at i j l q in
       u (record { inside = ltb-true d (length (t .connections)) (opened .0); state = opened .1 }) (ap (placeChanged d t) (asked .is) ∙ f ∙ ap some (sym e))
 
-  ended-at : endsJob (asked .how) ≡ true → (i : ℕ) {last : ℕ} {k : Job} → Becomes t last i (jobAt t i) (sends d b) k → live (k .row) ≡ true → ¬ (h ≡ handle lap (k .row .serial))
+  ended-at : endsJob (asked .how) ≡ true → (i : ℕ) {last : ℕ} {k : Job} → Becomes t last i (jobAt t i) (sends d b) k → live (k .row) ≡ true → ¬ (h ≡ handle (t .hub) (k .row .serial))
   ended-at z i (stays e u) l g = not-untouched i (inside-live t i l) l g u
   ended-at z i (begins d b priority background f w size x o a y r₁ r₂ r₃ m e) l g = let q : _≡_ {A = ℕ} 0 1 = cc (sym a ∙ asked .is) in omega arith
   ended-at z i (joins d b priority background f w size o a y) l g = let q : _≡_ {A = ℕ} 0 1 = cc (sym a ∙ asked .is) in omega arith
@@ -225,7 +223,7 @@ module _ (n : ℕ) (s : Server) (r : Running n s) (d : ℕ) (b h : Bytes) (w : r
 
   pub job-ended : endsJob (asked .how) ≡ true → stands h (next (sends d b) s .table) ≡ false
   unfolding next
-  job-ended z = never _ (λ y. let a = stands-at h (decided (sends d b) s .table) y in ended-at z (a .place) (fates (sends d b) s (r .rules) (a .place)) (a .live′) (a .is))
+  job-ended z = never _ (λ y. let a = stands-at h (decided (sends d b) s .table) y in ended-at z (a .place) (fates (sends d b) s (r .rules) (a .place)) (a .live′) (hub-before (sends d b) s h a))
 
 -- ---- over calls
 
@@ -275,19 +273,19 @@ results-told n xs m hub ls h f g x l d b e w z =
     }
 
 -- in a fresh memory nobody listens, and nobody has set the option
-fresh-silent : (n l : ℕ) (h : Bytes) → listens l h (start n .table) ≡ false
+fresh-silent : (n : ℕ) (name : Bytes) (l : ℕ) (h : Bytes) → listens l h (start n name .table) ≡ false
 unfolding start fresh listens hasHandle
-fresh-silent n l h = refl
+fresh-silent n name l h = refl
 
-fresh-unset : (n l : ℕ) → optionIn (start n .table) l ≡ false
+fresh-unset : (n : ℕ) (name : Bytes) (l : ℕ) → optionIn (start n name .table) l ≡ false
 unfolding start fresh
-fresh-unset n l = ap (λ (x : Connection). x .exceptions) (replicate-default n l closed)
+fresh-unset n name l = ap (λ (x : Connection). x .exceptions) (replicate-default n l closed)
 
-pub fresh-results : (n : ℕ) → n ≤ 256 → (t w : Bytes) → tableSize n ≤ length t → workloadsSize ≤ length w → (xs : List Call) → LongOutputs n xs
-    → let m = freshMemory n t w in let u = afterCalls n xs m in
+pub fresh-results : (n : ℕ) (name : Bytes) → isHubName name ≡ true → (t w : Bytes) → Room n t w → (xs : List Call) → LongOutputs n xs
+    → let m = freshMemory n name t w in let u = afterCalls n xs m in
     (x : Call) → Long n x → (d : ℕ) (b h : Bytes) → x .event ≡ sends d b → readingTells h (read requests b) ≡ true → callOn n u x .number ≡ 0
     → EachOnce (λ l. heard l h false xs (resultsOf n xs m)) (resultFor (λ l. catches l false xs (resultsOf n xs m)) (typeOf b) (argumentsOf (sends d b)) h) (told (callOn n u x))
 unfolding serverIn
-fresh-results n few t w lt lw xs ls x l d b h e z y =
-    results-told n xs (freshMemory n t w) (hub-fresh n few t w lt lw) ls h (λ i. ap (λ (s : Server). listens i h (s .table)) (fresh-server n few t w lt lw) ∙ fresh-silent n i h)
-    (λ i. ap (λ (s : Server). optionIn (s .table) i) (fresh-server n few t w lt lw) ∙ fresh-unset n i) x l d b e z y
+fresh-results n name good t w room xs ls x l d b h e z y =
+    results-told n xs (freshMemory n name t w) (hub-fresh n name good t w room) ls h (λ i. ap (λ (s : Server). listens i h (s .table)) (fresh-server n name good t w room) ∙ fresh-silent n name i h)
+    (λ i. ap (λ (s : Server). optionIn (s .table) i) (fresh-server n name good t w room) ∙ fresh-unset n name i) x l d b e z y

@@ -10,7 +10,7 @@ use lib.ListN.{length, getD, List·getD-map}
 use lib.Dec.{eqb}
 use Rattle.octets.specs.Bytes.{Bytes, same}
 use Rattle.octets.proofs.Strings.{and-false, and-left, and-right, same-is}
-use Rattle.handle.specs.Handle.{handle, lap}
+use Rattle.handle.specs.Handle.{handle}
 use Rattle.packet.specs.Layout.{backgroundOf}
 use Rattle.packet.specs.Packet.{Reading, refused, got, read, requests}
 use Rattle.packet_laws.proofs.Packets.{read-got}
@@ -117,30 +117,30 @@ any-noops c h e s [] = refl
 any-noops c h e s (l ∷ ls) = rw (and-false (eqb l c), any-noops c h e s ls)
 
 -- one JOB_CREATED, and then NOOPs
-pub tells-created : (c : ℕ) (h : Bytes) (e : Event) (s : Server) (d k : ℕ) (ls : List ℕ) → decided e s .packets ≡ created d k ∷ map noop ls
-    → tellsCreated c h (messagesOf e s) ≡ eqb d c && same (handle lap k) h
+pub tells-created : (c : ℕ) (h : Bytes) (e : Event) (s : Server) (d k : ℕ) (ls : List ℕ) → decided e s .packets ≡ created (s .table .hub) d k ∷ map noop ls
+    → tellsCreated c h (messagesOf e s) ≡ eqb d c && same (handle (s .table .hub) k) h
 unfolding tellsCreated messagesOf messageOf
-tells-created c h e s d k ls q = rw (q, any-noops c h e s ls) (or-off (eqb d c && same (handle lap k) h))
+tells-created c h e s d k ls q = rw (q, any-noops c h e s ls) (or-off (eqb d c && same (handle (s .table .hub) k) h))
 
 -- a submission that joins the job at place p, and one that makes a job
 module _ (s : Server) (d : ℕ) (b : Bytes) (o : Stands (s .table) d true) (priority : ℕ) (background : Bool) (f u : Bytes) (size : ℕ) (q : requestIn b ≡ submit priority background f u size) where
   join-decided : (p : ℕ) → joined (s .table) f u ≡ some p
-      → decided (sends d b) s ≡ settle (created d (jobAt (s .table) p .row .serial) ∷ []) (setJob (s .table) p (withRow (submittedBy d background (jobAt (s .table) p .row)) (jobAt (s .table) p)))
+      → decided (sends d b) s ≡ settle (created (s .table .hub) d (jobAt (s .table) p .row .serial) ∷ []) (setJob (s .table) p (withRow (submittedBy d background (jobAt (s .table) p .row)) (jobAt (s .table) p)))
   unfolding decided onlyIfOpen served submitTo
   join-decided p r = rw (lt-ltb d (length (s .table .connections)) (o .inside), o .state, q, r)
 
-  pub join-packets : (p : ℕ) → joined (s .table) f u ≡ some p → (ls : List ℕ) × (decided (sends d b) s .packets ≡ created d (jobAt (s .table) p .row .serial) ∷ map noop ls)
+  pub join-packets : (p : ℕ) → joined (s .table) f u ≡ some p → (ls : List ℕ) × (decided (sends d b) s .packets ≡ created (s .table .hub) d (jobAt (s .table) p .row .serial) ∷ map noop ls)
   unfolding settle
   join-packets p r =
       (toWake (dropped (setJob (s .table) p (withRow (submittedBy d background (jobAt (s .table) p .row)) (jobAt (s .table) p)))), ap (λ (x : Decision). x .packets) (join-decided p r))
 
   make-decided : (k p : ℕ) → joined (s .table) f u ≡ none → roomFor (s .table .functions) f ≡ some k → freePlace (s .table) ≡ some p → s .table .last < 4294967295
-      → decided (sends d b) s ≡ settle (created d (suc (s .table .last)) ∷ []) (accepted k f p (newJob d priority background k u size (suc (s .table .last))) (s .table))
+      → decided (sends d b) s ≡ settle (created (s .table .hub) d (suc (s .table .last)) ∷ []) (accepted k f p (newJob d priority background k u size (suc (s .table .last))) (s .table))
   unfolding decided onlyIfOpen served submitTo submitNew
   make-decided k p r₁ r₂ r₃ l = rw (lt-ltb d (length (s .table .connections)) (o .inside), o .state, q, r₁, r₂, r₃, lt-ltb (s .table .last) 4294967295 l)
 
   pub make-packets : (k p : ℕ) → joined (s .table) f u ≡ none → roomFor (s .table .functions) f ≡ some k → freePlace (s .table) ≡ some p → s .table .last < 4294967295
-      → (ls : List ℕ) × (decided (sends d b) s .packets ≡ created d (suc (s .table .last)) ∷ map noop ls)
+      → (ls : List ℕ) × (decided (sends d b) s .packets ≡ created (s .table .hub) d (suc (s .table .last)) ∷ map noop ls)
   unfolding settle
   make-packets k p r₁ r₂ r₃ l =
       (toWake (dropped (accepted k f p (newJob d priority background k u size (suc (s .table .last))) (s .table))), ap (λ (x : Decision). x .packets) (make-decided k p r₁ r₂ r₃ l))
@@ -157,8 +157,8 @@ refused-tells c h e s d n = go (isTold n)
 -- ---- which job a foreground submission's JOB_CREATED names
 
 pub data Created (d : ℕ) (b : Bytes) (t : Table) (h : Bytes) : Type 0 where
-  by-joining : Stands t d true → (p : ℕ) → placeChanged d t (requestIn b) ≡ some p → p < length (t .jobs) → live (jobAt t p .row) ≡ true → h ≡ handle lap (jobAt t p .row .serial) → Created d b t h
-  by-making : t .last < 4294967295 → h ≡ handle lap (suc (t .last)) → Created d b t h
+  by-joining : Stands t d true → (p : ℕ) → placeChanged d t (requestIn b) ≡ some p → p < length (t .jobs) → live (jobAt t p .row) ≡ true → h ≡ handle (t .hub) (jobAt t p .row .serial) → Created d b t h
+  by-making : t .last < 4294967295 → h ≡ handle (t .hub) (suc (t .last)) → Created d b t h
 
 module _ (c d : ℕ) (b h : Bytes) (s : Server) where
   abbrev e : Event
@@ -171,10 +171,10 @@ module _ (c d : ℕ) (b h : Bytes) (s : Server) where
   quiet y q i z g = clash (and-left (isForeground (typeOf b)) _ g) (other-foreground b q i z)
 
   -- the first packet alone can be JOB_CREATED
-  first-told : (k : ℕ) (v : Table) → isForeground (typeOf b) && any (λ m. eqb (m .to) c && createdIs h (m .says)) (map (messageOf e s) (settle (created d k ∷ []) v .packets)) ≡ true → h ≡ handle lap k
+  first-told : (k : ℕ) (v : Table) → isForeground (typeOf b) && any (λ m. eqb (m .to) c && createdIs h (m .says)) (map (messageOf e s) (settle (created (s .table .hub) d k ∷ []) v .packets)) ≡ true → h ≡ handle (s .table .hub) k
   unfolding messageOf settle
   first-told k v g =
-      let w : (eqb d c && same (handle lap k) h) || false ≡ true = rw (any-noops c h e s (toWake (dropped v))) at (and-right (isForeground (typeOf b)) _ g) in
+      let w : (eqb d c && same (handle (s .table .hub) k) h) || false ≡ true = rw (any-noops c h e s (toWake (dropped v))) at (and-right (isForeground (typeOf b)) _ g) in
       sym (same-is _ _ (and-right (eqb d c) _ (sym (or-off _) ∙ w)))
 
   says-change : {a : Request} {ss : List Send} {v : Table} → requestIn b ≡ a → Stands (s .table) d true → Change d (s .table) a ss v → Says (settle ss v)

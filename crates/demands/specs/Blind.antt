@@ -6,7 +6,7 @@ use mathlib.Core.Option.{some}
 use mathlib.Core.List.{List, [], _∷_, _++_}
 use lib.ListN.{length, getD, take, drop}
 use Rattle.octets.specs.Bytes.{Bytes}
-use Rattle.handle.specs.Handle.{handle, lap}
+use Rattle.handle.specs.Handle.{handle}
 use Rattle.sets.specs.Sets.{has}
 use Rattle.packet.specs.Packet.{got}
 use Rattle.server.specs.Table.{Table, jobAt}
@@ -55,13 +55,13 @@ pub data ButExceptions (t : Table) (e f : Event) (a b : Addressed) : Type 0 wher
 
 -- ---- the packets that carry a stored workload
 
--- two packets: the same one, to the byte; or two assignments of the job with serial k to one connection, JOB_ASSIGN or JOB_ASSIGN_UNIQ, with
+-- two packets: the same one, to the byte; or two assignments of the job with this handle to one connection, JOB_ASSIGN or JOB_ASSIGN_UNIQ, with
 -- workloads of one length
-pub data ButWorkload (k : ℕ) (a b : Addressed) : Type 0 where
-  equal : a ≡ b → ButWorkload k a b
+pub data ButWorkload (h : Bytes) (a b : Addressed) : Type 0 where
+  equal : a ≡ b → ButWorkload h a b
   assigned : (to : ℕ) (uniq : Bool) (function : Bytes) (more : List Bytes) (w v : Bytes) → length w ≡ length v
-      → messageIn a ≡ record { to = to; says = got (cond uniq 31 11) (handle lap k ∷ function ∷ (more ++ (w ∷ []))) }
-      → messageIn b ≡ record { to = to; says = got (cond uniq 31 11) (handle lap k ∷ function ∷ (more ++ (v ∷ []))) } → ButWorkload k a b
+      → messageIn a ≡ record { to = to; says = got (cond uniq 31 11) (h ∷ function ∷ (more ++ (w ∷ []))) }
+      → messageIn b ≡ record { to = to; says = got (cond uniq 31 11) (h ∷ function ∷ (more ++ (v ∷ []))) } → ButWorkload h a b
 
 -- ---- one changed packet
 
@@ -74,7 +74,7 @@ Packets R x y r q = All2 R (packetsIn (written r)) (packetsIn (written q))
 -- serial k, nothing differs but the workload in assignments of that job, and of the workloads only its place.
 pub data Later (n : ℕ) (m u v : Memory) (xs ys : List Call) : Type 0 where
   made-none : ((h : Bytes) → isMade h (tableIn n m) (tableIn n u) ≡ false) → serverOf n u ≡ serverOf n v → Both (Packets (λ a b. a ≡ b)) xs ys (resultsOf n xs u) (resultsOf n ys v) → Later n m u v xs ys
-  made-one : (k : ℕ) → isMade (handle lap k) (tableIn n m) (tableIn n u) ≡ true → Both (Packets (ButWorkload k)) xs ys (resultsOf n xs u) (resultsOf n ys v)
+  made-one : (k : ℕ) → isMade (handle (tableIn n m .hub) k) (tableIn n m) (tableIn n u) ≡ true → Both (Packets (ButWorkload (handle (tableIn n m .hub) k))) xs ys (resultsOf n xs u) (resultsOf n ys v)
       → ((p : ℕ) → ¬ (jobAt (tableIn n (afterCalls n xs u)) p .row .serial ≡ k) → getD (serverOf n (afterCalls n xs u) .workloads) p [] ≡ getD (serverOf n (afterCalls n ys v) .workloads) p [])
       → Later n m u v xs ys
 

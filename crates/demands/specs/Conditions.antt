@@ -123,7 +123,7 @@ serialsUsedUp t kind f u = isNewJob t kind f u && not (ltb (t .last) 4294967295)
 
 -- "types 12, 13, 14, 25, 28, 29: handle isn't a job held by this connection"
 abbrev pub notHeld : Table → ℕ → ℕ → Bytes → Bool
-notHeld t c kind h = isWork kind && not (any (λ j. holdsHandle c h (j .row)) (t .jobs))
+notHeld t c kind h = isWork kind && not (any (λ j. holdsHandle (t .hub) c h (j .row)) (t .jobs))
 
 -- "option isn't `exceptions`"
 abbrev pub otherOption : ℕ → Bytes → Bool

@@ -52,10 +52,10 @@ tableIn n m = tableOf n (m .table)
 abbrev pub serverOf : ℕ → Memory → Server
 serverOf n m = serverIn n (m .table) (m .workloads)
 
--- a fresh table made of the buffers t and w
-abbrev pub freshMemory : ℕ → Bytes → Bytes → Memory
-freshMemory n t w = record { table = make n t w .table; workloads = make n t w .workloads }
+-- a fresh table of the hub of this name, made of the buffers t and w
+abbrev pub freshMemory : ℕ → Bytes → Bytes → Bytes → Memory
+freshMemory n name t w = record { table = make n name t w .table; workloads = make n name t w .workloads }
 
 -- the same, with the last serial of an old table, its bytes 0 to 3, written into it
-abbrev pub restarted : ℕ → Memory → Bytes → Bytes → Memory
-restarted n old t w = record { table = put 0 (take 4 (old .table)) (make n t w .table); workloads = make n t w .workloads }
+abbrev pub restarted : ℕ → Memory → Bytes → Bytes → Bytes → Memory
+restarted n old name t w = record { table = put 0 (take 4 (old .table)) (make n name t w .table); workloads = make n name t w .workloads }

@@ -55,7 +55,7 @@ heard c h before (x ∷ xs) (r ∷ rs) = heard c h (heardAfter c h before (x .ev
 
 -- connection c is a listener of the job with this handle
 unfoldable pub listens : ℕ → Bytes → Table → Bool
-listens c h t = any (λ j. hasHandle h (j .row) && has (j .row .listeners) c) (t .jobs)
+listens c h t = any (λ j. hasHandle (t .hub) h (j .row) && has (j .row .listeners) c) (t .jobs)
 
 -- ---- who asked for exceptions
 

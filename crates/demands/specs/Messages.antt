@@ -5,7 +5,7 @@ use mathlib.Core.Bool.{Bool, true, false, cond}
 use mathlib.Core.List.{List, [], _∷_, _++_, map}
 use lib.ListN.{length, getD, take, drop, replicate}
 use Rattle.octets.specs.Bytes.{Bytes, numberAt}
-use Rattle.handle.specs.Handle.{handle, lap}
+use Rattle.handle.specs.Handle.{handle}
 use Rattle.packet.specs.Packet.{Reading, refused, got, read, requests, responses}
 use Rattle.packet.specs.Opaque.{visible, opaque}
 use Rattle.lists.specs.Lists.{fit}
@@ -73,7 +73,7 @@ messageOf e s (copy to kind) = record { to = to; says = got kind (argumentsOf e)
 messageOf e s (assign uniq to p) =
     let j = jobAt (s .table) p in
     let w = fit (j .row .size) (getD (s .workloads) p []) in
-    record { to = to; says = got (cond uniq 31 11) (handle lap (j .row .serial) ∷ functionAt (s .table) (j .row .function) .name ∷ cond uniq (j .unique ∷ w ∷ []) (w ∷ [])) }
+    record { to = to; says = got (cond uniq 31 11) (handle (s .table .hub) (j .row .serial) ∷ functionAt (s .table) (j .row .function) .name ∷ cond uniq (j .unique ∷ w ∷ []) (w ∷ [])) }
 
 unfoldable pub messagesOf : Event → Server → List Message
 messagesOf e s = map (messageOf e s) (decided e s .packets)

@@ -1,8 +1,9 @@
 -- Computed examples of handles, and of texts that are no handle. Assumes nothing.
 use mathlib.Core.Path.{_≡_, refl}
+use mathlib.Core.Bool.{true, false, _&&_, _||_}
 use mathlib.Core.List.{[], _∷_, _++_}
-use Rattle.octets.specs.Bytes.{Bytes, same}
-use Rattle.handle.specs.Handle.{decimalIn, decimal, handle, lap, value, serialOf}
+use Rattle.octets.specs.Bytes.{Bytes, every, same, text}
+use Rattle.handle.specs.Handle.{decimalIn, decimal, handle, isHubName, lap, value, serialOf}
 use Rattle.handle.specs.declared.Serial.the-variants.{Of, None}
 
 -- `H:lap:` and then some bytes
@@ -55,3 +56,26 @@ serial-past = refl
 pub serial-more : serialOf lap (lapText (49 ∷ 32 ∷ [])) ≡ None
 unfolding serialOf value handle decimal decimalIn same
 serial-more = refl
+
+-- ---- other hubs: `H:lap1:1` is no handle at `lap`, nor `H:lap:11` at `lap1`, nor either at `lap11`
+
+pub serial-longer-name : serialOf lap (text "H:lap1:1") ≡ None
+unfolding serialOf value handle decimal decimalIn same
+serial-longer-name = refl
+
+pub serial-shorter-name : serialOf (text "lap11") (text "H:lap1:11") ≡ None
+unfolding serialOf value handle decimal decimalIn same
+serial-shorter-name = refl
+
+pub serial-own-name : serialOf (text "lap11") (text "H:lap11:1") ≡ Of 1
+unfolding serialOf value handle decimal decimalIn same
+serial-own-name = refl
+
+-- names: 1 and 15 bytes, digits alone; none, 16 bytes, an uppercase letter, a hyphen
+pub names-good : isHubName lap && (isHubName (text "a") && (isHubName (text "abcdefghijklmno") && isHubName (text "0123456789"))) ≡ true
+unfolding isHubName every
+names-good = refl
+
+pub names-bad : isHubName [] || (isHubName (text "abcdefghijklmnop") || (isHubName (text "Lap") || (isHubName (text "la-p") || isHubName (97 ∷ 0 ∷ [])))) ≡ false
+unfolding isHubName every
+names-bad = refl

@@ -10,8 +10,9 @@ use lib.ListN.{length, drop, length-append}
 use lib.Dec.{eqb, leb}
 use Rattle.octets.specs.Bytes.{Bytes, same, every, firstZero, within, zeroFree}
 use Rattle.octets.proofs.Strings.{and-left, and-right, same-refl, same-is}
-use Rattle.handle.specs.Handle.{decimal, handle, lap, value, serialOf}
+use Rattle.handle.specs.Handle.{decimal, handle, handleMost, isHubName, value, serialOf}
 use Rattle.handle.specs.declared.Serial.the-variants.{Of, None}
+use Rattle.handle.proofs.Hubs.{hub-most, hub-zero-free}
 use Rattle.handle.proofs.Decimal.{decimal-most, decimal-least, decimal-digits, decimal-one-to-one, value-decimal}
 
 -- ---- how long, and what follows the prefix
@@ -63,9 +64,14 @@ first-zero-handle name n e =
 pub handle-zero-free : (name : Bytes) (n : ℕ) → zeroFree name ≡ true → zeroFree (handle name n) ≡ true
 handle-zero-free name n e = eq-eqb _ _ (first-zero-handle name n (eqb-true (firstZero name) (length name) e))
 
-pub lap-zero-free : (n : ℕ) → zeroFree (handle lap n) ≡ true
-unfolding firstZero
-lap-zero-free n = handle-zero-free lap n refl
+-- ---- at a hub
+
+module _ (name : Bytes) (good : isHubName name ≡ true) (n : ℕ) where
+  pub handle-bounded : length (handle name n) ≤ handleMost
+  handle-bounded = omega (arith, handle-most name n, hub-most name good)
+
+  pub handle-clean : zeroFree (handle name n) ≡ true
+  handle-clean = handle-zero-free name n (hub-zero-free name good)
 
 -- ---- a serial and its handle
 

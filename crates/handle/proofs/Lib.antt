@@ -1,4 +1,5 @@
 pub mod Decimal
+pub mod Hubs
 pub mod Handles
 pub mod Printing
 pub mod Reading

@@ -3,7 +3,7 @@
 use Prim.Native.Nat.{ℕ, zero, suc, _+_, _-_, _/_, _%_, _<_, _≤_}
 use mathlib.Core.Path.{_≡_, refl, ap, _∙_, sym, subst}
 use mathlib.Core.Bool.{Bool, true, false, cond}
-use mathlib.Core.List.{[], _∷_, _++_}
+use mathlib.Core.List.{[], _∷_, _++_, append-assoc}
 use native.Mathlib.Nat.{add-zero, not-suc-le-zero, le-of-suc-le-suc}
 use native.Mathlib.Numerals.{add-one}
 use native.Mathlib.Omega.{arith}
@@ -14,9 +14,9 @@ use lib.Dec.{ltb}
 use Rattle.octets.specs.Bytes.{Bytes}
 use Rattle.octets.specs.Put.{put}
 use Rattle.octets.proofs.Laying.{put-none, put-front, put-put, put-start}
-use Rattle.handle.specs.Handle.{decimalIn, decimal, handle, lap, padded, printed}
+use Rattle.handle.specs.Handle.{decimalIn, decimal, handle, handleMost, isHubName, padded, printed}
 use Rattle.handle.specs.declared.Handle.{Handle}
-use Rattle.handle.proofs.Handles.{handle-most}
+use Rattle.handle.proofs.Handles.{length-handle, handle-bounded}
 
 -- ---- digits counted
 
@@ -142,31 +142,41 @@ take-padded n s h = rw (← padded-is n s h, take-append-seam)
 length-padded : (n : ℕ) (s : Bytes) → length (padded n s) ≡ n
 length-padded n s = length-take-le n (s ++ zeros n) (rw length-append (omega (arith, length-replicate {A = ℕ} n 0)))
 
--- ---- the handle: its prefix and then its digits
+-- ---- the handle: `H:`, the name, `:` and then its digits
 
--- `H:lap:`
-abbrev prefix : Bytes
-prefix = 72 ∷ 58 ∷ 108 ∷ 97 ∷ 112 ∷ 58 ∷ []
+-- what is laid behind a text that was laid from the first byte on
+put-behind : (s t b : Bytes) (n : ℕ) → n ≡ length s → put n t (put 0 s b) ≡ put 0 (s ++ t) b
+put-behind s t b n e = let q : n ≡ 0 + length s = omega arith in rw q (put-put 0 s t b)
 
-module _ (o p : Bytes) (e r n : ℕ) (h : e ≡ 6) (g : r ≡ e + length (decimalIn 10 n)) where
-  pub handle-length : r ≡ length (handle lap n)
+module _ (name : Bytes) (good : isHubName name ≡ true) (n a b e : ℕ) (ha : a ≡ 2) (hb : b ≡ a + length name) (he : e ≡ b + 1) where
+  -- each part lies behind the one before
+  pub handle-length : (r : ℕ) → r ≡ e + length (decimalIn 10 n) → r ≡ length (handle name n)
+  unfolding decimal
+  handle-length r hr = omega (arith, length-handle name n)
+
+  pub handle-text : (o p q x : Bytes) → o ≡ put 0 (72 ∷ 58 ∷ []) (zeros handleMost) → p ≡ put a name o → q ≡ put b (58 ∷ []) p → x ≡ put e (decimalIn 10 n) q
+      → x ≡ padded handleMost (handle name n)
   unfolding handle decimal
-  handle-length = omega arith
+  handle-text o p q x ho hp hq hx =
+      let z = zeros handleMost in
+      let first : Bytes = 72 ∷ 58 ∷ [] in
+      let p1 : p ≡ put 0 (first ++ name) z = hp ∙ rw ho (put-behind first name z a ha) in
+      let q1 : q ≡ put 0 ((first ++ name) ++ (58 ∷ [])) z = hq ∙ rw p1 (put-behind (first ++ name) (58 ∷ []) z b (omega arith)) in
+      let x1 : x ≡ put 0 (((first ++ name) ++ (58 ∷ [])) ++ decimalIn 10 n) z
+      = hx ∙ rw q1 (put-behind ((first ++ name) ++ (58 ∷ [])) (decimalIn 10 n) z e (rw length-append (omega arith))) in
+      let whole : ((first ++ name) ++ (58 ∷ [])) ++ decimalIn 10 n ≡ handle name n = simp append-assoc in
+      x1 ∙ rw whole (put-padded handleMost (handle name n) (handle-bounded name good n))
 
-  pub handle-text : o ≡ put 0 prefix (zeros 16) → p ≡ put e (decimalIn 10 n) o → p ≡ padded 16 (handle lap n)
-  unfolding handle decimal
-  handle-text k m = rw (m, k, h) (put-put 0 prefix (decimalIn 10 n) (zeros 16) ∙ put-padded 16 (handle lap n) (handle-most lap n))
-
-pub printed-is : (s p : Bytes) (r : ℕ) → p ≡ padded 16 s → r ≡ length s → _≡_ {A = Handle} (record { text = p; length = r }) (printed s)
+pub printed-is : (s p : Bytes) (r : ℕ) → p ≡ padded handleMost s → r ≡ length s → _≡_ {A = Handle} (record { text = p; length = r }) (printed s)
 unfolding printed
 printed-is s p r e h = λ i. record { text = e i; length = h i }
 
 -- what `handle_of` answers: the first bytes of its text, as many as it says, are the handle
-module _ (w : Handle) (n : ℕ) (e : w ≡ printed (handle lap n)) where
+module _ (name : Bytes) (good : isHubName name ≡ true) (w : Handle) (n : ℕ) (e : w ≡ printed (handle name n)) where
   pub printed-fits : w .length ≤ length (w .text)
   unfolding printed
-  printed-fits = rw (e, length-padded) (handle-most lap n)
+  printed-fits = rw (e, length-padded) (handle-bounded name good n)
 
-  pub printed-front : take (w .length) (w .text) ≡ handle lap n
+  pub printed-front : take (w .length) (w .text) ≡ handle name n
   unfolding printed
-  printed-front = rw e (take-padded 16 (handle lap n) (handle-most lap n))
+  printed-front = rw e (take-padded handleMost (handle name n) (handle-bounded name good n))

@@ -1,15 +1,21 @@
-// The handles of jobs: `H:lap:` and a serial in decimal, with no leading zero. A text that is no serial's handle is `None`.
+// The names of hubs, and the handles of jobs: `H:`, the name of the hub, `:` and a serial in decimal, with no leading zero. A text that is
+// no serial's handle at this hub is `None`. An inner crate: `handle_of` asks its callers for a hub's name.
 ghost use mathlib.Core.Path.{_≡_};
-ghost use mathlib.Core.Bool.{cond};
-ghost use Prim.Native.Nat.{_+_, _≤_};
+ghost use mathlib.Core.Bool.{cond, true};
+ghost use Prim.Native.Nat.{_+_, _≤_, _<_};
 ghost use lib.ListN.{length};
-ghost use Rattle.octets.specs.Bytes.{every, within};
+ghost use Rattle.octets.specs.Bytes.{every, startsWith, within};
 ghost use Rattle.octets.specs.Put.{put};
-ghost use Rattle.handle.specs.Handle.{decimalIn, handle, lap, printed, serialOf, value};
+ghost use Rattle.handle.specs.Handle.{decimalIn, handle, isHubByte, isHubName, prefix, printed, serialOf, value};
+
+// The most bytes of a hub's name, and of a handle: three beside the name, and ten digits.
+pub const HUB_MOST: usize = 15;
+
+pub const HANDLE_MOST: usize = 13 + HUB_MOST;
 
 // A handle's text, followed by zeros, and its length.
 pub struct Handle {
-    pub text: [u8; 16],
+    pub text: [u8; HANDLE_MOST],
     pub length: usize,
 }
 
@@ -51,12 +57,55 @@ pub fn put_digits(out: &mut [u8], at: usize, number: u32, most: usize) -> usize
     at + count
 }
 
-// The handle of a serial.
-pub fn handle_of(serial: u32) -> Handle
-    ensures { λ r. ⌜ r ≡ printed (handle lap serial) ⌝ }
+// Whether the byte may stand in a hub's name.
+fn is_hub_byte(x: u8) -> bool
+    ensures { λ r. ⌜ r ≡ isHubByte x ⌝ }
 {
-    let mut text: [u8; 16] = [0; 16];
-    let digits = octets::put(&mut text, 0, b"H:lap:");
+    if x < 58 {
+        return 48 <= x;
+    }
+    if x < 97 {
+        return false;
+    }
+    x <= 122
+}
+
+// Whether each byte may.
+fn all_hub_bytes(name: &[u8]) -> bool
+    ensures { λ r. ⌜ r ≡ every isHubByte (now (name .entry)) ⌝ }
+{
+    let mut i = 0;
+    while i < name.len() {
+        if !is_hub_byte(name[i]) {
+            return false;
+        }
+        i += 1;
+    }
+    true
+}
+
+// Whether the text is a hub's name.
+pub fn is_hub_name(name: &[u8]) -> bool
+    ensures { λ r. ⌜ r ≡ isHubName (now (name .entry)) ⌝ }
+{
+    if name.len() < 1 {
+        return false;
+    }
+    if HUB_MOST < name.len() {
+        return false;
+    }
+    all_hub_bytes(name)
+}
+
+// The handle of a serial at the hub of this name.
+pub fn handle_of(hub: &[u8], serial: u32) -> Handle
+    requires { ⌜ isHubName (now hub) ≡ true ⌝ }
+    ensures { λ r. ⌜ r ≡ printed (handle (now (hub .entry)) serial) ⌝ }
+{
+    let mut text: [u8; HANDLE_MOST] = [0; HANDLE_MOST];
+    let name = octets::put(&mut text, 0, b"H:");
+    let colon = octets::put(&mut text, name, hub);
+    let digits = octets::put(&mut text, colon, b":");
     let length = put_digits(&mut text, digits, serial, 10);
     Handle {
         text: text,
@@ -85,23 +134,38 @@ fn number_of(digits: &[u8]) -> u64
     number
 }
 
-// The serial of which the text is the handle, compared where it lies: `H:lap:`, and then one to ten digits, the first not `0`.
-pub fn serial_of(text: &[u8]) -> Serial
-    ensures { λ r. ⌜ r ≡ serialOf lap (now (text .entry)) ⌝ }
+// Whether the text begins with `H:`, the hub's name and `:`, compared where it lies. `digits` is where the serial would begin.
+fn names_hub(hub: &[u8], text: &[u8], digits: usize) -> bool
+    requires { ⌜ (digits ≡ 3 + length (now hub)) × (digits < length (now text)) ⌝ }
+    ensures { λ r. ⌜ r ≡ startsWith (now (text .entry)) (prefix (now (hub .entry))) ⌝ }
 {
-    if text.len() < 7 {
+    if !octets::starts_with(text, b"H:") {
+        return false;
+    }
+    if text[digits - 1] != b':' {
+        return false;
+    }
+    octets::starts_with(&text[2..], hub)
+}
+
+// The serial of which the text is the handle at the hub of this name: behind the prefix one to ten digits, the first not `0`.
+pub fn serial_of(hub: &[u8], text: &[u8]) -> Serial
+    ensures { λ r. ⌜ r ≡ serialOf (now (hub .entry)) (now (text .entry)) ⌝ }
+{
+    let digits = 3 + hub.len();
+    if text.len() < digits + 1 {
         return Serial::None;
     }
-    if 16 < text.len() {
+    if digits + 10 < text.len() {
         return Serial::None;
     }
-    if !octets::starts_with(text, b"H:lap:") {
+    if !names_hub(hub, text, digits) {
         return Serial::None;
     }
-    if text[6] == 48 {
+    if text[digits] == 48 {
         return Serial::None;
     }
-    let number = number_of(&text[6..]);
+    let number = number_of(&text[digits..]);
     if number < 1 {
         return Serial::None;
     }

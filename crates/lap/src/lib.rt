@@ -8,12 +8,12 @@ ghost use Rattle.server.specs.Requests.{closes, opens, sends};
 ghost use Rattle.server.specs.Call.{call, left, made, make};
 ghost use Rattle.command.specs.Say.{say};
 
-// Makes a fresh table.
+// Makes a fresh table for the hub of this name.
 #[no_mangle]
-pub extern "C" fn lap_fresh(table: &mut [u8], workloads: &mut [u8]) -> u32
-    ensures { λ r. ⌜ made r (now (table .exit)) (now (workloads .exit)) ≡ make connectionCount (now (table .entry)) (now (workloads .entry)) ⌝ }
+pub extern "C" fn lap_fresh(table: &mut [u8], workloads: &mut [u8], name: &[u8]) -> u32
+    ensures { λ r. ⌜ made r (now (table .exit)) (now (workloads .exit)) ≡ make connectionCount (now (name .entry)) (now (table .entry)) (now (workloads .entry)) ⌝ }
 {
-    call_fresh::fresh(table, workloads) as u32
+    call_fresh::fresh(table, workloads, name) as u32
 }
 
 // Opens a connection.

@@ -12,7 +12,7 @@ use lib.ListN.{getD, List·getD-map}
 use lib.Dec.{leb, eqb}
 use Rattle.octets.specs.Bytes.{Bytes, same}
 use Rattle.octets.proofs.Strings.{and-false, and-left, and-right}
-use Rattle.handle.specs.Handle.{handle, lap, serialOf}
+use Rattle.handle.specs.Handle.{handle, serialOf}
 use Rattle.handle.specs.declared.Serial.the-variants.{Of, None}
 use Rattle.handle.proofs.Handles.{same-serial, other-serial, no-handle}
 use Rattle.sets.specs.Sets.{isEmpty}
@@ -73,23 +73,23 @@ wanted-values t q h =
 
 -- ---- jobs by handle: where the definitions compare texts, the numbers compare serials
 
-module _ (h : Bytes) (s : ℕ) (e : serialOf lap h ≡ Of s) where
-  same-as-serial : (n : ℕ) → 1 ≤ n → n < 2 ^ 32 → same (handle lap n) h ≡ eqb n s
+module _ (hub h : Bytes) (s : ℕ) (e : serialOf hub h ≡ Of s) where
+  same-as-serial : (n : ℕ) → 1 ≤ n → n < 2 ^ 32 → same (handle hub n) h ≡ eqb n s
   same-as-serial n l k = go (eqb n s) refl
     where
-      go : (b : Bool) → eqb n s ≡ b → same (handle lap n) h ≡ b
-      go true q = let p : n ≡ s = eqb-true n s q in rw p (same-serial lap h s e)
-      go false q = let p : n ≡ s → ⊥ = eqb-false n s q in other-serial lap h n s l k e (λ z. p (sym z))
+      go : (b : Bool) → eqb n s ≡ b → same (handle hub n) h ≡ b
+      go true q = let p : n ≡ s = eqb-true n s q in rw p (same-serial hub h s e)
+      go false q = let p : n ≡ s → ⊥ = eqb-false n s q in other-serial hub h n s l k e (λ z. p (sym z))
 
-  has-serial : (r : JobRow) → r .serial < 2 ^ 32 → hasHandle h r ≡ live r && eqb (r .serial) s
+  has-serial : (r : JobRow) → r .serial < 2 ^ 32 → hasHandle hub h r ≡ live r && eqb (r .serial) s
   unfolding hasHandle
   has-serial r k = go (eqb (r .serial) 0) refl
     where
-      go : (b : Bool) → eqb (r .serial) 0 ≡ b → not b && same (handle lap (r .serial)) h ≡ not b && eqb (r .serial) s
+      go : (b : Bool) → eqb (r .serial) 0 ≡ b → not b && same (handle hub (r .serial)) h ≡ not b && eqb (r .serial) s
       go true q = refl
       go false q = let p : r .serial ≡ 0 → ⊥ = eqb-false (r .serial) 0 q in same-as-serial (r .serial) (omega arith) k
 
-  holds-serial : (c : ℕ) (r : JobRow) → r .serial < 2 ^ 32 → holdsHandle c h r ≡ heldBy c r && eqb (r .serial) s
+  holds-serial : (c : ℕ) (r : JobRow) → r .serial < 2 ^ 32 → holdsHandle hub c h r ≡ heldBy c r && eqb (r .serial) s
   unfolding holdsHandle
   holds-serial c r k = ap (λ (b : Bool). heldBy c r && b) (has-serial r k) ∙ go (live r) (eqb (r .holder) (suc c)) (eqb (r .serial) s)
     where
@@ -97,13 +97,13 @@ module _ (h : Bytes) (s : ℕ) (e : serialOf lap h ≡ Of s) where
       go true b d = refl
       go false b d = refl
 
-no-serial : (h : Bytes) → serialOf lap h ≡ None → (r : JobRow) → r .serial < 2 ^ 32 → hasHandle h r ≡ false
+no-serial : (hub h : Bytes) → serialOf hub h ≡ None → (r : JobRow) → r .serial < 2 ^ 32 → hasHandle hub h r ≡ false
 unfolding hasHandle
-no-serial h e r k = go (eqb (r .serial) 0) refl
+no-serial hub h e r k = go (eqb (r .serial) 0) refl
   where
-    go : (b : Bool) → eqb (r .serial) 0 ≡ b → not b && same (handle lap (r .serial)) h ≡ false
+    go : (b : Bool) → eqb (r .serial) 0 ≡ b → not b && same (handle hub (r .serial)) h ≡ false
     go true q = refl
-    go false q = let p : r .serial ≡ 0 → ⊥ = eqb-false (r .serial) 0 q in no-handle lap h (r .serial) (omega arith) k e
+    go false q = let p : r .serial ≡ 0 → ⊥ = eqb-false (r .serial) 0 q in no-handle hub h (r .serial) (omega arith) k e
 
 -- tests of rows that say the same where serials are small
 module _ (p q : JobRow → Bool) (n : ℕ) (f : (r : JobRow) → r .serial ≤ n → p r ≡ q r) where
@@ -121,21 +121,21 @@ module _ (t : Table) (h : Bytes) (small : nextSmall t ≡ true) (below : serials
   fits : (r : JobRow) → r .serial ≤ t .last → r .serial < 2 ^ 32
   fits r l = let k = ltb-true (t .last) 4294967296 small in omega arith
 
-  pub serial-values : (s : ℕ) → serialOf lap h ≡ Of s → jobOf t h ≡ serialRow s (rowsOf t)
+  pub serial-values : (s : ℕ) → serialOf (t .hub) h ≡ Of s → jobOf t h ≡ serialRow s (rowsOf t)
   unfolding serialRow
-  serial-values s e = find-same (hasHandle h) (λ r. live r && eqb (r .serial) s) (t .last) (λ r l. has-serial h s e r (fits r l)) (t .jobs) below
+  serial-values s e = find-same (hasHandle (t .hub) h) (λ r. live r && eqb (r .serial) s) (t .last) (λ r l. has-serial (t .hub) h s e r (fits r l)) (t .jobs) below
 
-  pub held-values : (c s : ℕ) → serialOf lap h ≡ Of s → heldJobOf t c h ≡ heldRow c s (rowsOf t)
+  pub held-values : (c s : ℕ) → serialOf (t .hub) h ≡ Of s → heldJobOf t c h ≡ heldRow c s (rowsOf t)
   unfolding heldRow
   held-values c s e =
-      find-same (holdsHandle c h) (λ r. heldBy c r && eqb (r .serial) s) (t .last) (λ r l. holds-serial h s e c r (fits r l)) (t .jobs) below
+      find-same (holdsHandle (t .hub) c h) (λ r. heldBy c r && eqb (r .serial) s) (t .last) (λ r l. holds-serial (t .hub) h s e c r (fits r l)) (t .jobs) below
 
-  module _ (e : serialOf lap h ≡ None) where
+  module _ (e : serialOf (t .hub) h ≡ None) where
     pub serial-none : jobOf t h ≡ none
-    serial-none = find-same (hasHandle h) (λ r. false) (t .last) (λ r l. no-serial h e r (fits r l)) (t .jobs) below ∙ find-nothing (rowsOf t)
+    serial-none = find-same (hasHandle (t .hub) h) (λ r. false) (t .last) (λ r l. no-serial (t .hub) h e r (fits r l)) (t .jobs) below ∙ find-nothing (rowsOf t)
 
     pub held-none : (c : ℕ) → heldJobOf t c h ≡ none
     unfolding holdsHandle
     held-none c =
-        find-same (holdsHandle c h) (λ r. false) (t .last) (λ r l. ap (λ (b : Bool). heldBy c r && b) (no-serial h e r (fits r l)) ∙ and-false (heldBy c r)) (t .jobs) below
+        find-same (holdsHandle (t .hub) c h) (λ r. false) (t .last) (λ r l. ap (λ (b : Bool). heldBy c r && b) (no-serial (t .hub) h e r (fits r l)) ∙ and-false (heldBy c r)) (t .jobs) below
         ∙ find-nothing (rowsOf t)

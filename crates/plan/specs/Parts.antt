@@ -90,11 +90,11 @@ finalTable v t =
 -- the packets of an order, to connection c of n, from the table before the event
 unfoldable pub ordered : O′.Order → ℕ → ℕ → ℕ → Bytes → Table → List Send
 ordered OV.Nothing n c kind h t = []
-ordered (OV.Created serial) n c kind h t = created c serial ∷ []
+ordered (OV.Created serial) n c kind h t = created (t .hub) c serial ∷ []
 ordered OV.NoJob n c kind h t = plain c 10 [] ∷ []
 ordered (OV.Assign uniq p) n c kind h t = assign uniq c p ∷ []
 ordered (OV.Copies to) n c kind h t = map (λ l. copy l kind) (members n to)
-ordered (OV.Told to heard serial) n c kind h t = map (λ l. cond (has heard l) (copy l kind) (failure serial l)) (members n to)
+ordered (OV.Told to heard serial) n c kind h t = map (λ l. cond (has heard l) (copy l kind) (failure (t .hub) serial l)) (members n to)
 ordered OV.Echo n c kind h t = copy c 17 ∷ []
 ordered (OV.Status p) n c kind h t = plain c 20 (statusOf (some p) h t) ∷ []
 ordered OV.Unknown n c kind h t = plain c 20 (statusOf none h t) ∷ []

@@ -144,9 +144,9 @@ module _ (w : Words) (c : ℕ) (t : Table) (ok : obeys t ≡ true) where
 
   -- those with the option hear, and the others are told of a failure
   to-some : (kind p : ℕ) → let r = getD (rowsOf t) p noRow in
-      map (λ l. cond (has (heard (t .connections) (r .listeners)) l) (copy l kind) (failure (r .serial) l)) (members (length (t .connections)) (r .listeners)) ≡ toListeners throws kind t (jobAt t p .row)
+      map (λ l. cond (has (heard (t .connections) (r .listeners)) l) (copy l kind) (failure (t .hub) (r .serial) l)) (members (length (t .connections)) (r .listeners)) ≡ toListeners throws kind t (jobAt t p .row)
   unfolding toListeners
-  to-some kind p = rw (row-at t p) (told-option (λ l. copy l kind) (failure (jobAt t p .row .serial)) (t .connections) (jobAt t p .row .listeners))
+  to-some kind p = rw (row-at t p) (told-option (λ l. copy l kind) (failure (t .hub) (jobAt t p .row .serial)) (t .connections) (jobAt t p .row .listeners))
 
   same-rows : (p : ℕ) (j : Job) → j .row ≡ jobAt t p .row → withRows (map (λ (k : Job). k .row) (set (t .jobs) p j)) (valuesOf t) ≡ withRows (rowsOf t) (valuesOf t)
   same-rows p j e = ap (λ (l : List JobRow). withRows l (valuesOf t)) (map-set-same (λ (k : Job). k .row) (t .jobs) p j noJob e)
@@ -159,19 +159,19 @@ module _ (w : Words) (c : ℕ) (t : Table) (ok : obeys t ≡ true) where
   unfolding planWork changed ordered valuesOf stepped toListeners
   p-work h (that-tells n d) p e =
       by-parts w c t (setJob t p (jobAt t p)) _ SV.Nothing CV.Nothing _ (same-rows p (jobAt t p) refl)
-      (record { ids = refl; functions = texts .functions; jobs = left-set SameJob p noJob _ (live-same (jobAt t p) (held-found t c h p e)) (texts .jobs) })
+      (record { ids = refl; hub = refl; functions = texts .functions; jobs = left-set SameJob p noJob _ (live-same (jobAt t p) (held-found t c h p e)) (texts .jobs) })
       (to-all (w .kind) p)
   p-work h that-reports p e =
       by-parts w c t (setJob t p (withTexts (w .second) (w .third) (jobAt t p))) _ SV.Nothing (CV.Texts p) _ (same-rows p (withTexts (w .second) (w .third) (jobAt t p)) refl)
-      (record { ids = refl; functions = texts .functions; jobs = both-set SameJob p _ _ (live-same (withTexts (w .second) (w .third) (jobAt t p)) (held-found t c h p e)) (texts .jobs) })
+      (record { ids = refl; hub = refl; functions = texts .functions; jobs = both-set SameJob p _ _ (live-same (withTexts (w .second) (w .third) (jobAt t p)) (held-found t c h p e)) (texts .jobs) })
       (to-all (w .kind) p)
   p-work h (that-ends n d) p e =
       by-parts w c t (setJob t p noJob) _ (SV.End p) CV.Nothing _ (other-rows (valuesOf t) p noJob noRow refl)
-      (record { ids = refl; functions = texts .functions; jobs = left-set SameJob p noJob _ (gone-same (jobAt t p)) (texts .jobs) })
+      (record { ids = refl; hub = refl; functions = texts .functions; jobs = left-set SameJob p noJob _ (gone-same (jobAt t p)) (texts .jobs) })
       (to-all (w .kind) p)
   p-work h (that-throws n d) p e =
       by-parts w c t (setJob t p noJob) _ (SV.End p) CV.Nothing _ (other-rows (valuesOf t) p noJob noRow refl)
-      (record { ids = refl; functions = texts .functions; jobs = left-set SameJob p noJob _ (gone-same (jobAt t p)) (texts .jobs) })
+      (record { ids = refl; hub = refl; functions = texts .functions; jobs = left-set SameJob p noJob _ (gone-same (jobAt t p)) (texts .jobs) })
       (to-some (w .kind) p)
 
   p-status : (o : Option ℕ) → Planned w c t (planStatus o) (settle (plain c 20 (statusOf o (w .job) t) ∷ []) t)
@@ -184,31 +184,31 @@ module _ (w : Words) (c : ℕ) (t : Table) (ok : obeys t ≡ true) where
   change-planned (able f q e) for-can =
       by-parts w c t (setFunction t q (ableTo c f (functionAt t q))) [] _ (CV.Name q) OV.Nothing
       (able-values q (ableTo c f (functionAt t q)) (insert (getD (ablesOf t) q 0) c) (ap (λ (s : ℕ). insert s c) (sym (able-at t q))))
-      (record { ids = refl; functions = both-set SameName q _ _ refl (texts .functions); jobs = texts .jobs })
+      (record { ids = refl; hub = refl; functions = both-set SameName q _ _ refl (texts .functions); jobs = texts .jobs })
       refl
   change-planned (unknown f e) (for-cannot g) = by-parts w c t t [] SV.Nothing CV.Nothing OV.Nothing refl texts refl
   change-planned (disabled f q e) (for-cannot g) =
       by-parts w c t (setFunction t q (unable c (functionAt t q))) [] _ CV.Nothing OV.Nothing
       (able-values q (unable c (functionAt t q)) (remove (getD (ablesOf t) q 0) c) (ap (λ (s : ℕ). remove s c) (sym (able-at t q))))
-      (record { ids = refl; functions = left-set SameName q noFunction _ refl (texts .functions); jobs = texts .jobs })
+      (record { ids = refl; hub = refl; functions = left-set SameName q noFunction _ refl (texts .functions); jobs = texts .jobs })
       refl
-  change-planned (identified i) for-id = by-parts w c t (setId t c (w .first)) [] SV.Nothing (CV.Id c) OV.Nothing refl (record { ids = refl; functions = texts .functions; jobs = texts .jobs }) refl
+  change-planned (identified i) for-id = by-parts w c t (setId t c (w .first)) [] SV.Nothing (CV.Id c) OV.Nothing refl (record { ids = refl; hub = refl; functions = texts .functions; jobs = texts .jobs }) refl
   change-planned cleared for-reset =
       by-parts w c t (unableToAll c t) [] (SV.Reset c) CV.Nothing OV.Nothing (ap (λ (l : List ℕ). withAbles l (valuesOf t)) unables)
-      (record { ids = refl; functions = left-map SameName (unable c) (λ a b e. e) (texts .functions); jobs = texts .jobs })
+      (record { ids = refl; hub = refl; functions = left-map SameName (unable c) (λ a b e. e) (texts .functions); jobs = texts .jobs })
       refl
-  change-planned slept for-sleep = by-parts w c t (sleeping true c t) [] _ CV.Nothing OV.Nothing refl (record { ids = refl; functions = texts .functions; jobs = texts .jobs }) refl
-  change-planned (noJobFor uniq e) (for-grab v) = by-parts w c t (sleeping false c t) _ _ CV.Nothing OV.NoJob refl (record { ids = refl; functions = texts .functions; jobs = texts .jobs }) refl
+  change-planned slept for-sleep = by-parts w c t (sleeping true c t) [] _ CV.Nothing OV.Nothing refl (record { ids = refl; hub = refl; functions = texts .functions; jobs = texts .jobs }) refl
+  change-planned (noJobFor uniq e) (for-grab v) = by-parts w c t (sleeping false c t) _ _ CV.Nothing OV.NoJob refl (record { ids = refl; hub = refl; functions = texts .functions; jobs = texts .jobs }) refl
   change-planned (grabbed uniq p e) (for-grab v) =
       by-parts w c t (setJob (sleeping false c t) p (withRow (withHolder (suc c) (jobAt t p .row)) (jobAt t p))) _ _ CV.Nothing (OV.Assign uniq p)
       (other-rows (valuesOf (sleeping false c t)) p (withRow (withHolder (suc c) (jobAt t p .row)) (jobAt t p)) _ (ap (withHolder (suc c)) (sym (row-at t p))))
-      (record { ids = refl; functions = texts .functions; jobs = left-set SameJob p noJob _ (rowed-same (jobAt t p) _ (grabbed-live t c p e)) (texts .jobs) })
+      (record { ids = refl; hub = refl; functions = texts .functions; jobs = left-set SameJob p noJob _ (rowed-same (jobAt t p) _ (grabbed-live t c p e)) (texts .jobs) })
       refl
   change-planned (joins priority background f u size p e) (for-submit priority′ background′ size′) =
       by-parts w c t (setJob t p (withRow (submittedBy c background (jobAt t p .row)) (jobAt t p))) _ _ CV.Nothing (OV.Created _)
       (other-rows (valuesOf t) p (withRow (submittedBy c background (jobAt t p .row)) (jobAt t p)) _ (ap (submittedBy c background) (sym (row-at t p))))
-      (record { ids = refl; functions = texts .functions; jobs = left-set SameJob p noJob _ (rowed-same (jobAt t p) _ (submitted-live c background (jobAt t p .row) ∙ joined-found t f u p e)) (texts .jobs) })
-      (ap (λ (r : JobRow). created c (r .serial) ∷ []) (row-at t p))
+      (record { ids = refl; hub = refl; functions = texts .functions; jobs = left-set SameJob p noJob _ (rowed-same (jobAt t p) _ (submitted-live c background (jobAt t p .row) ∙ joined-found t f u p e)) (texts .jobs) })
+      (ap (λ (r : JobRow). created (t .hub) c (r .serial) ∷ []) (row-at t p))
   change-planned (accepts priority background f u size q p e₁ e₂ e₃ m) (for-submit priority′ background′ size′) =
       by-parts w c t (accepted q f p (newJob c priority background q u size (suc (t .last))) t) _ _ (CV.Job p q) (OV.Created (suc (t .last)))
       (λ i. withLast (sym (newRow-serial c priority background q size (suc (t .last))) i)
@@ -216,6 +216,7 @@ module _ (w : Words) (c : ℕ) (t : Table) (ok : obeys t ≡ true) where
       (withRows (map-set (λ (j : Job). j .row) (t .jobs) p (newJob c priority background q u size (suc (t .last))) i) (valuesOf t))))
       (record {
         ids = refl;
+        hub = refl;
         functions = both-set SameName q _ _ refl (texts .functions);
         jobs = both-set SameJob p _ _ (record { unfinished = λ e. refl; free = λ e. clash (submitted-live c background _ ∙ ap not (eqb·suc-zero (t .last))) e }) (texts .jobs);
       })
@@ -223,7 +224,7 @@ module _ (w : Words) (c : ℕ) (t : Table) (ok : obeys t ≡ true) where
   change-planned (worker how kind h n d p e) (for-work h′ s) = p-work h s p e
   change-planned (status h o e) for-status = p-status o
   change-planned (optioned name e) (for-option name′) =
-      by-parts w c t (setConnection t c (catching (connectionAt t c))) _ _ CV.Nothing OV.Optioned refl (record { ids = refl; functions = texts .functions; jobs = texts .jobs })
+      by-parts w c t (setConnection t c (catching (connectionAt t c))) _ _ CV.Nothing OV.Optioned refl (record { ids = refl; hub = refl; functions = texts .functions; jobs = texts .jobs })
       (ap (λ (b : Bytes). plain c 27 (b ∷ []) ∷ []) (sym (same-is name exceptionsName e)))
   change-planned echoed for-echo = by-parts w c t t _ SV.Nothing CV.Nothing OV.Echo refl texts refl
 
@@ -250,7 +251,7 @@ module _ (w : Words) (c : ℕ) (t : Table) (ok : obeys t ≡ true) where
 
   pub opening-planned : Planned w c t (planOpening c) (settle [] (opening c t))
   unfolding opening changed ordered valuesOf stepped
-  opening-planned = by-parts w c t (opening c t) _ _ CV.Nothing OV.Nothing refl (record { ids = refl; functions = texts .functions; jobs = texts .jobs }) refl
+  opening-planned = by-parts w c t (opening c t) _ _ CV.Nothing OV.Nothing refl (record { ids = refl; hub = refl; functions = texts .functions; jobs = texts .jobs }) refl
 
   left-row : (j : Job) → leftBy c j .row ≡ leftRow c (j .row)
   left-row j = go (heldBy c (j .row))
@@ -266,5 +267,5 @@ module _ (w : Words) (c : ℕ) (t : Table) (ok : obeys t ≡ true) where
       by-parts w c t (closing c t) _ (SV.Leave c) (CV.Left c) OV.Nothing
       (λ i. withConnection c closed (withAbles (unables i)
       (withRows ((map-map (λ (j : Job). j .row) (leftBy c) (λ j. leftRow c (j .row)) left-row (t .jobs) ∙ sym (map-map (leftRow c) (λ (j : Job). j .row) (λ j. leftRow c (j .row)) (λ j. refl) (t .jobs))) i) (valuesOf t))))
-      (record { ids = refl; functions = left-map SameName (unable c) (λ a b e. e) (texts .functions); jobs = left-jobs c (texts .jobs) })
+      (record { ids = refl; hub = refl; functions = left-map SameName (unable c) (λ a b e. e) (texts .functions); jobs = left-jobs c (texts .jobs) })
       refl

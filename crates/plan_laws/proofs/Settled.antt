@@ -8,7 +8,7 @@ use native.Mathlib.Nat.{zero-add, add-zero, add-suc, suc-add}
 use lib.ListN.{getD}
 use Rattle.server.specs.declared.JobRow.{JobRow}
 use Rattle.lists.specs.Lists.{mapFrom}
-use Rattle.server.specs.Table.{Function, Job, Table, noRow, noJob, noFunction, withRow, live, wanted, withConnections, withIds, withFunctions, withJobs, rowsOf, ablesOf}
+use Rattle.server.specs.Table.{Function, Job, Table, noRow, noJob, noFunction, withRow, live, wanted, withConnections, withIds, withHub, withFunctions, withJobs, rowsOf, ablesOf}
 use Rattle.server.specs.Events.{Send, lost, unlessLost, dropped, woken, forgot, noop, settle, wokenIn, toWakeIn}
 use Rattle.lists.proofs.Cases.{All2}
 use Rattle.plan.specs.declared.Values as V′
@@ -26,6 +26,7 @@ pub record SameJob (j k : Job) : Type 0 where
 
 pub record SameTexts (u s : Table) : Type 0 where
   pub ids : u .ids ≡ s .ids
+  pub hub : u .hub ≡ s .hub
   pub functions : All2 (λ (x y : Function). x .name ≡ y .name) (u .functions) (s .functions)
   pub jobs : All2 SameJob (u .jobs) (s .jobs)
 
@@ -64,9 +65,9 @@ module _ (u s : Table) (same : SameTexts u s) where
   unfolding forgot dropped finalTable settledValues valuesOf
   settled-table = λ i.
       let rs : List JobRow = dropped-rows (u .jobs) i in
-      withIds (same .ids i) (withJobs (rowed-jobs (same .jobs) i) (withConnections (wokenIn (ablesOf u) rs (u .connections))
+      withHub (same .hub i) (withIds (same .ids i) (withJobs (rowed-jobs (same .jobs) i) (withConnections (wokenIn (ablesOf u) rs (u .connections))
       (withFunctions ((ap (λ (l : List JobRow). mapFrom (λ q x. cond (wanted l q (x .able)) x noFunction) 0 (u .functions)) (dropped-rows (u .jobs))
-      ∙ able-wanted (droppedRows (rowsOf u)) (ablesOf u) 0 (λ k. ap (λ (m : ℕ). getD (ablesOf u) m 0) (zero-add k)) (same .functions)) i) u)))
+      ∙ able-wanted (droppedRows (rowsOf u)) (ablesOf u) 0 (λ k. ap (λ (m : ℕ). getD (ablesOf u) m 0) (zero-add k)) (same .functions)) i) u))))
 
   pub settled-plan : (ss : List Send)
       → settle ss u ≡ record { number = 0; packets = ss ++ map noop (toWakeIn (ablesOf u) (droppedRows (rowsOf u)) (u .connections)); table = finalTable (valuesOf u) s }

@@ -118,7 +118,7 @@ module _ (w : Words) (c : ℕ) (t : Table) (ok : obeys t ≡ true) where
   unfolding stepped sparse changed ending valuesOf
   id-leans order l =
       let u = setId t c (w .first) in
-      lean-by SV.Nothing t u u refl refl (record { ids = refl; functions = texts .functions; jobs = texts .jobs }) (nothing-settles t o (u .ids)) refl zero-le
+      lean-by SV.Nothing t u u refl refl (record { ids = refl; hub = refl; functions = texts .functions; jobs = texts .jobs }) (nothing-settles t o (u .ids)) refl zero-le
 
   -- ---- sleep, grabs
 
@@ -128,7 +128,7 @@ module _ (w : Words) (c : ℕ) (t : Table) (ok : obeys t ≡ true) where
   flags-leans x order l =
       let b : Bool = x .asleep && any (grabbable (ablesOf t) c) (rowsOf t) in
       let only : (k : ℕ) → has (cond b (insert 0 c) 0) k ≡ b && eqb c k = λ k. has-if b (insert 0 c) k ∙ ap (λ (y : Bool). b && y) (has-only c k) in
-      lean-by (SV.Flags c x) t t (setConnection t c x) refl (length-set (t .connections) c x) (record { ids = refl; functions = texts .functions; jobs = texts .jobs })
+      lean-by (SV.Flags c x) t t (setConnection t c x) refl (length-set (t .connections) c x) (record { ids = refl; hub = refl; functions = texts .functions; jobs = texts .jobs })
       (connection-settles t o c x (cond b (insert 0 c) 0)
       (sym (only c ∙ ap (λ (y : Bool). b && y) (eq-eqb c c refl) ∙ and-true b))
       (λ k d. only k ∙ ap (λ (y : Bool). b && y) (ne-eqb c k (λ (e : c ≡ k). d (sym e))) ∙ and-false b))
@@ -149,7 +149,7 @@ module _ (w : Words) (c : ℕ) (t : Table) (ok : obeys t ≡ true) where
       (lean-by (SV.Grab p r c x) t t (setJob u p k)
       (ap (λ (l : List JobRow). withRows l (valuesOf u)) (map-set (λ (j : Job). j .row) (t .jobs) p k))
       (length-set (t .connections) c x)
-      (record { ids = refl; functions = texts .functions; jobs = left-set SameJob p noJob k (rowed-same (jobAt t p) r (grabbed-live t c p e)) (texts .jobs) })
+      (record { ids = refl; hub = refl; functions = texts .functions; jobs = left-set SameJob p noJob k (rowed-same (jobAt t p) r (grabbed-live t c p e)) (texts .jobs) })
       (job-settles t o (set (t .connections) c x) p k Nowhere (length-set (t .connections) c x)
       (λ i. row-set (λ (y : Connection). y .asleep ≡ true → connectionAt t i .asleep ≡ true) (t .connections) c x i closed (λ s. clash s refl) (λ s. s))
       (best-found t c p e .0)
@@ -175,7 +175,7 @@ module _ (w : Words) (c : ℕ) (t : Table) (ok : obeys t ≡ true) where
       lean-by (SV.Able q s) t s′ u
       (λ i. withAbles (map-set (λ (z : Function). z .able) (t .functions) q x i) (valuesOf t))
       refl
-      (subst (λ (z : Table). SameTexts u z) (sym is) (record { ids = refl; functions = both-set SameName q x n refl (texts .functions); jobs = texts .jobs }))
+      (subst (λ (z : Table). SameTexts u z) (sym is) (record { ids = refl; hub = refl; functions = both-set SameName q x n refl (texts .functions); jobs = texts .jobs }))
       (record {
         awaited = o .awaited;
         rouses = one-rouses t o u q inside others (λ i l d. (l, refl)) (cond waiting (toWakeSet s (t .connections)) 0) waiting refl
@@ -200,7 +200,7 @@ module _ (w : Words) (c : ℕ) (t : Table) (ok : obeys t ≡ true) where
       (lean-by (SV.Row p r) t t (setJob t p k)
       (ap (λ (l : List JobRow). withRows l (valuesOf t)) (map-set (λ (j : Job). j .row) (t .jobs) p k))
       refl
-      (record { ids = refl; functions = texts .functions; jobs = left-set SameJob p noJob k (rowed-same (jobAt t p) r (submitted-live c background (jobAt t p .row) ∙ joined-found t f u p e)) (texts .jobs) })
+      (record { ids = refl; hub = refl; functions = texts .functions; jobs = left-set SameJob p noJob k (rowed-same (jobAt t p) r (submitted-live c background (jobAt t p .row) ∙ joined-found t f u p e)) (texts .jobs) })
       (job-settles t o (t .connections) p k Nowhere refl (λ x s. s) i (λ ables x g. sym (submitted-grabbable c background (jobAt t p .row) ables x) ∙ g) (submitted-awaited c background (jobAt t p .row))
       (λ q. all-kept t o (set (rowsOf t) p r) q (names-same p q r (submitted-names c background (jobAt t p .row) q))))
       refl zero-le)
@@ -286,6 +286,7 @@ module _ (w : Words) (c : ℕ) (t : Table) (ok : obeys t ≡ true) where
           refl
           (record {
             ids = refl;
+            hub = refl;
             functions = both-set SameName q _ _ refl (texts .functions);
             jobs = both-set SameJob p _ _ (record { unfinished = λ _. refl; free = λ z. clash job-live z }) (texts .jobs);
           })
@@ -303,7 +304,7 @@ module _ (w : Words) (c : ℕ) (t : Table) (ok : obeys t ≡ true) where
   -- ---- worker packets
 
   work-inside : (h : Bytes) (p : ℕ) → heldJobOf t c h ≡ some p → p < length (t .jobs)
-  work-inside h p e = found (λ j. holdsHandle c h (j .row)) noJob (t .jobs) (some p) e .inside
+  work-inside h p e = found (λ j. holdsHandle (t .hub) c h (j .row)) noJob (t .jobs) (some p) e .inside
 
   report-leans : (h : Bytes) (p : ℕ) (order : O′.Order) → heldJobOf t c h ≡ some p → Leans (done SV.Nothing (CV.Texts p) order)
   unfolding stepped sparse changed ending valuesOf
@@ -312,7 +313,7 @@ module _ (w : Words) (c : ℕ) (t : Table) (ok : obeys t ≡ true) where
       lean-by SV.Nothing t (setJob t p k) (setJob t p k)
       (ap (λ (l : List JobRow). withRows l (valuesOf t)) (map-set-same (λ (j : Job). j .row) (t .jobs) p k noJob refl))
       refl
-      (record { ids = refl; functions = texts .functions; jobs = both-set SameJob p k k (live-same k (held-found t c h p e)) (texts .jobs) })
+      (record { ids = refl; hub = refl; functions = texts .functions; jobs = both-set SameJob p k k (live-same k (held-found t c h p e)) (texts .jobs) })
       (job-settles t o (t .connections) p k Nowhere refl (λ x s. s) (work-inside h p e) (λ ables x g. g)
       (all-row (λ j. implies (queued (j .row)) (j .row .background || not (isEmpty (j .row .listeners)))) (t .jobs) p noJob (o .awaited) refl)
       (λ q. all-kept t o (set (rowsOf t) p (k .row)) q (names-same p q (k .row) refl)))
@@ -332,7 +333,7 @@ module _ (w : Words) (c : ℕ) (t : Table) (ok : obeys t ≡ true) where
       lean-by (SV.End p) t t (setJob t p noJob)
       (ap (λ (l : List JobRow). withRows l (valuesOf t)) (map-set (λ (j : Job). j .row) (t .jobs) p noJob))
       refl
-      (record { ids = refl; functions = texts .functions; jobs = left-set SameJob p noJob noJob (gone-same (jobAt t p)) (texts .jobs) })
+      (record { ids = refl; hub = refl; functions = texts .functions; jobs = left-set SameJob p noJob noJob (gone-same (jobAt t p)) (texts .jobs) })
       (job-settles t o (t .connections) p noJob (cond b Nowhere (At q)) refl (λ x s. s) (work-inside h p e) (λ ables x g. clash g refl) refl
       (λ k. ap (λ (rs : List JobRow). cond (wanted rs k (functionAt t k .able)) (functionAt t k) noFunction) (sym rows)
       ∙ one-kept t o (setJob t p noJob) q here (λ k d. refl)

@@ -67,7 +67,7 @@ own-jobs t (j ∷ js) e = All2.more (means-same t j (and-left (rowMeans t j) _ e
 
 -- a table that obeys the rules has its own texts
 pub own-texts : (t : Table) → obeys t ≡ true → SameTexts t t
-own-texts t ok = record { ids = refl; functions = each-self SameName (λ x. refl) (t .functions); jobs = own-jobs t (t .jobs) (obeyed t ok .sound .rows) }
+own-texts t ok = record { ids = refl; hub = refl; functions = each-self SameName (λ x. refl) (t .functions); jobs = own-jobs t (t .jobs) (obeyed t ok .sound .rows) }
 
 -- ---- a job that a connection leaves
 

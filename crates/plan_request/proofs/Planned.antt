@@ -13,7 +13,8 @@ use types.Run.{OneOf}
 use borrow.Author.Tests.{leb-true}
 use Rattle.octets.specs.Bytes.{Bytes, same, within, zeroFree}
 use Rattle.octets.proofs.Strings.{and-left, and-right}
-use Rattle.handle.specs.Handle.{lap, serialOf}
+use Rattle.handle.specs.Handle.{serialOf}
+use Rattle.handle.specs.declared.Serial.{Serial}
 use Rattle.handle.specs.declared.Serial.the-variants.{Of, None}
 use Rattle.packet.specs.declared.Ends.{Ends}
 use Rattle.packet.specs.declared.Read.the-variants as RV
@@ -27,7 +28,7 @@ use Rattle.packet.specs.Answers.{answerOf, argumentAt}
 use Rattle.lists.specs.Lists.{find, numbers}
 use Rattle.server.specs.Sizes.{connectionCount, functionCount}
 use Rattle.server.specs.Table.{Table, known, roomFor, joined, ablesOf, rowsOf, freeRow, bestRow, jobOf}
-use Rattle.server.specs.Requests.{sends, Work, Request, work, requested, requestIn}
+use Rattle.server.specs.Requests.{Work, Request, work, requested, requestIn}
 use Rattle.server.specs.Requests as A
 use Rattle.server.specs.Events.{exceptionsName, heldJobOf}
 use Rattle.server.specs.Layout.{tableOf}
@@ -81,19 +82,26 @@ room-inside b f p e q h = omega (arith, sixteen b, F.room (tableOf connectionCou
 
 -- ---- jobs by handle: the handle's serial is looked for among the rows
 
-module _ (b h : Bytes) (sound : isSound connectionCount b ≡ true) where
-  pub job-found : (s : ℕ) (p : Place) → serialOf lap h ≡ Of s → p ≡ placed (serialRow s (rowsOf (tableOf connectionCount b))) → p ≡ placed (jobOf (tableOf connectionCount b) h)
-  job-found s p e g = g ∙ ap placed (sym (serial-values (tableOf connectionCount b) h (sound-table b sound .small) (sound-table b sound .below) s e))
+-- the hub's name as the code takes it from the bytes
+module _ (b hub h : Bytes) (is : hub ≡ tableOf connectionCount b .hub) (sound : isSound connectionCount b ≡ true) where
+  abbrev table : Table
+  table = tableOf connectionCount b
 
-  pub job-none : serialOf lap h ≡ None → Nowhere ≡ placed (jobOf (tableOf connectionCount b) h)
-  job-none e = ap placed (sym (serial-none (tableOf connectionCount b) h (sound-table b sound .small) (sound-table b sound .below) e))
+  own : (r : Serial) → serialOf hub h ≡ r → serialOf (table .hub) h ≡ r
+  own r e = ap (λ (name : Bytes). serialOf name h) (sym is) ∙ e
+
+  pub job-found : (s : ℕ) (p : Place) → serialOf hub h ≡ Of s → p ≡ placed (serialRow s (rowsOf table)) → p ≡ placed (jobOf table h)
+  job-found s p e g = g ∙ ap placed (sym (serial-values table h (sound-table b sound .small) (sound-table b sound .below) s (own (Of s) e)))
+
+  pub job-none : serialOf hub h ≡ None → Nowhere ≡ placed (jobOf table h)
+  job-none e = ap placed (sym (serial-none table h (sound-table b sound .small) (sound-table b sound .below) (own None e)))
 
   module _ (c : ℕ) where
-    pub held-found : (s : ℕ) (p : Place) → serialOf lap h ≡ Of s → p ≡ placed (heldRow c s (rowsOf (tableOf connectionCount b))) → p ≡ placed (heldJobOf (tableOf connectionCount b) c h)
-    held-found s p e g = g ∙ ap placed (sym (held-values (tableOf connectionCount b) h (sound-table b sound .small) (sound-table b sound .below) c s e))
+    pub held-found : (s : ℕ) (p : Place) → serialOf hub h ≡ Of s → p ≡ placed (heldRow c s (rowsOf table)) → p ≡ placed (heldJobOf table c h)
+    held-found s p e g = g ∙ ap placed (sym (held-values table h (sound-table b sound .small) (sound-table b sound .below) c s (own (Of s) e)))
 
-    pub held-nothing : serialOf lap h ≡ None → Nowhere ≡ placed (heldJobOf (tableOf connectionCount b) c h)
-    held-nothing e = ap placed (sym (held-none (tableOf connectionCount b) h (sound-table b sound .small) (sound-table b sound .below) e c))
+    pub held-nothing : serialOf hub h ≡ None → Nowhere ≡ placed (heldJobOf table c h)
+    held-nothing e = ap placed (sym (held-none table h (sound-table b sound .small) (sound-table b sound .below) (own None e) c))
 
 -- ---- names and sizes in a packet that was read
 

@@ -26,23 +26,23 @@ ghost use Rattle.plan.specs.Values.{valuesOf};
 ghost use Rattle.plan.specs.Plans.{planGrab, planServed};
 ghost use Rattle.plan_request.specs.Submissions.{Submits};
 
-// The place of the job that connection c holds under this handle: nowhere, where the text is no handle.
+// The place of the job that connection c holds under this handle: nowhere, where the text is no handle of this hub.
 fn held(table: &[u8], c: usize, handle: &[u8]) -> Place
     requires { ⌜ (isSound connectionCount (now table) ≡ true) × (tableSize connectionCount ≤ length (now table)) × (c < connectionCount) ⌝ }
     ensures { λ r. ⌜ r ≡ placed (heldJobOf (tableOf connectionCount (now (table .entry))) c (now (handle .entry))) ⌝ }
 {
-    match handle::serial_of(handle) {
+    match handle::serial_of(table_texts::hub_of(table), handle) {
         Serial::Of(serial) => plan_find_rows::held_row(table, c, serial),
         Serial::None => Place::Nowhere,
     }
 }
 
-// The place of the unfinished job with this handle, whoever holds it: nowhere, where the text is no handle.
+// The place of the unfinished job with this handle, whoever holds it: nowhere, where the text is no handle of this hub.
 fn found(table: &[u8], handle: &[u8]) -> Place
     requires { ⌜ (isSound connectionCount (now table) ≡ true) × (tableSize connectionCount ≤ length (now table)) ⌝ }
     ensures { λ r. ⌜ r ≡ placed (jobOf (tableOf connectionCount (now (table .entry))) (now (handle .entry))) ⌝ }
 {
-    match handle::serial_of(handle) {
+    match handle::serial_of(table_texts::hub_of(table), handle) {
         Serial::Of(serial) => plan_find_rows::serial_row(table, serial),
         Serial::None => Place::Nowhere,
     }

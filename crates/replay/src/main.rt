@@ -1,8 +1,9 @@
 // The replay: reads standard input line by line, each line one frame in lowercase hexadecimal, calls the job server, and writes the
 // addressed packets of each answer one a line and then its number. What a line says is made by the crate `replay_line`, and written before
-// the next line is read. Where reading or writing fails the program says so on standard error and ends. Started with an argument it says
-// how it is used, and reads nothing.
+// the next line is read. Where reading or writing fails the program says so on standard error and ends. One argument is the hub's name,
+// which is `lap` without it. Started with more, or with one that is no hub's name, the program says how it is used, and reads nothing.
 use capture::LINE_ROOM;
+use handle::HUB_MOST;
 use input::Input;
 use replay_line::TEXT_SIZE;
 use server::OUTPUT_SIZE;
@@ -57,10 +58,23 @@ fn replay_all(
     complain(written, now.failed);
 }
 
-// A fresh table and fresh workloads are zeros. The buffer holds one byte more than the longest frame has digits.
-fn run() {
+// Says on standard error how the program is used.
+fn explain() {
+    io::write_all(2, b"usage: replay [HUB] < CAPTURE\n");
+    io::write_all(
+        2,
+        b"replay reads lines of a capture from standard input and prints what the server answers, in digits. HUB is the name of the hub, 1 to 15 lowercase letters and digits; without it the name is lap.\n",
+    );
+}
+
+// From a fresh table of the hub of this name, where it is one. The buffer holds one byte more than the longest frame has digits.
+fn run(name: &[u8]) {
     let mut table = [0u8; TABLE_SIZE];
     let mut workloads = [0u8; WORKLOADS_SIZE];
+    if call_fresh::fresh(&mut table, &mut workloads, name) != 0 {
+        explain();
+        return;
+    }
     let mut output = [0u8; OUTPUT_SIZE];
     let mut text = [0u8; TEXT_SIZE];
     let mut chunk = io::buffer();
@@ -75,20 +89,18 @@ fn run() {
     );
 }
 
-// Says on standard error how the program is used.
-fn explain() {
-    io::write_all(2, b"usage: replay < CAPTURE\n");
-    io::write_all(
-        2,
-        b"replay takes no argument. It reads lines of a capture from standard input and prints what the server answers, in digits.\n",
-    );
-}
-
-// The first argument is the program's own name.
+// The first argument is the program's own name. One that does not fit into the buffer is read as empty, and no hub has that name.
 fn main() {
-    if 1 < os::arg_count() {
+    let count = os::arg_count();
+    if 2 < count {
         explain();
         return;
     }
-    run();
+    if count < 2 {
+        run(b"lap");
+        return;
+    }
+    let mut buffer = [0u8; HUB_MOST];
+    let length = os::arg(1, &mut buffer);
+    run(lines::front(&buffer, length));
 }

@@ -1,11 +1,14 @@
--- A whole text replayed, from a fresh table, is the replay of document 01 (`server/Replay: replayOf`). Assumes nothing.
+-- A whole text replayed, from a fresh table of any hub, is what the server of that hub writes; at `lap` it is the replay of document 01
+-- (`server/Replay: replayOf`). Assumes nothing.
 use Prim.Native.Nat.{ℕ, suc, _<_, _≤_}
 use mathlib.Core.Path.{_≡_, refl, ap, ap₂, _∙_}
+use mathlib.Core.Bool.{true}
 use mathlib.Core.Option.{Option, none, some}
 use mathlib.Core.List.{List, [], _∷_, _++_}
 use native.Mathlib.Omega.{arith}
-use lib.ListN.{length, replicate, length-append}
-use Rattle.octets.specs.Bytes.{Bytes}
+use lib.ListN.{length, length-append}
+use Rattle.octets.specs.Bytes.{Bytes, every}
+use Rattle.handle.specs.Handle.{isHubName, lap}
 use Rattle.lines.specs.Text.{linesOf, runOf}
 use Rattle.server.specs.Sizes.{connectionCount, workloadsSize, outputSize}
 use Rattle.server.specs.Requests.{Event}
@@ -22,7 +25,7 @@ use Rattle.replay_line.specs.Replayed.{lineOf, inDigits, textSize, repla
 use Rattle.replay_line.proofs.Digits.{line-length, line-short, lines-answer}
 
 digits-fit : Fits textSize inDigits
-digits-fit f ps n u t a h =
+digits-fit f ps n u t g a h =
     omega (arith, ap length (lines-answer ps n), length-append (packetLines lineOf ps) (lineOf (n ∷ [])), lines-short lineOf 3 line-short ps a, line-length (n ∷ []))
 
 -- ---- what is said in digits is the replay of document 01
@@ -38,14 +41,25 @@ spoken-written k [] s = refl
 spoken-written k (line ∷ lines) s =
     ap₂ {C = Bytes} (λ (a b : Bytes). a ++ b) (line-written (frame line) s) (spoken-written (suc k) lines (serverAfter (frame line) s))
 
-pub replay-lines : (t w : Bytes) → tableSize connectionCount ≤ length t → workloadsSize ≤ length w → (lines : List Bytes) (o x : Bytes) → outputSize connectionCount ≤ length o → textSize ≤ length x
-    → replayedText lines (make connectionCount t w .table) (make connectionCount t w .workloads) o x ≡ replayFrom (start connectionCount) lines
-replay-lines t w lt lw lines o x lo lx = text-said textSize (λ k. inDigits) (λ k. digits-fit) t w lt lw 1 lines o x lo lx ∙ spoken-written 1 lines (start connectionCount)
+-- from a fresh table of the hub of this name, in any bytes that are long enough
+module _ (hub : Bytes) (good : isHubName hub ≡ true) (t w : Bytes) (lt : tableSize connectionCount ≤ length t) (lw : workloadsSize ≤ length w) where
+  pub replay-lines : (lines : List Bytes) (o x : Bytes) → outputSize connectionCount ≤ length o → textSize ≤ length x
+      → replayedText lines (make connectionCount hub t w .table) (make connectionCount hub t w .workloads) o x ≡ replayFrom (start connectionCount hub) lines
+  replay-lines lines o x lo lx = text-said textSize (λ k. inDigits) (λ k. digits-fit) t w lt lw hub good 1 lines o x lo lx ∙ spoken-written 1 lines (start connectionCount hub)
 
--- from text to text, on zeros, as the program lends them, with a buffer for a line that holds one digit more than a frame has
-pub replay-text : (t w : Bytes) → t ≡ replicate (tableSize connectionCount) 0 → w ≡ replicate workloadsSize 0
+  -- from text to text, with a buffer for a line that holds one digit more than a frame has
+  pub replay-whole : (buffer text o x : Bytes) → longestLine < length buffer → outputSize connectionCount ≤ length o → textSize ≤ length x
+      → replayedText (textsSeen (runOf buffer text)) (make connectionCount hub t w .table) (make connectionCount hub t w .workloads) o x ≡ replayFrom (start connectionCount hub) (linesOf text)
+  replay-whole buffer text o x lb lo lx =
+      whole-said hub good t w lt lw textSize (λ k. inDigits) (λ k. digits-fit) buffer text o x lb lo lx ∙ spoken-written 1 (linesOf text) (start connectionCount hub)
+
+lap-named : isHubName lap ≡ true
+unfolding isHubName every
+lap-named = refl
+
+-- so at `lap` it is the replay of document 01. 02: "The replay program and document 01's cases keep `lap`"
+pub replay-text : (t w : Bytes) → tableSize connectionCount ≤ length t → workloadsSize ≤ length w
     → (buffer text o x : Bytes) → longestLine < length buffer → outputSize connectionCount ≤ length o → textSize ≤ length x
-    → replayedText (textsSeen (runOf buffer text)) t w o x ≡ replayOf text
+    → replayedText (textsSeen (runOf buffer text)) (make connectionCount lap t w .table) (make connectionCount lap t w .workloads) o x ≡ replayOf text
 unfolding replayOf
-replay-text t w et ew buffer text o x lb lo lx =
-    whole-said t w et ew textSize (λ k. inDigits) (λ k. digits-fit) buffer text o x lb lo lx ∙ spoken-written 1 (linesOf text) (start connectionCount)
+replay-text t w lt lw buffer text o x lb lo lx = replay-whole lap lap-named t w lt lw buffer text o x lb lo lx

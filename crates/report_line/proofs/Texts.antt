@@ -1,14 +1,16 @@
--- A whole text reported, from a fresh table: what is printed is what the command would be answered after the capture. Assumes nothing.
+-- A whole text reported, from a fresh table of any hub: what is printed is what the command would be answered after the capture.
+-- Assumes nothing.
 use Prim.Native.Nat.{ℕ, _<_, _≤_}
-use mathlib.Core.Path.{_≡_, refl, sym, ap, ap₂, _∙_}
-use mathlib.Core.Bool.{false}
+use mathlib.Core.Path.{_≡_, refl, ap, ap₂, _∙_}
+use mathlib.Core.Bool.{true, false}
 use mathlib.Core.Option.{Option, none, some}
 use mathlib.Core.List.{List, [], _∷_, _++_, map}
 use native.Mathlib.Omega.{arith}
 use borrow.Author.Tests.{le-ltb}
-use lib.ListN.{length, take, replicate}
+use lib.ListN.{length, take}
 use Rattle.octets.specs.Bytes.{Bytes}
 use Rattle.octets.proofs.Laying.{length-put}
+use Rattle.handle.specs.Handle.{isHubName}
 use Rattle.lines.specs.Text.{linesOf, runOf}
 use Rattle.server.specs.Sizes.{connectionCount, workloadsSize, outputSize}
 use Rattle.server.specs.Requests.{Event}
@@ -22,7 +24,7 @@ use Rattle.server_calls.proofs.Histories.{make-start, running-start}
 use Rattle.command.specs.Texts.{lineFeed}
 use Rattle.capture.specs.Spoken.{answeredTo, textsSeen}
 use Rattle.capture.proofs.Framing.{cut-line}
-use Rattle.capture.proofs.Texts.{laid-start, long-table, long-workloads, running-after, zeros-made}
+use Rattle.capture.proofs.Texts.{laid-start, running-after}
 use Rattle.capture.proofs.Whole.{texts-cut}
 use Rattle.report_line.specs.Reported.{answerTo, isUnfit, kept, keptAll, reportFor, reportOf, reported, reportedText, serverAfterAll}
 use Rattle.report_line.proofs.Commands.{cut-command}
@@ -76,29 +78,8 @@ unfolding serverAfterAll
 running-all [] s h = h
 running-all (line ∷ lines) s h = running-all lines (serverAfter (frame line) s) (running-after s h (frame line))
 
--- ---- from a fresh table
+-- ---- what a buffer does not hold of a line changes nothing
 
-module _ (t w : Bytes) (lt : tableSize connectionCount ≤ length t) (lw : workloadsSize ≤ length w) where
-  start-follows : (lines : List Bytes) (o x : Bytes) → outputSize connectionCount ≤ length o → outputSize connectionCount ≤ length x
-      → reportedText lines (tableWith (start connectionCount) t) (workloadsWith (start connectionCount) w) o x ≡ reportFor lines
-  unfolding reportedText reportFor
-  start-follows [] o x lo lx = refl
-  start-follows (command ∷ lines) o x lo lx =
-      let s = serverAfterAll lines (start connectionCount) in
-      let h = running-all lines (start connectionCount) (running-start connectionCount) in
-      let f : Fit (tableWith s t) x = record { room = lx; long = rw length-put lt; sound = sound-with connectionCount (omega arith) s h t lt } in
-      rw (kept-follows t w lt lw lines (start connectionCount) (running-start connectionCount) o lo)
-      (answer-shown command (tableWith s t) x f
-      ∙ ap (answerTo command) (table-put connectionCount (s .table) t (fitting connectionCount (omega arith) s h) (h .shaped .connections) lt))
-
-  pub report-lines : (lines : List Bytes) (o x : Bytes) → outputSize connectionCount ≤ length o → outputSize connectionCount ≤ length x
-      → reportedText lines (make connectionCount t w .table) (make connectionCount t w .workloads) o x ≡ reportFor lines
-  report-lines lines o x lo lx =
-      ap (λ (m : Made). reportedText lines (m .table) (m .workloads) o x) (make-start connectionCount t w lt lw) ∙ start-follows lines o x lo lx
-
--- ---- from text to text
-
--- what a buffer does not hold of a line changes nothing
 module _ (n : ℕ) (h : longestLine < n) where
   after-cut : (lines : List Bytes) (s : Server) → serverAfterAll (map (take n) lines) s ≡ serverAfterAll lines s
   unfolding serverAfterAll
@@ -106,19 +87,38 @@ module _ (n : ℕ) (h : longestLine < n) where
   after-cut (line ∷ lines) s =
       ap (λ (f : Option Event). serverAfterAll (map (take n) lines) (serverAfter f s)) (cut-line n h line) ∙ after-cut lines (serverAfter (frame line) s)
 
-  report-cut : (lines : List Bytes) → reportFor (map (take n) lines) ≡ reportFor lines
+  report-cut : (hub : Bytes) (lines : List Bytes) → reportFor hub (map (take n) lines) ≡ reportFor hub lines
   unfolding reportFor
-  report-cut [] = refl
-  report-cut (command ∷ lines) = cut-command n command (omega arith) _ ∙ ap (λ (s : Server). answerTo command (s .table)) (after-cut lines (start connectionCount))
+  report-cut hub [] = refl
+  report-cut hub (command ∷ lines) = cut-command n command (omega arith) _ ∙ ap (λ (s : Server). answerTo command (s .table)) (after-cut lines (start connectionCount hub))
 
--- on zeros, as the program lends them, with buffers for the command and for a line that hold one digit more than a frame has
-pub report-text : (t w : Bytes) → t ≡ replicate (tableSize connectionCount) 0 → w ≡ replicate workloadsSize 0
-    → (buffer text o x : Bytes) → longestLine < length buffer → outputSize connectionCount ≤ length o → outputSize connectionCount ≤ length x
-    → reportedText (textsSeen (runOf buffer text)) t w o x ≡ reportOf text
-unfolding reportOf
-report-text t w et ew buffer text o x lb lo lx =
-    let ls = textsSeen (runOf buffer text) in
-    sym (ap (λ (m : Made). reportedText ls (m .table) (m .workloads) o x) (zeros-made t w et ew))
-    ∙ report-lines t w (long-table t w et ew) (long-workloads t w et ew) ls o x lo lx
-    ∙ ap reportFor (texts-cut buffer text)
-    ∙ report-cut (length buffer) lb (linesOf text)
+-- ---- from a fresh table of the hub of this name, in any bytes that are long enough
+
+module _ (hub : Bytes) (good : isHubName hub ≡ true) (t w : Bytes) (lt : tableSize connectionCount ≤ length t) (lw : workloadsSize ≤ length w) where
+  start-follows : (lines : List Bytes) (o x : Bytes) → outputSize connectionCount ≤ length o → outputSize connectionCount ≤ length x
+      → reportedText lines (tableWith (start connectionCount hub) t) (workloadsWith (start connectionCount hub) w) o x ≡ reportFor hub lines
+  unfolding reportedText reportFor
+  start-follows [] o x lo lx = refl
+  start-follows (command ∷ lines) o x lo lx =
+      let b = start connectionCount hub in
+      let g = running-start connectionCount hub good in
+      let s = serverAfterAll lines b in
+      let h = running-all lines b g in
+      let f : Fit (tableWith s t) x = record { room = lx; long = rw length-put lt; sound = sound-with connectionCount (omega arith) s h t lt } in
+      rw (kept-follows t w lt lw lines b g o lo)
+      (answer-shown command (tableWith s t) x f
+      ∙ ap (answerTo command) (table-put connectionCount (s .table) t (fitting connectionCount (omega arith) s h) (h .shaped .connections) lt))
+
+  pub report-lines : (lines : List Bytes) (o x : Bytes) → outputSize connectionCount ≤ length o → outputSize connectionCount ≤ length x
+      → reportedText lines (make connectionCount hub t w .table) (make connectionCount hub t w .workloads) o x ≡ reportFor hub lines
+  report-lines lines o x lo lx =
+      ap (λ (m : Made). reportedText lines (m .table) (m .workloads) o x) (make-start connectionCount hub good t w lt lw) ∙ start-follows lines o x lo lx
+
+  -- from text to text, with buffers for the command and for a line that hold one digit more than a frame has
+  pub report-text : (buffer text o x : Bytes) → longestLine < length buffer → outputSize connectionCount ≤ length o → outputSize connectionCount ≤ length x
+      → reportedText (textsSeen (runOf buffer text)) (make connectionCount hub t w .table) (make connectionCount hub t w .workloads) o x ≡ reportOf hub text
+  unfolding reportOf
+  report-text buffer text o x lb lo lx =
+      report-lines (textsSeen (runOf buffer text)) o x lo lx
+      ∙ ap (reportFor hub) (texts-cut buffer text)
+      ∙ report-cut (length buffer) lb hub (linesOf text)

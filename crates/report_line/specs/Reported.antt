@@ -85,10 +85,11 @@ unfoldable pub serverAfterAll : List Bytes → Server → Server
 serverAfterAll [] s = s
 serverAfterAll (line ∷ lines) s = serverAfterAll lines (serverAfter (frame line) s)
 
-unfoldable pub reportFor : List Bytes → Bytes
-reportFor [] = []
-reportFor (command ∷ lines) = answerTo command (serverAfterAll lines (start connectionCount) .table)
+-- from a fresh one of the hub of this name
+unfoldable pub reportFor : Bytes → List Bytes → Bytes
+reportFor hub [] = []
+reportFor hub (command ∷ lines) = answerTo command (serverAfterAll lines (start connectionCount hub) .table)
 
--- from the first byte to the last, by a fresh server
-unfoldable pub reportOf : Bytes → Bytes
-reportOf text = reportFor (linesOf text)
+-- from the first byte to the last
+unfoldable pub reportOf : Bytes → Bytes → Bytes
+reportOf hub text = reportFor hub (linesOf text)

@@ -3,7 +3,7 @@ use Prim.Native.Nat.{ℕ}
 use mathlib.Core.List.{List, _∷_, map}
 use Rattle.octets.specs.Bytes.{Bytes, same, startsWith, firstZero, every}
 use Rattle.sets.specs.Sets.{has, insert, remove, members}
-use Rattle.handle.specs.Handle.{handle, decimal, decimalIn}
+use Rattle.handle.specs.Handle.{handle, decimal, decimalIn, lap}
 use Rattle.packet.specs.Layout.{rulesOf, requestShape, responseShape, priorityOf, backgroundOf}
 use Rattle.packet.specs.Arguments.{fits, fitAll, join, split}
 use Rattle.packet.specs.Packet.{packet, header, body, read, requests, responses}
@@ -44,16 +44,21 @@ answeredFrom s h = ranFrom s h .0
 -- the table that a history of a fresh server of the product leaves
 unfoldable pub tableAfter : List Event → Table
 unfolding ranFrom fresh start
-tableAfter h = ranFrom (start connectionCount) h .1 .table
+tableAfter h = ranFrom (start connectionCount lap) h .1 .table
+
+-- the hub of a name, and document 01's
+unfoldable pub answeredAt : Bytes → List Event → List Answer
+unfolding answeredFrom fresh start
+answeredAt hub h = answeredFrom (start connectionCount hub) h
 
 unfoldable pub answered : List Event → List Answer
-unfolding answeredFrom fresh start
-answered h = answeredFrom (start connectionCount) h
+unfolding answeredAt
+answered h = answeredAt lap h
 
-unfoldable pub numbersOf : List Event → List ℕ
-unfolding answered
-numbersOf h = map numberOf (answered h)
+unfoldable pub numbersOf : Bytes → List Event → List ℕ
+unfolding answeredAt
+numbersOf hub h = map numberOf (answeredAt hub h)
 
-unfoldable pub packetsOf : List Event → List (List Bytes)
-unfolding answered packet
-packetsOf h = map (λ a. map addressed (sentOf a)) (answered h)
+unfoldable pub packetsOf : Bytes → List Event → List (List Bytes)
+unfolding answeredAt packet
+packetsOf hub h = map (λ a. map addressed (sentOf a)) (answeredAt hub h)

@@ -1,4 +1,4 @@
--- Document 01, "Errors that look reasonable", and five more: for each a history in which it would show, with the right answer, and one
+-- Document 01, "Errors that look reasonable", and nine more: for each a history in which it would show, with the right answer, and one
 -- theorem that the definitions give these answers. The edits in must-fail/ make the errors in the definitions. Assumes nothing.
 use Prim.Native.Nat.{ℕ}
 use Prim.Native.String.{String}
@@ -8,7 +8,7 @@ use lib.Dec.{T}
 use Rattle.octets.specs.Bytes.{Bytes, text}
 use Rattle.server.specs.Requests.{Event, opens}
 use Rattle.server.proofs.Histories.{request, response}
-use Rattle.server.proofs.Edge.{Edge, edge, holds}
+use Rattle.server.proofs.Edge.{Edge, edge, edgeAt, holds}
 
 -- ---- requests
 
@@ -153,10 +153,44 @@ unfolding request response
 exceptionEnds =
     edge (boardsTold ++ (request 5 14 (text "H:lap:1" ∷ []) ∷ [])) (replicate 17 0 ++ (14 ∷ [])) (response 5 19 (text "14" ∷ text "handle" ∷ []) ∷ [])
 
+-- ---- handles that do not name the hub: 02, ask 5
+
+-- a job of the hub `cup`, submitted by clients 0 and 2, of which 2 set the option, and held by worker 1
+abbrev atCup : List Event
+unfolding request
+atCup = opens 0 ∷ opens 1 ∷ opens 2 ∷ canDo 1 "f" ∷ catches 2 ∷ submits 0 "f" "u" (text "w") ∷ submits 2 "f" "u" [] ∷ grabs 1 ∷ []
+
+-- it is created and assigned under the hub's own name
+pub createdAtCup : Edge
+unfolding request response
+createdAtCup = edgeAt (text "cup") (opens 0 ∷ submits 0 "f" "" [] ∷ []) (replicate 2 0) (response 0 8 (text "H:cup:1" ∷ []) ∷ [])
+
+pub assignedAtCup : Edge
+unfolding request response
+assignedAtCup = edgeAt (text "cup") atCup (replicate 8 0) (response 1 11 (text "H:cup:1" ∷ text "f" ∷ text "w" ∷ []) ∷ [])
+
+-- its failure too
+pub failedAtCup : Edge
+unfolding request response
+failedAtCup =
+    edgeAt (text "cup") (atCup ++ (request 1 25 (text "H:cup:1" ∷ text "!" ∷ []) ∷ [])) (replicate 9 0)
+    (response 0 14 (text "H:cup:1" ∷ []) ∷ response 2 25 (text "H:cup:1" ∷ text "!" ∷ []) ∷ [])
+
+-- a result that names another hub is refused, and nobody hears it; the status of its handle is unknown
+pub strangerRefused : Edge
+unfolding request response
+strangerRefused = edgeAt (text "cup") (atCup ++ (completes 1 "H:lap:1" "done" ∷ [])) (replicate 8 0 ++ (14 ∷ [])) (response 1 19 (text "14" ∷ text "handle" ∷ []) ∷ [])
+
+pub strangerUnknown : Edge
+unfolding request response
+strangerUnknown =
+    edgeAt (text "cup") (atCup ++ (request 0 15 (text "H:lap:1" ∷ []) ∷ [])) (replicate 9 0)
+    (response 0 20 (text "H:lap:1" ∷ text "0" ∷ text "0" ∷ text "0" ∷ text "0" ∷ []) ∷ [])
+
 -- ---- none of them is made
 
 pub no-mistake :
     T (holds lateRefused) × T (holds tenantStays) × T (holds tenantNamed) × T (holds ownListener) × T (holds unknownStatus) × T (holds jobOfItsOwn) × T (holds wholeWorkload) × T (holds oneCopyEach) × T (holds nobodyHangs)
-    × T (holds exceptionEnds)
-unfolding holds lateRefused tenantStays tenantNamed ownListener unknownStatus jobOfItsOwn wholeWorkload oneCopyEach nobodyHangs exceptionEnds
-no-mistake = (tt, tt, tt, tt, tt, tt, tt, tt, tt, tt)
+    × T (holds exceptionEnds) × T (holds createdAtCup) × T (holds assignedAtCup) × T (holds failedAtCup) × T (holds strangerRefused) × T (holds strangerUnknown)
+unfolding holds lateRefused tenantStays tenantNamed ownListener unknownStatus jobOfItsOwn wholeWorkload oneCopyEach nobodyHangs exceptionEnds createdAtCup assignedAtCup failedAtCup strangerRefused strangerUnknown
+no-mistake = (tt, tt, tt, tt, tt, tt, tt, tt, tt, tt, tt, tt, tt, tt, tt)

@@ -7,6 +7,7 @@ use lib.ListN.{length, take, drop, replicate}
 use lib.Dec.{ltb}
 use Rattle.octets.specs.Bytes.{Bytes}
 use Rattle.octets.specs.Put.{put}
+use Rattle.handle.specs.Handle.{isHubName}
 use Rattle.lists.specs.Lists.{concat, numbers}
 use Rattle.server.specs.Sizes.{jobCount, workloadSize, workloadsSize, outputSize}
 use Rattle.server.specs.Table.{fresh}
@@ -66,7 +67,8 @@ call n e t w o =
     (refusedBy 1 t w o)
     (performed e (serverIn n t w) t w o)
 
--- making a fresh table. 01: "it fills the table, sets the workloads to zero, and is refused only by 1, for length"
+-- making a fresh table. 01: "it fills the table, sets the workloads to zero, and is refused only by 1, for length"; 02: "made with a name of 1
+-- to 15 bytes, lowercase letters and digits, otherwise refusal 1"
 pub record Made : Type 0 where
   pub number : ℕ
   pub table : Bytes
@@ -75,8 +77,8 @@ pub record Made : Type 0 where
 abbrev pub made : ℕ → Bytes → Bytes → Made
 made number table workloads = record { number = number; table = table; workloads = workloads }
 
-unfoldable pub make : ℕ → Bytes → Bytes → Made
-make n t w =
-    cond (ltb (length t) (tableSize n) || ltb (length w) workloadsSize)
+unfoldable pub make : ℕ → Bytes → Bytes → Bytes → Made
+make n hub t w =
+    cond (ltb (length t) (tableSize n) || (ltb (length w) workloadsSize || not (isHubName hub)))
     (made 1 t w)
-    (made 0 (put 0 (bytesOf (fresh n)) t) (put 0 (replicate workloadsSize 0) w))
+    (made 0 (put 0 (bytesOf (fresh n hub)) t) (put 0 (replicate workloadsSize 0) w))

@@ -1,4 +1,4 @@
--- What is done: the number, the packets to send and the next table. 01, "Refusal numbers" and "Jobs and the queue"; 02, asks 1 and 3.
+-- What is done: the number, the packets to send and the next table. 01, "Refusal numbers" and "Jobs and the queue"; 02, asks 1, 3 and 5.
 -- Nothing here sees an opaque byte. Assumes nothing.
 use Prim.Native.Nat.{ℕ, suc, _+_, _/_, _%_}
 use mathlib.Core.Bool.{Bool, true, false, not, cond, _&&_}
@@ -7,7 +7,7 @@ use mathlib.Core.List.{List, [], _∷_, _++_, map}
 use lib.ListN.{length, getD}
 use lib.Dec.{ltb, eqb}
 use Rattle.octets.specs.Bytes.{Bytes, same, text}
-use Rattle.handle.specs.Handle.{handle, lap}
+use Rattle.handle.specs.Handle.{handle}
 use Rattle.sets.specs.Sets.{insert, remove, isEmpty, members}
 use Rattle.server.specs.declared.Connection.{Connection}
 use Rattle.server.specs.declared.JobRow.{JobRow}
@@ -148,8 +148,9 @@ abbrev pub submittedBy : ℕ → Bool → JobRow → JobRow
 submittedBy c true r = inBackground r
 submittedBy c false r = withListeners (insert (r .listeners) c) r
 
-abbrev pub created : ℕ → ℕ → Send
-created c serial = plain c 8 (handle lap serial ∷ [])
+-- JOB_CREATED, from the hub of this name
+abbrev pub created : Bytes → ℕ → ℕ → Send
+created hub c serial = plain c 8 (handle hub serial ∷ [])
 
 -- 01: "a new job takes the lowest free place and the next serial"; "Serials are never used again."
 abbrev pub newJob : ℕ → ℕ → Bool → ℕ → Bytes → ℕ → ℕ → Job
@@ -165,24 +166,24 @@ submitNew none place c priority background f u size t = refuse c 11 t
 submitNew (some q) none c priority background f u size t = refuse c 12 t
 submitNew (some q) (some p) c priority background f u size t =
     cond (ltb (t .last) 4294967295)
-    (settle (created c (suc (t .last)) ∷ []) (accepted q f p (newJob c priority background q u size (suc (t .last))) t))
+    (settle (created (t .hub) c (suc (t .last)) ∷ []) (accepted q f p (newJob c priority background q u size (suc (t .last))) t))
     (refuse c 13 t)
 
 -- 01: a join: "its own workload and priority are dropped; refusals 11 to 13 don't apply"
 unfoldable pub submitTo : Option ℕ → ℕ → ℕ → Bool → Bytes → Bytes → ℕ → Table → Decision
 submitTo (some p) c priority background f u size t =
-    settle (created c (jobAt t p .row .serial) ∷ []) (setJob t p (withRow (submittedBy c background (jobAt t p .row)) (jobAt t p)))
+    settle (created (t .hub) c (jobAt t p .row .serial) ∷ []) (setJob t p (withRow (submittedBy c background (jobAt t p .row)) (jobAt t p)))
 submitTo none c priority background f u size t = submitNew (roomFor (t .functions) f) (freePlace t) c priority background f u size t
 
 -- ---- worker packets
 
 -- 01: "handle isn't a job held by this connection"
-unfoldable pub holdsHandle : ℕ → Bytes → JobRow → Bool
-holdsHandle c h r = heldBy c r && hasHandle h r
+unfoldable pub holdsHandle : Bytes → ℕ → Bytes → JobRow → Bool
+holdsHandle hub c h r = heldBy c r && hasHandle hub h r
 
 -- the place of the job that connection c holds under this handle
 abbrev pub heldJobOf : Table → ℕ → Bytes → Option ℕ
-heldJobOf t c h = find (λ j. holdsHandle c h (j .row)) (t .jobs)
+heldJobOf t c h = find (λ j. holdsHandle (t .hub) c h (j .row)) (t .jobs)
 
 -- who gets the copy. 01: "Worker packets go to all listeners. [..] 25 ends the job and goes only to listeners that set `exceptions`."
 abbrev pub hears : Work → Table → ℕ → Bool
@@ -192,19 +193,19 @@ hears ends t l = true
 hears throws t l = connectionAt t l .exceptions
 
 -- 02: "WORK_FAIL with the handle alone"
-abbrev pub failure : ℕ → ℕ → Send
-failure serial l = plain l 14 (handle lap serial ∷ [])
+abbrev pub failure : Bytes → ℕ → ℕ → Send
+failure hub serial l = plain l 14 (handle hub serial ∷ [])
 
 abbrev pub listenersOf : Table → JobRow → List ℕ
 listenersOf t r = members (length (t .connections)) (r .listeners)
 
 -- to all listeners of a job: what an exception sends where none of them has set the option
 abbrev pub failures : Table → JobRow → List Send
-failures t r = map (failure (r .serial)) (listenersOf t r)
+failures t r = map (failure (t .hub) (r .serial)) (listenersOf t r)
 
 -- the packet to one listener: the copy, or, 02 of type 25: "all others get WORK_FAIL with the handle alone": all other listeners
 abbrev pub toListener : Work → ℕ → Table → JobRow → ℕ → Send
-toListener how kind t r l = cond (hears how t l) (copy l kind) (failure (r .serial) l)
+toListener how kind t r l = cond (hears how t l) (copy l kind) (failure (t .hub) (r .serial) l)
 
 -- one packet to each listener of a job, 02: "in one rising order of connection"
 unfoldable pub toListeners : Work → ℕ → Table → JobRow → List Send

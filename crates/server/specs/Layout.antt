@@ -9,7 +9,7 @@ use Rattle.octets.specs.Bytes.{Bytes, same, firstZero}
 use Rattle.server.specs.declared.Connection.{Connection}
 use Rattle.server.specs.declared.JobRow.{JobRow}
 use Rattle.lists.specs.Lists.{fit, numbers}
-use Rattle.server.specs.Sizes.{functionCount, jobCount, nameSize, uniqueSize, numberSize, idSize}
+use Rattle.server.specs.Sizes.{functionCount, jobCount, nameSize, uniqueSize, numberSize, idSize, hubSize}
 use Rattle.server.specs.Table.{Function, Job, Table}
 
 -- ---- one field
@@ -73,8 +73,11 @@ denominatorsAt = numeratorsAt + numberSize * jobCount
 abbrev pub setSize : ℕ → ℕ
 setSize n = 4 * ((n + 31) / 32)
 
+abbrev pub hubAt : ℕ
+hubAt = denominatorsAt + numberSize * jobCount
+
 abbrev pub ableAt : ℕ
-ableAt = denominatorsAt + numberSize * jobCount
+ableAt = hubAt + hubSize
 
 abbrev pub listenersAt : ℕ → ℕ
 listenersAt n = ableAt + setSize n * functionCount
@@ -138,6 +141,7 @@ tableOf n b =
       ids = map (idIn n b) (numbers 0 n);
       functions = map (functionIn n b) (numbers 0 functionCount);
       jobs = map (jobIn n b) (numbers 0 jobCount);
+      hub = textAt hubSize b hubAt;
     }
 
 -- ---- table to bytes
@@ -166,12 +170,13 @@ bytesOf t =
     ++ (column (λ j. fit uniqueSize (j .unique)) (t .jobs)
     ++ (column (λ j. fit numberSize (j .numerator)) (t .jobs)
     ++ (column (λ j. fit numberSize (j .denominator)) (t .jobs)
+    ++ (fit hubSize (t .hub)
     ++ (column (λ x. little (setSize n) (x .able)) (t .functions)
     ++ (column (λ j. little (setSize n) (j .row .listeners)) (t .jobs)
     ++ (column (λ x. flagByte (x .opened)) (t .connections)
     ++ (column (λ x. flagByte (x .asleep)) (t .connections)
     ++ (column (λ x. flagByte (x .exceptions)) (t .connections)
-    ++ column (fit idSize) (t .ids)))))))))))
+    ++ column (fit idSize) (t .ids))))))))))))
 
 -- "every field with a meaning in the layout": the bytes are those of the table that they hold, so each table has one byte image
 unfoldable pub isImage : ℕ → Bytes → Bool

@@ -6,6 +6,7 @@ use mathlib.Core.List.{List, [], _∷_, _++_, map}
 use lib.ListN.{length}
 use lib.Dec.{leb, eqb}
 use Rattle.octets.specs.Bytes.{Bytes}
+use Rattle.handle.specs.Handle.{lap}
 use Rattle.hex.specs.Hex.{unhex, hexByte, hex}
 use Rattle.lines.specs.Text.{linesOf}
 use Rattle.lists.specs.Lists.{concat}
@@ -57,6 +58,7 @@ unfoldable pub replayFrom : Server → List Bytes → Bytes
 replayFrom s [] = []
 replayFrom s (line ∷ lines) = lineWrites (frame line) s ++ replayFrom (serverAfter (frame line) s) lines
 
--- "It reads lines .. A last line without a line end counts; .. empty input writes nothing." From a fresh table
+-- "It reads lines .. A last line without a line end counts; .. empty input writes nothing." From a fresh table; 02: "The replay program
+-- .. keep `lap`"
 unfoldable pub replayOf : Bytes → Bytes
-replayOf text = replayFrom (start connectionCount) (linesOf text)
+replayOf text = replayFrom (start connectionCount lap) (linesOf text)

@@ -6,6 +6,7 @@ use lib.ListN.{length}
 use lib.Dec.{leb, ltb, eqb}
 use Rattle.octets.specs.Bytes.{Bytes, same, zeroFree, within}
 use Rattle.packet.specs.Arguments.{digits}
+use Rattle.handle.specs.Handle.{isHubName}
 use Rattle.sets.specs.Sets.{has, isEmpty}
 use Rattle.server.specs.declared.Connection.{Connection}
 use Rattle.server.specs.declared.JobRow.{JobRow}
@@ -150,10 +151,15 @@ idOpen t c = isOpen t c || same (idAt t c) []
 abbrev pub idsOpen : Table → Bool
 idsOpen t = all (idOpen t) (numbers 0 (length (t .connections)))
 
+-- ---- the hub's name, 02, ask 5: "1 to 15 bytes, lowercase letters and digits"
+
+abbrev pub hubNamed : Table → Bool
+hubNamed t = isHubName (t .hub)
+
 -- ---- the rules together, in the order of document 01, those of 02 behind; with the bytes being an image of the layout they are `Call: isSound`
 
 unfoldable pub obeys : Table → Bool
 obeys t =
     nextSmall t && (serialsBelow t && (serialsDistinct t && (namesWithin t && (textsWithin t && (sizesWithin t && (rowsHaveMeaning t
     && (functionsDistinct t && (functionsAsDefined t && (abilitiesOpen t && (listenersOpen t && (holdersOpen t && (closedClear t
-    && (queuedAwaited t && (uniquesDistinct t && (sleepersIdle t && (idsWithin t && idsOpen t))))))))))))))))
+    && (queuedAwaited t && (uniquesDistinct t && (sleepersIdle t && (idsWithin t && (idsOpen t && hubNamed t)))))))))))))))))

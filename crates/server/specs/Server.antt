@@ -5,7 +5,7 @@ use mathlib.Core.List.{List, [], _∷_, _++_, map}
 use lib.ListN.{drop, getD, replicate}
 use lib.Dec.{eqb}
 use Rattle.octets.specs.Bytes.{Bytes}
-use Rattle.handle.specs.Handle.{handle, lap}
+use Rattle.handle.specs.Handle.{handle}
 use Rattle.packet.specs.Arguments.{join}
 use Rattle.packet.specs.Packet.{packet, requests, responses}
 use Rattle.packet.specs.Opaque.{visible, opaque}
@@ -49,7 +49,7 @@ opaqueOf (sends c b) = opaque requests b
 abbrev pub assignment : Table → Bool → ℕ → List Bytes
 assignment t uniq p =
     let j = jobAt t p in
-    handle lap (j .row .serial) ∷ functionAt t (j .row .function) .name ∷ cond uniq (j .unique ∷ [] ∷ []) ([] ∷ [])
+    handle (t .hub) (j .row .serial) ∷ functionAt t (j .row .function) .name ∷ cond uniq (j .unique ∷ [] ∷ []) ([] ∷ [])
 
 -- from the table and the workloads before the event
 unfoldable pub render : Event → Server → Send → Sent
@@ -102,9 +102,9 @@ next e s =
 unfoldable pub answer : Event → Server → Answer
 answer e s = let d = decided e s in record { number = d .number; sent = map (render e s) (d .packets) }
 
--- a fresh table for n connections; 01: "32 places of 1,024"
-unfoldable pub start : ℕ → Server
-start n = record { table = fresh n; workloads = replicate jobCount (replicate workloadSize 0) }
+-- a fresh table for n connections of the hub of this name; 01: "32 places of 1,024"
+unfoldable pub start : ℕ → Bytes → Server
+start n hub = record { table = fresh n hub; workloads = replicate jobCount (replicate workloadSize 0) }
 
 unfoldable pub after : Server → List Event → Server
 after s [] = s

@@ -11,7 +11,8 @@ functionCount = 16
 abbrev pub jobCount : ℕ
 jobCount = 32
 
--- places of texts: a function's name, a job's unique, each of its two stored numbers, a connection's client id (02: "1 to 64 bytes")
+-- places of texts: a function's name, a job's unique, each of its two stored numbers, a connection's client id (02: "1 to 64 bytes"), and the
+-- hub's name, which has 15 bytes at the most
 abbrev pub nameSize : ℕ
 nameSize = 32
 
@@ -23,6 +24,9 @@ numberSize = 10
 
 abbrev pub idSize : ℕ
 idSize = 64
+
+abbrev pub hubSize : ℕ
+hubSize = 16
 
 -- 01: "the workloads (at least 32,768 bytes, 32 places of 1,024)"
 abbrev pub workloadSize : ℕ

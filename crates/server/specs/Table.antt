@@ -7,7 +7,7 @@ use mathlib.Core.List.{List, [], _∷_, map}
 use lib.ListN.{getD, set, replicate}
 use lib.Dec.{eqb}
 use Rattle.octets.specs.Bytes.{Bytes, same}
-use Rattle.handle.specs.Handle.{handle, lap}
+use Rattle.handle.specs.Handle.{handle}
 use Rattle.sets.specs.Sets.{has, isEmpty}
 use Rattle.server.specs.declared.Connection.{Connection}
 use Rattle.server.specs.declared.JobRow.{JobRow}
@@ -26,13 +26,15 @@ pub record Job : Type 0 where
   pub numerator : Bytes
   pub denominator : Bytes
 
--- the last serial given out (0: none yet), and the places; the client id of each connection, empty where it has none
+-- the last serial given out (0: none yet), and the places; the client id of each connection, empty where it has none; the name of the hub.
+-- 02, ask 5: the name "stands in the table"
 pub record Table : Type 0 where
   pub last : ℕ
   pub connections : List Connection
   pub ids : List Bytes
   pub functions : List Function
   pub jobs : List Job
+  pub hub : Bytes
 
 -- ---- empty places, and the fresh table
 
@@ -48,9 +50,9 @@ noRow = record { serial = 0; function = 0; priority = 0; background = false; lis
 abbrev pub noJob : Job
 noJob = record { row = noRow; unique = []; numerator = []; denominator = [] }
 
--- 01: "known functions 16; unfinished jobs 32"; n connections, all closed
-unfoldable pub fresh : ℕ → Table
-fresh n = record { last = 0; connections = replicate n closed; ids = replicate n []; functions = replicate functionCount noFunction; jobs = replicate jobCount noJob }
+-- 01: "known functions 16; unfinished jobs 32"; n connections, all closed. 02: "A fresh table is made with a name"
+unfoldable pub fresh : ℕ → Bytes → Table
+fresh n hub = record { last = 0; connections = replicate n closed; ids = replicate n []; functions = replicate functionCount noFunction; jobs = replicate jobCount noJob; hub = hub }
 
 -- ---- what stands at a place
 
@@ -69,19 +71,23 @@ jobAt t p = getD (t .jobs) p noJob
 -- ---- parts put anew, the new part first: a new field is one line in each of these, and nowhere else is a row built from its fields
 
 abbrev pub withLastSerial : ℕ → Table → Table
-withLastSerial s t = record { last = s; connections = t .connections; ids = t .ids; functions = t .functions; jobs = t .jobs }
+withLastSerial s t = record { last = s; connections = t .connections; ids = t .ids; functions = t .functions; jobs = t .jobs; hub = t .hub }
 
 abbrev pub withConnections : List Connection → Table → Table
-withConnections cs t = record { last = t .last; connections = cs; ids = t .ids; functions = t .functions; jobs = t .jobs }
+withConnections cs t = record { last = t .last; connections = cs; ids = t .ids; functions = t .functions; jobs = t .jobs; hub = t .hub }
 
 abbrev pub withIds : List Bytes → Table → Table
-withIds is t = record { last = t .last; connections = t .connections; ids = is; functions = t .functions; jobs = t .jobs }
+withIds is t = record { last = t .last; connections = t .connections; ids = is; functions = t .functions; jobs = t .jobs; hub = t .hub }
 
 abbrev pub withFunctions : List Function → Table → Table
-withFunctions fs t = record { last = t .last; connections = t .connections; ids = t .ids; functions = fs; jobs = t .jobs }
+withFunctions fs t = record { last = t .last; connections = t .connections; ids = t .ids; functions = fs; jobs = t .jobs; hub = t .hub }
 
 abbrev pub withJobs : List Job → Table → Table
-withJobs js t = record { last = t .last; connections = t .connections; ids = t .ids; functions = t .functions; jobs = js }
+withJobs js t = record { last = t .last; connections = t .connections; ids = t .ids; functions = t .functions; jobs = js; hub = t .hub }
+
+-- no event puts the name anew: laws alone do
+abbrev pub withHub : Bytes → Table → Table
+withHub name t = record { last = t .last; connections = t .connections; ids = t .ids; functions = t .functions; jobs = t .jobs; hub = name }
 
 abbrev pub setConnection : Table → ℕ → Connection → Table
 setConnection t c x = withConnections (set (t .connections) c x) t
@@ -148,13 +154,14 @@ queued r = live r && eqb (r .holder) 0
 abbrev pub heldBy : ℕ → JobRow → Bool
 heldBy c r = live r && eqb (r .holder) (suc c)
 
--- 01: "Its handle is `H:lap:` and the serial in decimal." A job is found by the text of its handle, never by its place.
-unfoldable pub hasHandle : Bytes → JobRow → Bool
-hasHandle h r = live r && same (handle lap (r .serial)) h
+-- 01: "Its handle is `H:lap:` and the serial in decimal"; 02: with the hub's name "instead of `lap`". A job is found by the text of its handle,
+-- never by its place; a text with another hub's name is no job's handle.
+unfoldable pub hasHandle : Bytes → Bytes → JobRow → Bool
+hasHandle hub h r = live r && same (handle hub (r .serial)) h
 
 -- the place of the unfinished job with this handle
 abbrev pub jobOf : Table → Bytes → Option ℕ
-jobOf t h = find (λ j. hasHandle h (j .row)) (t .jobs)
+jobOf t h = find (λ j. hasHandle (t .hub) h (j .row)) (t .jobs)
 
 -- ---- the numbers that rules and searches look at
 

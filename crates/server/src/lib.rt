@@ -3,8 +3,8 @@
 
 ghost use Rattle.server.specs.Table as T;
 ghost use Rattle.server.specs.Table.{freshRow, inBackground, justOpened, noRow, withAsleep, withExceptions, withHolder, withListeners};
-ghost use Rattle.server.specs.Layout.{ableAt, asleepAt, backgroundsAt, denominatorsAt, exceptionsAt, functionsAt, holdersAt, idsAt, lastAt, listenersAt, namesAt, numeratorsAt, openedAt, prioritiesAt, serialsAt, sizesAt, tableSize, uniquesAt};
-ghost use Rattle.server.specs.Sizes.{connectionCount, functionCount, idSize, jobCount, nameSize, numberSize, outputSize, uniqueSize, workloadSize, workloadsSize};
+ghost use Rattle.server.specs.Layout.{ableAt, asleepAt, backgroundsAt, denominatorsAt, exceptionsAt, functionsAt, holdersAt, hubAt, idsAt, lastAt, listenersAt, namesAt, numeratorsAt, openedAt, prioritiesAt, serialsAt, sizesAt, tableSize, uniquesAt};
+ghost use Rattle.server.specs.Sizes.{connectionCount, functionCount, hubSize, idSize, jobCount, nameSize, numberSize, outputSize, uniqueSize, workloadSize, workloadsSize};
 ghost use mathlib.Core.List.{[], _∷_};
 ghost use mathlib.Core.Path.{_≡_};
 
@@ -23,6 +23,8 @@ pub const UNIQUE_SIZE: usize = 64;
 pub const NUMBER_SIZE: usize = 10;
 
 pub const ID_SIZE: usize = 64;
+
+pub const HUB_SIZE: usize = 16;
 
 pub const WORKLOAD_SIZE: usize = 1024;
 
@@ -49,7 +51,9 @@ pub const NUMERATORS_AT: usize = UNIQUES_AT + UNIQUE_SIZE * JOBS;
 
 pub const DENOMINATORS_AT: usize = NUMERATORS_AT + NUMBER_SIZE * JOBS;
 
-pub const ABLE_AT: usize = DENOMINATORS_AT + NUMBER_SIZE * JOBS;
+pub const HUB_AT: usize = DENOMINATORS_AT + NUMBER_SIZE * JOBS;
+
+pub const ABLE_AT: usize = HUB_AT + HUB_SIZE;
 
 pub const LISTENERS_AT: usize = ABLE_AT + 4 * FUNCTIONS;
 
@@ -188,9 +192,9 @@ pub fn with_holder(row: JobRow, holder: u16) -> JobRow
 // ---- the product's numbers
 
 // Every constant is the definitions' number.
-pub fn numbers() -> [usize; 28]
-    ensures { λ r. ⌜ r ≡ connectionCount ∷ functionCount ∷ jobCount ∷ nameSize ∷ uniqueSize ∷ numberSize ∷ idSize ∷ workloadSize
-        ∷ lastAt ∷ ableAt ∷ serialsAt ∷ listenersAt connectionCount ∷ sizesAt ∷ holdersAt ∷ prioritiesAt ∷ backgroundsAt ∷ functionsAt
+pub fn numbers() -> [usize; 30]
+    ensures { λ r. ⌜ r ≡ connectionCount ∷ functionCount ∷ jobCount ∷ nameSize ∷ uniqueSize ∷ numberSize ∷ idSize ∷ hubSize ∷ workloadSize
+        ∷ lastAt ∷ hubAt ∷ ableAt ∷ serialsAt ∷ listenersAt connectionCount ∷ sizesAt ∷ holdersAt ∷ prioritiesAt ∷ backgroundsAt ∷ functionsAt
         ∷ namesAt ∷ uniquesAt ∷ numeratorsAt ∷ denominatorsAt ∷ openedAt connectionCount ∷ asleepAt connectionCount ∷ exceptionsAt connectionCount
         ∷ idsAt connectionCount ∷ tableSize connectionCount ∷ workloadsSize ∷ outputSize connectionCount ∷ [] ⌝ }
 {
@@ -202,8 +206,10 @@ pub fn numbers() -> [usize; 28]
         UNIQUE_SIZE,
         NUMBER_SIZE,
         ID_SIZE,
+        HUB_SIZE,
         WORKLOAD_SIZE,
         LAST_AT,
+        HUB_AT,
         ABLE_AT,
         SERIALS_AT,
         LISTENERS_AT,

@@ -1,7 +1,8 @@
 -- Demand 3, its first sentence: two histories that differ in opaque bytes alone have the same numbers, and packets with the same
 -- addresses, types, lengths and other bytes, and the same tables. For any number of connections. Assumes nothing.
 use Prim.Native.Nat.{ℕ}
-use mathlib.Core.Path.{_≡_, refl, ap, _∙_}
+use mathlib.Core.Path.{_≡_, refl, ap}
+use Rattle.octets.specs.Bytes.{Bytes}
 use mathlib.Core.List.{List, [], _∷_, map}
 use Rattle.server.specs.Requests.{Event}
 use Rattle.server.specs.Events.{Send, Decision}
@@ -42,7 +43,7 @@ unfolding after
 tables-from All2.none s r q = q
 tables-from (All2.more {a = e} {b = f} a rest) s r q = tables-from rest (next e s) (next f r) (table-alike a s r q)
 
--- from a fresh table for n connections on
-pub blind : (n : ℕ) {h k : List Event} → All2 Alike h k
-    → All2 Agree (answers (start n) h) (answers (start n) k) × (after (start n) h .table ≡ after (start n) k .table)
-blind n rest = (agree-from rest (start n) (start n) refl, tables-from rest (start n) (start n) refl)
+-- from a fresh table for n connections on; 02: "Demand 3 takes the names as equal"
+pub blind : (n : ℕ) (hub : Bytes) {h k : List Event} → All2 Alike h k
+    → All2 Agree (answers (start n hub) h) (answers (start n hub) k) × (after (start n hub) h .table ≡ after (start n hub) k .table)
+blind n hub rest = (agree-from rest (start n hub) (start n hub) refl, tables-from rest (start n hub) (start n hub) refl)

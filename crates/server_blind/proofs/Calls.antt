@@ -3,10 +3,12 @@
 -- lent long enough buffers, the kept ones as the last call left them; the outputs lent may be any. Assumes nothing.
 use Prim.Native.Nat.{ℕ, _≤_}
 use mathlib.Core.Path.{_≡_, refl, ap, sym, _∙_}
+use mathlib.Core.Bool.{true}
 use mathlib.Core.List.{List}
 use native.Mathlib.Omega.{arith}
 use lib.ListN.{length}
 use Rattle.octets.specs.Bytes.{Bytes}
+use Rattle.handle.specs.Handle.{isHubName}
 use Rattle.octets.specs.Put.{put}
 use Rattle.octets.proofs.Laying.{put-start}
 use Rattle.server.specs.Sizes.{connectionCount, workloadsSize, outputSize}
@@ -96,13 +98,13 @@ events-alike All2.none = All2.none
 events-alike (All2.more e rest) = All2.more e (events-alike rest)
 
 -- from a fresh table on
-pub blind-calls : (n : ℕ) → n ≤ 256 → (t w : Bytes) → tableSize n ≤ length t → workloadsSize ≤ length w → {xs ys : List Call} → AlikeEvents xs ys → LongOutputs n xs → LongOutputs n ys
-    → Both (Match Like) xs ys (calls n xs (make n t w .table) (make n t w .workloads)) (calls n ys (make n t w .table) (make n t w .workloads))
-blind-calls n few t w lt lw a l m =
-    rw (make-start n t w lt lw)
-    (match-calls n few t w lt lw (λ p q z. z) a l m (start n) (start n) (running-start n) (running-start n) refl (related-agree (agree-from (events-alike a) (start n) (start n) refl)))
+pub blind-calls : (n : ℕ) → n ≤ 256 → (hub : Bytes) → isHubName hub ≡ true → (t w : Bytes) → tableSize n ≤ length t → workloadsSize ≤ length w → {xs ys : List Call} → AlikeEvents xs ys → LongOutputs n xs → LongOutputs n ys
+    → Both (Match Like) xs ys (calls n xs (make n hub t w .table) (make n hub t w .workloads)) (calls n ys (make n hub t w .table) (make n hub t w .workloads))
+blind-calls n few hub good t w lt lw a l m =
+    rw (make-start n hub good t w lt lw)
+    (match-calls n few t w lt lw (λ p q z. z) a l m (start n hub) (start n hub) (running-start n hub good) (running-start n hub good) refl (related-agree (agree-from (events-alike a) (start n hub) (start n hub) refl)))
 
 -- the product's number of connections, and its sizes of table and workloads
-pub product-blind : (t w : Bytes) → tableSize connectionCount ≤ length t → workloadsSize ≤ length w → {xs ys : List Call} → AlikeEvents xs ys → LongOutputs connectionCount xs → LongOutputs connectionCount ys
-    → Both (Match Like) xs ys (calls connectionCount xs (make connectionCount t w .table) (make connectionCount t w .workloads)) (calls connectionCount ys (make connectionCount t w .table) (make connectionCount t w .workloads))
-product-blind t w lt lw a l m = blind-calls connectionCount (omega arith) t w lt lw a l m
+pub product-blind : (hub : Bytes) → isHubName hub ≡ true → (t w : Bytes) → tableSize connectionCount ≤ length t → workloadsSize ≤ length w → {xs ys : List Call} → AlikeEvents xs ys → LongOutputs connectionCount xs → LongOutputs connectionCount ys
+    → Both (Match Like) xs ys (calls connectionCount xs (make connectionCount hub t w .table) (make connectionCount hub t w .workloads)) (calls connectionCount ys (make connectionCount hub t w .table) (make connectionCount hub t w .workloads))
+product-blind hub good t w lt lw a l m = blind-calls connectionCount (omega arith) hub good t w lt lw a l m

@@ -1,9 +1,10 @@
 -- Demand 3, its sentences on one packet: one submission, one worker packet or one echo has other opaque bytes, and all other events
 -- are equal. What may then differ, at that event and at any events after it; from any server. Assumes nothing.
 use Prim.Native.Nat.{ℕ, suc}
-use mathlib.Core.Path.{_≡_, refl, ap, ap₂, _∙_}
+use mathlib.Core.Path.{_≡_, refl, ap, ap₂, _∙_, subst}
 use mathlib.Core.List.{List, [], _∷_, _++_}
 use Rattle.octets.specs.Bytes.{Bytes}
+use Rattle.handle.specs.Handle.{handle}
 use Rattle.server.specs.Table.{Table}
 use Rattle.server.specs.Requests.{Event, Request}
 use Rattle.server.specs.Events.{Decision}
@@ -13,6 +14,7 @@ use Rattle.server_laws.proofs.Serials.{Stays, Makes, IsSubmit, Submits, submits
 use Rattle.server_blind.proofs.Alike.{Alike, decided-alike}
 use Rattle.server_blind.proofs.Blind.{answer-alike}
 use Rattle.server_blind.proofs.Workloads.{its, near-same, rework-near, rework-blind, Apart, AgreeBut, answers-but}
+use Rattle.server_laws.proofs.Lengths.{hub-kept}
 use Rattle.server_blind.proofs.Copies.{Sees, sees-echo, sees-work, MaySee, sees, ButTo, equal, differs, answer-to}
 
 -- ---- the server after the event
@@ -45,12 +47,13 @@ module _ {e f : Event} (a : Alike e f) (s : Server) where
       by (one d i m c g) = absurd (n _ c)
 
   -- an event that created the job with serial k: later, nothing differs but the workload in assignments of that job
-  pub lone-created : (k : ℕ) → Creates s e k → (later : List Event) → All2 (AgreeBut k) (answers (next e s) later) (answers (next f s) later)
+  pub lone-created : (k : ℕ) → Creates s e k → (later : List Event) → All2 (AgreeBut (handle (s .table .hub) k)) (answers (next e s) later) (answers (next f s) later)
   lone-created k c later = by (creation s e)
     where
-      by : Creation s e → All2 (AgreeBut k) (answers (next e s) later) (answers (next f s) later)
+      by : Creation s e → All2 (AgreeBut (handle (s .table .hub) k)) (answers (next e s) later) (answers (next f s) later)
       by (nothing m z) = absurd (z k c)
-      by (one x i m d g) = rw (g k c .is) (answers-but _ later (next e s) (next f s) (makes-apart x m))
+      by (one x i m d g) = rw (g k c .is)
+          (subst (λ (hub : Bytes). All2 (AgreeBut (handle hub (suc (s .table .last)))) (answers (next e s) later) (answers (next f s) later)) (hub-kept e s) (answers-but _ later (next e s) (next f s) (makes-apart x m)))
 
 -- ---- one submission
 
@@ -59,7 +62,7 @@ module _ {e f : Event} (a : Alike e f) (s : Server) where
 pub data Later (e f : Event) (s : Server) : Type 0 where
   made-none : ((k : ℕ) → ¬ Creates s e k) → next e s ≡ next f s → Later e f s
   made-one : Creates s e (suc (s .table .last))
-      → ((later : List Event) → All2 (AgreeBut (suc (s .table .last))) (answers (next e s) later) (answers (next f s) later)) → Later e f s
+      → ((later : List Event) → All2 (AgreeBut (handle (s .table .hub) (suc (s .table .last)))) (answers (next e s) later) (answers (next f s) later)) → Later e f s
 
 later-by : {e f : Event} → Alike e f → (s : Server) → Creation s e → Later e f s
 later-by a s (nothing m n) = made-none n (lone-none a s n)

@@ -3,10 +3,12 @@
 -- the opaque part alone. Number, length and table are the same at every call. Assumes nothing.
 use Prim.Native.Nat.{ℕ, suc, _≤_}
 use mathlib.Core.Path.{_≡_, refl, ap, ap₂, sym, _∙_, subst}
+use mathlib.Core.Bool.{true}
 use mathlib.Core.List.{List, [], _∷_, _++_}
 use native.Mathlib.Omega.{arith}
 use lib.ListN.{length}
 use Rattle.octets.specs.Bytes.{Bytes}
+use Rattle.handle.specs.Handle.{handle, isHubName}
 use Rattle.octets.specs.Put.{put}
 use Rattle.lists.specs.Lists.{concat}
 use Rattle.server.specs.Sizes.{workloadsSize, outputSize}
@@ -57,9 +59,9 @@ pub record LoneNow (R : Sent → Sent → Type 0) (n : ℕ) (m : Memory) (x y : 
   pub lone : Lone R (λ p q. p ≡ q) n m x y xs ys
   pub workloads : callOn n m x .workloads ≡ callOn n m y .workloads
 
--- later only assignments of the job with serial k differ, in their workload; and of the workloads only that job's place
-pub record LoneMade (k : ℕ) (n : ℕ) (m : Memory) (x y : Call) (xs ys : List Call) : Type 0 where
-  pub lone : Lone (λ p q. p ≡ q) (ButAssigned k) n m x y xs ys
+-- later only assignments of the job with serial k at this hub differ, in their workload; and of the workloads only that job's place
+pub record LoneMade (hub : Bytes) (k : ℕ) (n : ℕ) (m : Memory) (x y : Call) (xs ys : List Call) : Type 0 where
+  pub lone : Lone (λ p q. p ≡ q) (ButAssigned (handle hub k)) n m x y xs ys
   pub workloads : Apart k (serverOf n (leaves n xs (callOn n m x .table) (callOn n m x .workloads))) (serverOf n (leaves n ys (callOn n m y .table) (callOn n m y .workloads)))
 
 -- the same events; whatever outputs are lent
@@ -79,9 +81,9 @@ same-events (All2.more e rest) = ap₂ {C = List Event} (λ (a : Event) (es : Li
 finer-equal : Finer (λ p q. p ≡ q)
 finer-equal p q e = subst (Like p) e (like-same p)
 
-finer-assigned : (k : ℕ) → Finer (ButAssigned k)
-finer-assigned k p q (Workloads.equal e) = finer-equal p q e
-finer-assigned k p q (Workloads.assigned uniq more e f l) = l
+finer-assigned : (h : Bytes) → Finer (ButAssigned h)
+finer-assigned h p q (Workloads.equal e) = finer-equal p q e
+finer-assigned h p q (Workloads.assigned uniq more e f l) = l
 
 finer-to : (P : ℕ → Type 0) → Finer (ButTo P)
 finer-to P p q (Copies.equal e) = finer-equal p q e
@@ -98,7 +100,7 @@ equal-answers : (as′ : List Answer) → All2 (Related (λ p q. p ≡ q)) as′
 equal-answers [] = All2.none
 equal-answers (a ∷ as′) = All2.more (one-answer a a refl) (equal-answers as′)
 
-related-but : {k : ℕ} {as′ bs : List Answer} → All2 (AgreeBut k) as′ bs → All2 (Related (ButAssigned k)) as′ bs
+related-but : {h : Bytes} {as′ bs : List Answer} → All2 (AgreeBut h) as′ bs → All2 (Related (ButAssigned h)) as′ bs
 related-but All2.none = All2.none
 related-but (All2.more a rest) = All2.more (record { number = a .number; sent = a .sent }) (related-but rest)
 
@@ -137,12 +139,12 @@ module _ (n : ℕ) (few : n ≤ 256) (t w : Bytes) (longTable : tableSize n ≤ 
       }
 
   -- the submission made the job with serial k
-  lone-made : (k : ℕ) → answer (x .event) s ≡ answer (y .event) s → Creates s (x .event) k → LoneMade k n held x y xs ys
+  lone-made : (k : ℕ) → answer (x .event) s ≡ answer (y .event) s → Creates s (x .event) k → LoneMade (s .table .hub) k n held x y xs ys
   unfolding performed
   lone-made k q c =
       let e : events xs ≡ events ys = same-events same in
       record {
-        lone = lone-by finer-equal (finer-assigned k) (one-answer _ _ q) (rw (← e) (related-but (lone-created a s k c (events xs))));
+        lone = lone-by finer-equal (finer-assigned (handle (s .table .hub) k)) (one-answer _ _ q) (rw (← e) (related-but (lone-created a s k c (events xs))));
         workloads = rw (follow-x, follow-y)
             (leaves-apart n (omega arith) t w longTable longWorkloads k (next (x .event) s) (next (y .event) s) (running-next n (x .event) s h) (running-next n (y .event) s h) (created-apart a s k c) xs ys e lxs lys);
       }
@@ -153,27 +155,27 @@ module _ (n : ℕ) (few : n ≤ 256) (t w : Bytes) (longTable : tableSize n ≤ 
 -- workload in assignments of the job that it made, which has the next serial
 pub data LaterCalls (s : Server) (n : ℕ) (m : Memory) (x y : Call) (xs ys : List Call) : Type 0 where
   made-none : ((k : ℕ) → ¬ Creates s (x .event) k) → LoneNow (λ p q. p ≡ q) n m x y xs ys → LaterCalls s n m x y xs ys
-  made-one : Creates s (x .event) (suc (s .table .last)) → LoneMade (suc (s .table .last)) n m x y xs ys → LaterCalls s n m x y xs ys
+  made-one : Creates s (x .event) (suc (s .table .last)) → LoneMade (s .table .hub) (suc (s .table .last)) n m x y xs ys → LaterCalls s n m x y xs ys
 
-module _ (n : ℕ) (few : n ≤ 256) (t w : Bytes) (longTable : tableSize n ≤ length t) (longWorkloads : workloadsSize ≤ length w) (before : List Call) (long : LongOutputs n before)
+module _ (n : ℕ) (few : n ≤ 256) (hub : Bytes) (good : isHubName hub ≡ true) (t w : Bytes) (longTable : tableSize n ≤ length t) (longWorkloads : workloadsSize ≤ length w) (before : List Call) (long : LongOutputs n before)
     (x y : Call) (a : Alike (x .event) (y .event)) (lx : outputSize n ≤ length (x .output)) (ly : outputSize n ≤ length (y .output))
     {xs ys : List Call} (same : SameEvents xs ys) (lxs : LongOutputs n xs) (lys : LongOutputs n ys) where
   -- what the calls before left, and the server that it holds
   abbrev pub left : Memory
-  left = leaves n before (make n t w .table) (make n t w .workloads)
+  left = leaves n before (make n hub t w .table) (make n hub t w .workloads)
 
   abbrev pub server : Server
-  server = after (start n) (events before)
+  server = after (start n hub) (events before)
 
-  left-is : left ≡ held n few t w longTable longWorkloads server (running-after n (events before)) x y a lx ly same lxs lys
+  left-is : left ≡ held n few t w longTable longWorkloads server (running-after n hub good (events before)) x y a lx ly same lxs lys
   left-is =
-      let h = history n t w longTable longWorkloads before long (omega arith) in
+      let h = history n hub good t w longTable longWorkloads before long (omega arith) in
       ap₂ {C = Memory} (λ (u v : Bytes). record { table = u; workloads = v }) (h .table) (h .workloads)
 
   now : {P : ℕ → Type 0} → OnlyTo P (x .event) (y .event) server → LoneNow (ButTo P) n left x y xs ys
   now {P} o =
       rw left-is
-      (lone-now n few t w longTable longWorkloads server (running-after n (events before)) x y a lx ly same lxs lys (finer-to P) (record { number = o .number; sent = o .sent }) (o .server))
+      (lone-now n few t w longTable longWorkloads server (running-after n hub good (events before)) x y a lx ly same lxs lys (finer-to P) (record { number = o .number; sent = o .sent }) (o .server))
 
   -- a submission: its own packets are equal, and later ones as said above
   pub submission-calls : {c : ℕ} → Submits (x .event) c → LaterCalls server n left x y xs ys
@@ -183,9 +185,9 @@ module _ (n : ℕ) (few : n ≤ 256) (t w : Bytes) (longTable : tableSize n ≤ 
     where
       by : answer (x .event) server ≡ answer (y .event) server → Later (x .event) (y .event) server → LaterCalls server n left x y xs ys
       by q (Abstract.made-none z e) =
-          made-none z (rw left-is (lone-now n few t w longTable longWorkloads server (running-after n (events before)) x y a lx ly same lxs lys finer-equal (one-answer _ _ q) e))
+          made-none z (rw left-is (lone-now n few t w longTable longWorkloads server (running-after n hub good (events before)) x y a lx ly same lxs lys finer-equal (one-answer _ _ q) e))
       by q (Abstract.made-one c f) =
-          made-one c (rw left-is (lone-made n few t w longTable longWorkloads server (running-after n (events before)) x y a lx ly same lxs lys _ q c))
+          made-one c (rw left-is (lone-made n few t w longTable longWorkloads server (running-after n hub good (events before)) x y a lx ly same lxs lys _ q c))
 
   -- any other event: only packets to those who may see its opaque bytes differ, the sender of an echo and the listeners of the job that a
   -- worker packet names; nothing differs later

@@ -10,8 +10,8 @@ use lib.ListN.{length, getD, length-append}
 use lib.Dec.{eqb, leb}
 use Rattle.octets.specs.Bytes.{Bytes, firstZero, zeroFree, bigEndian, numberAt}
 use Rattle.octets.proofs.Strings.{and-left, and-right, number-written}
-use Rattle.handle.specs.Handle.{handle, lap}
-use Rattle.handle.proofs.Handles.{handle-most, lap-zero-free}
+use Rattle.handle.specs.Handle.{handle}
+use Rattle.handle.proofs.Handles.{handle-bounded, handle-clean}
 use Rattle.packet.specs.Layout.{rulesOf, responseShape, separatorsOf}
 use Rattle.packet.specs.Arguments.{join}
 use Rattle.packet.specs.Packet.{packet, header, responses}
@@ -21,7 +21,7 @@ use Rattle.packet_laws.proofs.Separators.{Heads}
 use Rattle.packet_laws.proofs.Blindness.{Parted, parted-visible, parted-opaque, unhidden-visible, unhidden-opaque}
 use Rattle.server.specs.Sizes.{nameSize, uniqueSize}
 use Rattle.server.specs.Table.{Table, noFunction, noJob, functionAt, jobAt, live, queued}
-use Rattle.server.specs.Rules.{textWithin, storedNumber, together}
+use Rattle.server.specs.Rules.{textWithin, storedNumber, together, hubNamed}
 use Rattle.server.specs.Requests.{Event}
 use Rattle.server.specs.Events.{Send, plain, copy, assign}
 use Rattle.server.specs.Server.{Server, Sent, render, answer}
@@ -107,8 +107,9 @@ module _ (e : Event) (s : Server) where
 
 -- ---- assignments
 
--- the texts of an unfinished job have no zero byte, and it is short enough
+-- the hub has a name; the texts of an unfinished job have no zero byte, and it is short enough
 record Texts (t : Table) (p : ℕ) : Type 0 where
+  hub : hubNamed t ≡ true
   function : firstZero (functionAt t (jobAt t p .row .function) .name) ≡ length (functionAt t (jobAt t p .row .function) .name)
   unique : firstZero (jobAt t p .unique) ≡ length (jobAt t p .unique)
   small : together t (jobAt t p) ≤ 1022
@@ -122,35 +123,36 @@ texts n s h p i l =
     let f = functionAt t (j .row .function) .name in
     let u : textWithin uniqueSize (j .unique) && (storedNumber (j .numerator) && storedNumber (j .denominator)) ≡ true = implies-use (live (j .row)) _ (all-at _ (t .jobs) p noJob (o .texts) i) l in
     record {
+      hub = o .named;
       function = eqb-true _ _ (and-right (leb (length f) 32) (zeroFree f) (all-row (λ x. textWithin nameSize (x .name)) (t .functions) (j .row .function) noFunction (o .names) refl));
       unique = eqb-true _ _ (and-right (leb (length (j .unique)) 64) (zeroFree (j .unique)) (and-left (textWithin uniqueSize (j .unique)) _ u));
       small = leb-true _ 1022 (all-at (λ k. leb (together t k) 1022) (t .jobs) p noJob (o .sizes) i);
     }
 
-handle-clean : (n : ℕ) → firstZero (handle lap n) ≡ length (handle lap n)
-handle-clean n = eqb-true _ _ (lap-zero-free n)
-
 module _ (e : Event) (s : Server) (to p : ℕ) (x : Texts (s .table) p) where
+  no-zero : (n : ℕ) → firstZero (handle (s .table .hub) n) ≡ length (handle (s .table .hub) n)
+  no-zero n = eqb-true _ _ (handle-clean (s .table .hub) (x .hub) n)
+
   fits-assigned : (uniq : Bool) → Apt (render e s (assign uniq to p))
   unfolding render join rulesOf responseShape
   fits-assigned true =
       let t = s .table in
       let j = jobAt t p in
       let f = functionAt t (j .row .function) .name in
-      let m = handle-most lap (j .row .serial) in
+      let m = handle-bounded (t .hub) (x .hub) (j .row .serial) in
       apt-opaque (render e s (assign true to p)) (omega arith)
-      (rw (length-fit (j .row .size) (getD (s .workloads) p []), length-append (handle lap (j .row .serial)) (0 ∷ (f ++ (0 ∷ (j .unique ++ (0 ∷ []))))), length-append f (0 ∷ (j .unique ++ (0 ∷ []))), length-append (j .unique) (0 ∷ []))
+      (rw (length-fit (j .row .size) (getD (s .workloads) p []), length-append (handle (t .hub) (j .row .serial)) (0 ∷ (f ++ (0 ∷ (j .unique ++ (0 ∷ []))))), length-append f (0 ∷ (j .unique ++ (0 ∷ []))), length-append (j .unique) (0 ∷ []))
       (omega (arith, x .small)))
-      refl (Heads.more _ _ (handle-clean _) refl (Heads.more _ _ (x .function) refl (Heads.more _ _ (x .unique) refl Heads.none)))
+      refl (Heads.more _ _ (no-zero _) refl (Heads.more _ _ (x .function) refl (Heads.more _ _ (x .unique) refl Heads.none)))
   fits-assigned false =
       let t = s .table in
       let j = jobAt t p in
       let f = functionAt t (j .row .function) .name in
-      let m = handle-most lap (j .row .serial) in
+      let m = handle-bounded (t .hub) (x .hub) (j .row .serial) in
       apt-opaque (render e s (assign false to p)) (omega arith)
-      (rw (length-fit (j .row .size) (getD (s .workloads) p []), length-append (handle lap (j .row .serial)) (0 ∷ (f ++ (0 ∷ []))), length-append f (0 ∷ []))
+      (rw (length-fit (j .row .size) (getD (s .workloads) p []), length-append (handle (t .hub) (j .row .serial)) (0 ∷ (f ++ (0 ∷ []))), length-append f (0 ∷ []))
       (omega (arith, x .small)))
-      refl (Heads.more _ _ (handle-clean _) refl (Heads.more _ _ (x .function) refl Heads.none))
+      refl (Heads.more _ _ (no-zero _) refl (Heads.more _ _ (x .function) refl Heads.none))
 
 -- ---- every event
 

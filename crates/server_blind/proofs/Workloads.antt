@@ -3,18 +3,19 @@
 use Prim.Native.Nat.{ℕ, zero, suc}
 use native.Mathlib.Decide.{ℕ-discrete}
 use native.Mathlib.Omega.{arith}
-use mathlib.Core.Path.{_≡_, refl, ap, ap₂, sym, _∙_}
+use mathlib.Core.Path.{_≡_, refl, ap, ap₂, sym, _∙_, subst}
 use mathlib.Core.Bool.{Bool, true, false, not, cond}
 use mathlib.Core.List.{List, [], _∷_, _++_, map}
 use lib.ListN.{getD, drop, replicate}
 use lib.Dec.{eqb}
 use borrow.Author.Tests.{eqb-true, eqb-false}
 use Rattle.octets.specs.Bytes.{Bytes}
-use Rattle.handle.specs.Handle.{handle, lap}
+use Rattle.handle.specs.Handle.{handle}
+use Rattle.server_laws.proofs.Lengths.{hub-kept}
 use Rattle.packet.specs.Arguments.{join}
 use Rattle.lists.specs.Lists.{fit}
 use Rattle.server.specs.Sizes.{workloadSize}
-use Rattle.server.specs.Table.{Job, Table, noJob, jobAt}
+use Rattle.server.specs.Table.{Job, noJob, jobAt}
 use Rattle.server.specs.Requests.{Event}
 use Rattle.server.specs.Events.{Send, plain, copy, assign, Decision}
 use Rattle.server.specs.Server.{Server, Sent, Answer, opaqueOf, assignment, render, reworked, rework, decided, next, answer, answers}
@@ -85,21 +86,25 @@ pub record Apart (k : ℕ) (s r : Server) : Type 0 where
   pub table : s .table ≡ r .table
   pub workloads : Near k (s .table .jobs) (s .workloads) (r .workloads)
 
--- the same packet; or two assignments of the job, types 11 or 31, that differ in the workload alone
-pub data ButAssigned (k : ℕ) (p q : Sent) : Type 0 where
-  equal : p ≡ q → ButAssigned k p q
-  assigned : (uniq : Bool) (more : Bytes) → p .kind ≡ cond uniq 31 11 → p .shown ≡ handle lap k ++ (0 ∷ more) → Like p q → ButAssigned k p q
+-- the same packet; or two assignments of the job with this handle, types 11 or 31, that differ in the workload alone
+pub data ButAssigned (h : Bytes) (p q : Sent) : Type 0 where
+  equal : p ≡ q → ButAssigned h p q
+  assigned : (uniq : Bool) (more : Bytes) → p .kind ≡ cond uniq 31 11 → p .shown ≡ h ++ (0 ∷ more) → Like p q → ButAssigned h p q
 
 -- the same number, and packets the same but for assignments of the job
-pub record AgreeBut (k : ℕ) (a b : Answer) : Type 0 where
+pub record AgreeBut (h : Bytes) (a b : Answer) : Type 0 where
   pub number : a .number ≡ b .number
-  pub sent : All2 (ButAssigned k) (a .sent) (b .sent)
+  pub sent : All2 (ButAssigned h) (a .sent) (b .sent)
 
 module _ (k : ℕ) (e : Event) (s r : Server) (a : Apart k s r) where
+  -- the job's handle
+  abbrev its-handle : Bytes
+  its-handle = handle (s .table .hub) k
+
   decided-both : decided e s ≡ decided e r
   decided-both = decided-alike (alike-same e) s r (a .table)
 
-  render-but : (x : Send) → ButAssigned k (render e s x) (render e r x)
+  render-but : (x : Send) → ButAssigned its-handle (render e s x) (render e r x)
   unfolding render join
   render-but (plain to kind as′) = ButAssigned.equal refl
   render-but (copy to kind) = ButAssigned.equal refl
@@ -108,11 +113,11 @@ module _ (k : ℕ) (e : Event) (s r : Server) (a : Apart k s r) where
     | no n ↦ ButAssigned.equal (rw (near-at (a .workloads) p n, a .table))
   ]
 
-  renders-but : (xs : List Send) → All2 (ButAssigned k) (map (render e s) xs) (map (render e r) xs)
+  renders-but : (xs : List Send) → All2 (ButAssigned its-handle) (map (render e s) xs) (map (render e r) xs)
   renders-but [] = All2.none
   renders-but (x ∷ xs) = All2.more (render-but x) (renders-but xs)
 
-  pub answer-but : AgreeBut k (answer e s) (answer e r)
+  pub answer-but : AgreeBut its-handle (answer e s) (answer e r)
   unfolding answer
   answer-but = record {
     number = ap (λ (d : Decision). d .number) decided-both;
@@ -132,7 +137,9 @@ module _ (k : ℕ) (e : Event) (s r : Server) (a : Apart k s r) where
   }
 
 -- all that follows
-pub answers-but : (k : ℕ) (es : List Event) (s r : Server) → Apart k s r → All2 (AgreeBut k) (answers s es) (answers r es)
+pub answers-but : (k : ℕ) (es : List Event) (s r : Server) → Apart k s r → All2 (AgreeBut (handle (s .table .hub) k)) (answers s es) (answers r es)
 unfolding answers
 answers-but k [] s r a = All2.none
-answers-but k (e ∷ es) s r a = All2.more (answer-but k e s r a) (answers-but k es (next e s) (next e r) (next-apart k e s r a))
+answers-but k (e ∷ es) s r a =
+    All2.more (answer-but k e s r a)
+    (subst (λ (hub : Bytes). All2 (AgreeBut (handle hub k)) (answers (next e s) es) (answers (next e r) es)) (hub-kept e s) (answers-but k es (next e s) (next e r) (next-apart k e s r a)))

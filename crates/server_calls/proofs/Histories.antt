@@ -3,12 +3,14 @@
 -- layout and beyond the 32 workloads are those at the start. Assumes nothing.
 use Prim.Native.Nat.{ℕ, _≤_}
 use mathlib.Core.Path.{_≡_, refl, sym, ap, _∙_}
+use mathlib.Core.Bool.{true}
 use mathlib.Core.List.{List, [], _∷_}
 use native.Mathlib.Omega.{arith}
 use borrow.Author.Tests.{le-ltb}
 use lib.ListN.{length, drop, replicate}
 use Rattle.octets.specs.Bytes.{Bytes}
 use Rattle.octets.proofs.Laying.{put-start}
+use Rattle.handle.specs.Handle.{isHubName}
 use Rattle.lists.specs.Lists.{concat}
 use Rattle.server.specs.Sizes.{connectionCount, workloadsSize, outputSize}
 use Rattle.server.specs.Table.{fresh}
@@ -27,28 +29,28 @@ use Rattle.server_calls.proofs.Follows.{tableWith, workloadsWith, Runni
 
 -- ---- the start
 
-pub running-after : (n : ℕ) (es : List Event) → Running n (after (start n) es)
-running-after n es = record { shaped = shaped-after n es; rules = obeys-after n es }
+pub running-after : (n : ℕ) (hub : Bytes) → isHubName hub ≡ true → (es : List Event) → Running n (after (start n hub) es)
+running-after n hub good es = record { shaped = shaped-after n hub es; rules = obeys-after n hub good es }
 
-pub running-start : (n : ℕ) → Running n (start n)
+pub running-start : (n : ℕ) (hub : Bytes) → isHubName hub ≡ true → Running n (start n hub)
 unfolding after
-running-start n = running-after n []
+running-start n hub good = running-after n hub good []
 
 -- the workloads of the start are zeros
-start-zeros : (n : ℕ) → concat (start n .workloads) ≡ replicate workloadsSize 0
+start-zeros : (n : ℕ) (hub : Bytes) → concat (start n hub .workloads) ≡ replicate workloadsSize 0
 unfolding start
-start-zeros n = concat-zeros 1024 32
+start-zeros n hub = concat-zeros 1024 32
 
-start-table : (n : ℕ) → start n .table ≡ fresh n
+start-table : (n : ℕ) (hub : Bytes) → start n hub .table ≡ fresh n hub
 unfolding start
-start-table n = refl
+start-table n hub = refl
 
--- "making a fresh table": with long enough buffers the number is 0, and the buffers hold the start
-pub make-start : (n : ℕ) (t w : Bytes) → tableSize n ≤ length t → workloadsSize ≤ length w
-    → _≡_ {A = Made} (make n t w) (record { number = 0; table = tableWith (start n) t; workloads = workloadsWith (start n) w })
+-- "making a fresh table": with a hub's name and long enough buffers the number is 0, and the buffers hold the start
+pub make-start : (n : ℕ) (hub : Bytes) → isHubName hub ≡ true → (t w : Bytes) → tableSize n ≤ length t → workloadsSize ≤ length w
+    → _≡_ {A = Made} (make n hub t w) (record { number = 0; table = tableWith (start n hub) t; workloads = workloadsWith (start n hub) w })
 unfolding make
-make-start n t w lt lw =
-    rw (le-ltb (length t) (tableSize n) lt, le-ltb (length w) workloadsSize lw, start-table n, start-zeros n)
+make-start n hub good t w lt lw =
+    rw (le-ltb (length t) (tableSize n) lt, le-ltb (length w) workloadsSize lw, good, start-table n hub, start-zeros n hub)
 
 -- ---- histories
 
@@ -107,41 +109,41 @@ all-write n few (x ∷ xs) s h (All.more l ls) (Each.more a as′) =
 -- ---- from a fresh table
 
 -- what is made of the buffers t and w, and the calls on it
-pub record History (n : ℕ) (t w : Bytes) (xs : List Call) : Type 0 where
-  pub made : make n t w .number ≡ 0
-  pub says : Each Says xs (answers (start n) (events xs)) (calls n xs (make n t w .table) (make n t w .workloads))
-  pub neverOne : All (λ (r : Result). ¬ (r .number ≡ 1)) (calls n xs (make n t w .table) (make n t w .workloads))
-  pub table : leaves n xs (make n t w .table) (make n t w .workloads) .table ≡ tableWith (after (start n) (events xs)) t
-  pub workloads : leaves n xs (make n t w .table) (make n t w .workloads) .workloads ≡ workloadsWith (after (start n) (events xs)) w
+pub record History (n : ℕ) (hub t w : Bytes) (xs : List Call) : Type 0 where
+  pub made : make n hub t w .number ≡ 0
+  pub says : Each Says xs (answers (start n hub) (events xs)) (calls n xs (make n hub t w .table) (make n hub t w .workloads))
+  pub neverOne : All (λ (r : Result). ¬ (r .number ≡ 1)) (calls n xs (make n hub t w .table) (make n hub t w .workloads))
+  pub table : leaves n xs (make n hub t w .table) (make n hub t w .workloads) .table ≡ tableWith (after (start n hub) (events xs)) t
+  pub workloads : leaves n xs (make n hub t w .table) (make n hub t w .workloads) .workloads ≡ workloadsWith (after (start n hub) (events xs)) w
 
-module _ (n : ℕ) (t w : Bytes) (longTable : tableSize n ≤ length t) (longWorkloads : workloadsSize ≤ length w) (xs : List Call) (long : LongOutputs n xs) where
-  pub history : n ≤ 256 → History n t w xs
+module _ (n : ℕ) (hub : Bytes) (good : isHubName hub ≡ true) (t w : Bytes) (longTable : tableSize n ≤ length t) (longWorkloads : workloadsSize ≤ length w) (xs : List Call) (long : LongOutputs n xs) where
+  pub history : n ≤ 256 → History n hub t w xs
   history few =
-      let h = calls-follow n few t w longTable longWorkloads xs (start n) (running-start n) long in
-      let m = make-start n t w longTable longWorkloads in
+      let h = calls-follow n few t w longTable longWorkloads xs (start n hub) (running-start n hub good) long in
+      let m = make-start n hub good t w longTable longWorkloads in
       record {
         made = ap (λ (x : Made). x .number) m;
         says = rw m (h .says);
-        neverOne = rw m (none-one xs (start n) (h .says));
+        neverOne = rw m (none-one xs (start n hub) (h .says));
         table = rw m (h .table);
         workloads = rw m (h .workloads);
       }
 
   -- every output holds its packets whole, and is unchanged beyond them
-  pub history-writes : n ≤ 256 → Each Writes xs (answers (start n) (events xs)) (calls n xs (make n t w .table) (make n t w .workloads))
-  history-writes few = all-write n few xs (start n) (running-start n) long (history (omega arith) .says)
+  pub history-writes : n ≤ 256 → Each Writes xs (answers (start n hub) (events xs)) (calls n xs (make n hub t w .table) (make n hub t w .workloads))
+  history-writes few = all-write n few xs (start n hub) (running-start n hub good) long (history (omega arith) .says)
 
   -- "Bytes of table and workloads beyond what the layout uses are never written"
-  pub beyond-table : n ≤ 256 → drop (tableSize n) (leaves n xs (make n t w .table) (make n t w .workloads) .table) ≡ drop (tableSize n) t
+  pub beyond-table : n ≤ 256 → drop (tableSize n) (leaves n xs (make n hub t w .table) (make n hub t w .workloads) .table) ≡ drop (tableSize n) t
   beyond-table few =
-      let s = after (start n) (events xs) in
-      ap (drop (tableSize n)) (history few .table) ∙ drop-put (tableSize n) (bytesOf (s .table)) t (omega (arith, length-table n few s (running-after n (events xs))))
+      let s = after (start n hub) (events xs) in
+      ap (drop (tableSize n)) (history few .table) ∙ drop-put (tableSize n) (bytesOf (s .table)) t (omega (arith, length-table n few s (running-after n hub good (events xs))))
 
-  pub beyond-workloads : n ≤ 256 → drop workloadsSize (leaves n xs (make n t w .table) (make n t w .workloads) .workloads) ≡ drop workloadsSize w
+  pub beyond-workloads : n ≤ 256 → drop workloadsSize (leaves n xs (make n hub t w .table) (make n hub t w .workloads) .workloads) ≡ drop workloadsSize w
   beyond-workloads few =
-      let s = after (start n) (events xs) in
-      ap (drop workloadsSize) (history few .workloads) ∙ drop-put workloadsSize (concat (s .workloads)) w (omega (arith, length-workloads n few s (running-after n (events xs))))
+      let s = after (start n hub) (events xs) in
+      ap (drop workloadsSize) (history few .workloads) ∙ drop-put workloadsSize (concat (s .workloads)) w (omega (arith, length-workloads n few s (running-after n hub good (events xs))))
 
 -- the product's number of connections, and its sizes of table and workloads
-pub product-history : (t w : Bytes) → tableSize connectionCount ≤ length t → workloadsSize ≤ length w → (xs : List Call) → LongOutputs connectionCount xs → History connectionCount t w xs
-product-history t w lt lw xs l = history connectionCount t w lt lw xs l (omega arith)
+pub product-history : (hub : Bytes) → isHubName hub ≡ true → (t w : Bytes) → tableSize connectionCount ≤ length t → workloadsSize ≤ length w → (xs : List Call) → LongOutputs connectionCount xs → History connectionCount hub t w xs
+product-history hub good t w lt lw xs l = history connectionCount hub good t w lt lw xs l (omega arith)

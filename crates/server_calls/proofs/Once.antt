@@ -25,5 +25,5 @@ call-once n e t w o r q p g =
     }
 
 -- so for making a fresh table
-pub make-once : (n : ℕ) (t w : Bytes) (r q : Made) → r ≡ make n t w → q ≡ make n t w → r ≡ q
-make-once n t w r q p g = p ∙ sym g
+pub make-once : (n : ℕ) (hub t w : Bytes) (r q : Made) → r ≡ make n hub t w → q ≡ make n hub t w → r ≡ q
+make-once n hub t w r q p g = p ∙ sym g

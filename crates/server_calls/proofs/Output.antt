@@ -12,15 +12,15 @@ use lib.ListN.{length, getD, length-append}
 use lib.Dec.{leb, eqb}
 use Rattle.octets.specs.Bytes.{Bytes, same}
 use Rattle.octets.proofs.Strings.{same-is}
-use Rattle.handle.specs.Handle.{handle, lap}
-use Rattle.handle.proofs.Handles.{handle-most}
+use Rattle.handle.specs.Handle.{handle}
+use Rattle.handle.proofs.Handles.{handle-bounded}
 use Rattle.packet.specs.Arguments.{join}
 use Rattle.sets.specs.Sets.{has, members}
 use Rattle.lists.specs.Lists.{filter, numbers}
 use Rattle.server.specs.Sizes.{outputSize}
 use Rattle.server.specs.declared.JobRow.{JobRow}
 use Rattle.server.specs.Table.{Table, noJob, connectionAt, functionAt, jobAt, rowsOf, ablesOf, setJob, hasHandle, jobOf}
-use Rattle.server.specs.Rules.{together}
+use Rattle.server.specs.Rules.{together, hubNamed}
 use Rattle.server.specs.Refusals.{refusalTexts, isTold}
 use Rattle.server.specs.Requests.{Event, sends, Work, Request, echo, work, requestIn}
 use Rattle.server.specs.Events.{Send, plain, copy, assign, Decision, refuse, settle, dropped, wakes, toWake, noop, created, exceptionsName, flag, hears, failure, toListener, toListeners, listenersOf, worked, statusAt, silence, toWakeIn}
@@ -71,57 +71,57 @@ module _ (e : Event) (s : Server) where
   copy-weight to kind h = rw (weigh-more e s (copy to kind) [], weigh-none e s) (omega arith)
 
   -- one packet to each listener: the copy, or WORK_FAIL with the handle
-  listeners-weight : (how : Work) (kind : ℕ) (r : JobRow) (ls : List ℕ) → length (shownBy e) + length (opaqueOf e) ≤ 1024 → weighs e s (map (toListener how kind (s .table) r) ls) ≤ 1037 * length ls
+  listeners-weight : hubNamed (s .table) ≡ true → (how : Work) (kind : ℕ) (r : JobRow) (ls : List ℕ) → length (shownBy e) + length (opaqueOf e) ≤ 1024 → weighs e s (map (toListener how kind (s .table) r) ls) ≤ 1037 * length ls
   unfolding render join
-  listeners-weight how kind r [] h = rw (weigh-none e s) (omega arith)
-  listeners-weight how kind r (l ∷ ls) h =
-      let rest = listeners-weight how kind r ls h in
-      let m = handle-most lap (r .serial) in
+  listeners-weight good how kind r [] h = rw (weigh-none e s) (omega arith)
+  listeners-weight good how kind r (l ∷ ls) h =
+      let rest = listeners-weight good how kind r ls h in
+      let m = handle-bounded (s .table .hub) good (r .serial) in
       cond-both (λ (x : Send). weighs e s (x ∷ map (toListener how kind (s .table) r) ls) ≤ 1037 * suc (length ls)) (hears how (s .table) l)
-      (rw (weigh-more e s (copy l kind) _, mul-suc) (omega arith)) (rw (weigh-more e s (failure (r .serial) l) _, mul-suc) (omega arith))
+      (rw (weigh-more e s (copy l kind) _, mul-suc) (omega arith)) (rw (weigh-more e s (failure (s .table .hub) (r .serial) l) _, mul-suc) (omega arith))
 
-  -- a job's handle, function, unique and workload
-  assign-weight : (uniq : Bool) (to p : ℕ) → together (s .table) (jobAt (s .table) p) ≤ 1022 → weighs e s (assign uniq to p ∷ []) ≤ 1054
+  -- a job's handle, function, unique and workload: 1,053 bytes at the most
+  assign-weight : hubNamed (s .table) ≡ true → (uniq : Bool) (to p : ℕ) → together (s .table) (jobAt (s .table) p) ≤ 1022 → weighs e s (assign uniq to p ∷ []) ≤ 13 + 1053
   unfolding render join
-  assign-weight true to p h =
+  assign-weight good true to p h =
       let t = s .table in
       let j = jobAt t p in
       let f = functionAt t (j .row .function) .name in
-      let m = handle-most lap (j .row .serial) in
+      let m = handle-bounded (t .hub) good (j .row .serial) in
       rw (
         weigh-more e s (assign true to p) [],
         weigh-none e s,
         length-fit (j .row .size) (getD (s .workloads) p []),
-        length-append (handle lap (j .row .serial)) (0 ∷ (f ++ (0 ∷ (j .unique ++ (0 ∷ []))))),
+        length-append (handle (t .hub) (j .row .serial)) (0 ∷ (f ++ (0 ∷ (j .unique ++ (0 ∷ []))))),
         length-append f (0 ∷ (j .unique ++ (0 ∷ []))),
         length-append (j .unique) (0 ∷ []),
       )
       (omega arith)
-  assign-weight false to p h =
+  assign-weight good false to p h =
       let t = s .table in
       let j = jobAt t p in
       let f = functionAt t (j .row .function) .name in
-      let m = handle-most lap (j .row .serial) in
+      let m = handle-bounded (t .hub) good (j .row .serial) in
       rw (
         weigh-more e s (assign false to p) [],
         weigh-none e s,
         length-fit (j .row .size) (getD (s .workloads) p []),
-        length-append (handle lap (j .row .serial)) (0 ∷ (f ++ (0 ∷ []))),
+        length-append (handle (t .hub) (j .row .serial)) (0 ∷ (f ++ (0 ∷ []))),
         length-append f (0 ∷ []),
       )
       (omega arith)
 
   -- a status: the handle, two flags and two numbers
-  status-weight : (to : ℕ) (h : Bytes) (f g : Bool) (n d : Bytes) → length h ≤ 1024 → length n ≤ 10 → length d ≤ 10 → weighs e s (plain to 20 (h ∷ flag f ∷ flag g ∷ n ∷ d ∷ []) ∷ []) ≤ 1063
+  status-weight : (to : ℕ) (h : Bytes) (f g : Bool) (n d : Bytes) → length h ≤ 1024 → length n ≤ 10 → length d ≤ 10 → weighs e s (plain to 20 (h ∷ flag f ∷ flag g ∷ n ∷ d ∷ []) ∷ []) ≤ 1066
   unfolding join
   status-weight to h f g n d lh ln ld =
       rw (plain-weight to 20 (h ∷ flag f ∷ flag g ∷ n ∷ d ∷ []), length-append h (0 ∷ (flag f ++ (0 ∷ (flag g ++ (0 ∷ (n ++ (0 ∷ d))))))), length-append n (0 ∷ d)) (omega arith)
 
-  created-weight : (to serial : ℕ) → weighs e s (created to serial ∷ []) ≤ 1063
+  created-weight : hubNamed (s .table) ≡ true → (to serial : ℕ) → weighs e s (created (s .table .hub) to serial ∷ []) ≤ 1066
   unfolding join
-  created-weight to serial = rw (plain-weight to 8 (handle lap serial ∷ [])) (omega (arith, handle-most lap serial))
+  created-weight good to serial = rw (plain-weight to 8 (handle (s .table .hub) serial ∷ [])) (omega (arith, handle-bounded (s .table .hub) good serial))
 
-  option-weight : (to : ℕ) (name : Bytes) → same name exceptionsName ≡ true → weighs e s (plain to 27 (name ∷ []) ∷ []) ≤ 1063
+  option-weight : (to : ℕ) (name : Bytes) → same name exceptionsName ≡ true → weighs e s (plain to 27 (name ∷ []) ∷ []) ≤ 1066
   unfolding join
   option-weight to name q = rw (plain-weight to 27 (name ∷ []), same-is name exceptionsName q) (omega arith)
 
@@ -135,7 +135,7 @@ module _ (e : Event) (s : Server) where
 
 module _ (n : ℕ) (few : n ≤ 256) (e : Event) (s : Server) (h : Running n s) where
   -- the end of an event adds at most one NOOP for each connection
-  settled-weight : (ss : List Send) (u : Table) → decided e s ≡ settle ss u → weighs e s ss ≤ 1063 → weighs e s (settle ss u .packets) ≤ outputSize n
+  settled-weight : (ss : List Send) (u : Table) → decided e s ≡ settle ss u → weighs e s ss ≤ 1066 → weighs e s (settle ss u .packets) ≤ outputSize n
   unfolding settle dropped
   settled-weight ss u q l =
       let a = long-settle ss u .connections in
@@ -148,8 +148,12 @@ module _ (n : ℕ) (few : n ≤ 256) (e : Event) (s : Server) (h : Running n s) 
   silent-weight : (u : Table) → decided e s ≡ settle [] u → weighs e s (settle [] u .packets) ≤ outputSize n
   silent-weight u q = settled-weight [] u q (rw (weigh-none e s) (omega arith))
 
-  one-weight : (x : Send) (u : Table) → decided e s ≡ settle (x ∷ []) u → weighs e s (x ∷ []) ≤ 1063 → weighs e s (settle (x ∷ []) u .packets) ≤ outputSize n
+  one-weight : (x : Send) (u : Table) → decided e s ≡ settle (x ∷ []) u → weighs e s (x ∷ []) ≤ 1066 → weighs e s (settle (x ∷ []) u .packets) ≤ outputSize n
   one-weight x u q l = settled-weight (x ∷ []) u q (omega arith)
+
+  -- the hub has a name
+  named : hubNamed (s .table) ≡ true
+  named = obeyed (s .table) (h .rules) .sound .named
 
   job-together : (p : ℕ) → p < length (s .table .jobs) → together (s .table) (jobAt (s .table) p) ≤ 1022
   job-together p i = leb-true _ 1022 (all-at (λ j. leb (together (s .table) j) 1022) (s .table .jobs) p noJob (obeyed (s .table) (h .rules) .sound .sizes) i)
@@ -163,7 +167,7 @@ module _ (n : ℕ) (few : n ≤ 256) (e : Event) (s : Server) (h : Running n s) 
       let r = jobAt t p .row in
       let ls = listenersOf t r in
       let b = length-members (length (t .connections)) (r .listeners) in
-      let c = listeners-weight e s how kind r ls q in
+      let c = listeners-weight e s named how kind r ls q in
       let k = h .shaped .connections in
       rw (worker-wakes-nobody t p how x y (obeyed t (h .rules) .idle), weigh-append e s (map (toListener how kind t r) ls) [], weigh-none e s) (omega arith)
 
@@ -173,7 +177,7 @@ module _ (n : ℕ) (few : n ≤ 256) (e : Event) (s : Server) (h : Running n s) 
   status-at-weight c j none f l q = one-weight _ (s .table) q (status-weight e s c j false false (flag false) (flag false) l (omega arith) (omega arith))
   status-at-weight c j (some p) f l q =
       let t = s .table in
-      let i : p < length (t .jobs) = found (λ k. hasHandle j (k .row)) noJob (t .jobs) (some p) f .inside in
+      let i : p < length (t .jobs) = found (λ k. hasHandle (t .hub) j (k .row)) noJob (t .jobs) (some p) f .inside in
       let g = fitting n (omega arith) s h .jobs p (omega (arith, h .shaped .jobs)) in
       one-weight _ t q (status-weight e s c j true (not (eqb (jobAt t p .row .holder) 0)) (jobAt t p .numerator) (jobAt t p .denominator) l (g .numerator .within) (g .denominator .within))
 
@@ -192,9 +196,9 @@ module _ (n : ℕ) (few : n ≤ 256) (s : Server) (h : Running n s) where
   served-weight c b p q (Served.done a ss u Change.slept) = silent-weight n few (sends c b) s h _ q
   served-weight c b p q (Served.done a ss u (Change.noJobFor uniq r)) = one-weight n few (sends c b) s h _ _ q (rw (plain-weight (sends c b) s c 10 []) (omega arith))
   served-weight c b p q (Served.done a ss u (Change.grabbed uniq k r)) =
-      one-weight n few (sends c b) s h _ _ q (omega (arith, assign-weight (sends c b) s uniq c k (job-together n few (sends c b) s h k (best-found (s .table) c k r .0))))
-  served-weight c b p q (Served.done a ss u (Change.joins priority background f v size k r)) = one-weight n few (sends c b) s h _ _ q (created-weight (sends c b) s c _)
-  served-weight c b p q (Served.done a ss u (Change.accepts priority background f v size k m r₁ r₂ r₃ i)) = one-weight n few (sends c b) s h _ _ q (created-weight (sends c b) s c _)
+      one-weight n few (sends c b) s h _ _ q (omega (arith, assign-weight (sends c b) s (named n few (sends c b) s h) uniq c k (job-together n few (sends c b) s h k (best-found (s .table) c k r .0))))
+  served-weight c b p q (Served.done a ss u (Change.joins priority background f v size k r)) = one-weight n few (sends c b) s h _ _ q (created-weight (sends c b) s (named n few (sends c b) s h) c _)
+  served-weight c b p q (Served.done a ss u (Change.accepts priority background f v size k m r₁ r₂ r₃ i)) = one-weight n few (sends c b) s h _ _ q (created-weight (sends c b) s (named n few (sends c b) s h) c _)
   served-weight c b p q (Served.done a ss u (Change.worker how kind j x y k r)) = worker-weight n few (sends c b) s h how kind x y k (data-short c b (work how kind j x y) p refl)
   served-weight c b p q (Served.done a ss u (Change.status j o r)) = status-at-weight n few (sends c b) s h c j o r (handle-short b j p) q
   served-weight c b p q (Served.done a ss u (Change.optioned name r)) = one-weight n few (sends c b) s h _ _ q (option-weight (sends c b) s c name r)

@@ -2,9 +2,8 @@
 -- Assumes nothing.
 use Prim.Native.Nat.{ℕ, _<_}
 use mathlib.Core.Path.{_≡_, refl, ap}
-use mathlib.Core.Bool.{Bool, true, false, not}
-use mathlib.Core.List.{List, [], _∷_, map}
-use native.Mathlib.Omega.{arith}
+use mathlib.Core.Bool.{true, false, not}
+use mathlib.Core.List.{[], _∷_, map}
 use lib.ListN.{List·getD-eq-default}
 use Rattle.octets.specs.Bytes.{Bytes, same}
 use Rattle.lists.specs.Lists.{numbers}
@@ -13,7 +12,7 @@ use Rattle.server.specs.Refusals.{refusalTexts, lastNumber, isTold}
 use Rattle.server.specs.Layout.{tableSize}
 
 -- 01: "the table (at most 8,192 bytes ..), the workloads (at least 32,768 bytes ..) and the output (at least 16,592)"
-pub lent-sizes : tableSize connectionCount ∷ workloadsSize ∷ outputSize connectionCount ∷ [] ≡ 4820 ∷ 32768 ∷ 16592 ∷ []
+pub lent-sizes : tableSize connectionCount ∷ workloadsSize ∷ outputSize connectionCount ∷ [] ≡ 4836 ∷ 32768 ∷ 16592 ∷ []
 lent-sizes = refl
 
 -- 01: "1 to 8 write nothing [..]. 9 to 15 write one ERROR packet to the sender"; 0 is done

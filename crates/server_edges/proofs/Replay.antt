@@ -3,6 +3,7 @@ use mathlib.Core.Path.{_≡_, refl}
 use mathlib.Core.List.{List, [], _∷_}
 use lib.ListN.{replicate}
 use Rattle.octets.specs.Bytes.{Bytes}
+use Rattle.handle.specs.Handle.{lap}
 use Rattle.server.specs.Requests.{Event, opens}
 use Rattle.server.proofs.Histories.{request, response, numbersOf, packetsOf}
 
@@ -33,12 +34,12 @@ replay =
     ∷ request 1 13 (first′ ∷ tset ∷ [])  -- WORK_COMPLETE
     ∷ []
 
-pub replay-numbers : numbersOf replay ≡ replicate 8 0
+pub replay-numbers : numbersOf lap replay ≡ replicate 8 0
 unfolding numbersOf replay
 replay-numbers = refl
 
 pub replay-packets :
-    packetsOf replay ≡ []
+    packetsOf lap replay ≡ []
     ∷ []
     ∷ []
     ∷ (response 1 10 [] ∷ [])  -- NO_JOB

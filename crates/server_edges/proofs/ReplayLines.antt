@@ -7,6 +7,7 @@ use Rattle.octets.specs.Bytes.{Bytes, text}
 use Rattle.hex.specs.Hex.{unhex, hex}
 use Rattle.lines.specs.Text.{linesFrom}
 use Rattle.packet.specs.Packet.{packet}
+use Rattle.handle.specs.Handle.{lap}
 use Rattle.server.specs.Sizes.{connectionCount}
 use Rattle.server.specs.Server.{start}
 use Rattle.server.specs.Replay.{frame, answerLines, replayFrom, replayOf}
@@ -86,6 +87,6 @@ unfolding computed
 no-packet-bytes = refl
 
 -- "At most 2,080 digits": a packet of 1,038 bytes on a connection that isn't open; then one digit more, and two
-pub longest-line : replayFrom (start connectionCount) ((text "0300" ++ replicate 2076 48) ∷ (text "0300" ++ replicate 2077 48) ∷ (text "0300" ++ replicate 2078 48) ∷ []) ≡ text "03\n10\n10\n"
+pub longest-line : replayFrom (start connectionCount lap) ((text "0300" ++ replicate 2076 48) ∷ (text "0300" ++ replicate 2077 48) ∷ (text "0300" ++ replicate 2078 48) ∷ []) ≡ text "03\n10\n10\n"
 unfolding computed
 longest-line = refl

@@ -61,7 +61,7 @@ endsJob throws = true
 -- the job at place p is gone: its holder ended it by a packet with its handle, or a connection closed and nobody is left who waits for it
 pub data Gone (t : Table) (p : ℕ) : Event → Type 0 where
   ended-by : (c : ℕ) (b : Bytes) (how : Work) (kind : ℕ) (h n d : Bytes) → Stands t c true → requestIn b ≡ work how kind h n d → endsJob how ≡ true
-      → holdsHandle c h (jobAt t p .row) ≡ true → Gone t p (sends c b)
+      → holdsHandle (t .hub) c h (jobAt t p .row) ≡ true → Gone t p (sends c b)
   dropped-by : (c : ℕ) → Stands t c true → lost (leftBy c (jobAt t p) .row) ≡ true → Gone t p (closes c)
 
 -- what stands there afterwards has another serial, or none
@@ -72,8 +72,8 @@ gone-by {t} {p = p} l n (joins c b priority background f u size o q r) = absurd 
 gone-by l n (taken c b uniq o q r) = absurd (n refl)
 gone-by l n (told c b tells kind h x y o q r) = absurd (n refl)
 gone-by l n (told c b reports kind h x y o q r) = absurd (n refl)
-gone-by {t} {p = p} l n (told c b ends kind h x y o q r) = ended-by c b ends kind h x y o q refl (found (λ j. holdsHandle c h (j .row)) noJob (t .jobs) (some p) r .passes)
-gone-by {t} {p = p} l n (told c b throws kind h x y o q r) = ended-by c b throws kind h x y o q refl (found (λ j. holdsHandle c h (j .row)) noJob (t .jobs) (some p) r .passes)
+gone-by {t} {p = p} l n (told c b ends kind h x y o q r) = ended-by c b ends kind h x y o q refl (found (λ j. holdsHandle (t .hub) c h (j .row)) noJob (t .jobs) (some p) r .passes)
+gone-by {t} {p = p} l n (told c b throws kind h x y o q r) = ended-by c b throws kind h x y o q refl (found (λ j. holdsHandle (t .hub) c h (j .row)) noJob (t .jobs) (some p) r .passes)
 gone-by {t} {p = p} l n (left c o z) = absurd (n (left-serial c (jobAt t p)))
 gone-by l n (drops c o z) = dropped-by c o z
 

@@ -93,7 +93,7 @@ joined-inside t f u p e = found (joins (t .functions) f u) noJob (t .jobs) (some
 pub held-found : (t : Table) (c : ℕ) (h : Bytes) (p : ℕ) → heldJobOf t c h ≡ some p → live (jobAt t p .row) ≡ true
 unfolding holdsHandle
 held-found t c h p e =
-    and-left (live (jobAt t p .row)) _ (and-left (heldBy c (jobAt t p .row)) _ (found (λ j. holdsHandle c h (j .row)) noJob (t .jobs) (some p) e .passes))
+    and-left (live (jobAt t p .row)) _ (and-left (heldBy c (jobAt t p .row)) _ (found (λ j. holdsHandle (t .hub) c h (j .row)) noJob (t .jobs) (some p) e .passes))
 
 pub free-place : (t : Table) (p : ℕ) → freePlace t ≡ some p → (jobAt t p .row .serial ≡ 0) × (p < length (t .jobs))
 unfolding freeRow

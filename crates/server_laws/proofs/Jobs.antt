@@ -107,6 +107,7 @@ sound-jobs t {ks} g h =
       uniques = pairwise-kept uniquesApart (uniques-go t) g (h .uniques);
       ids = h .ids;
       bearers = h .bearers;
+      named = h .named;
       jobsKnown = all-kept _ _ (named-goes t) g (h .jobsKnown);
       ablesKnown = h .ablesKnown;
     }
@@ -180,6 +181,7 @@ sound-new t p j l n h =
           (all-by _ (t .jobs) noJob (λ i g. apart-by (jobAt t i) j (λ w. n .alone i g (turned w))));
       ids = h .ids;
       bearers = h .bearers;
+      named = h .named;
       jobsKnown = all-set _ (t .jobs) p j (h .jobsKnown) (implies-by (live (j .row)) _ (λ e. n .named));
       ablesKnown = h .ablesKnown;
     }

@@ -9,6 +9,7 @@ use borrow.Author.Tests.{lt-ltb, le-leb}
 use lib.ListN.{replicate, length-replicate}
 use lib.Dec.{leb}
 use Rattle.octets.specs.Bytes.{Bytes, same, firstZero}
+use Rattle.handle.specs.Handle.{isHubName}
 use Rattle.server.specs.Table.{Table, closed, noFunction, noJob, fresh, withLastSerial}
 use Rattle.server.specs.Requests.{Event, requestIn}
 use Rattle.server.specs.Events.{Send, Decision, silence, refuse, settle, dropped, woken, forgot, opening, closing}
@@ -64,10 +65,10 @@ fresh-idle t i zero = refl
 fresh-idle t i (suc n) = fresh-idle t (suc i) n
 
 -- whatever its last serial, if that fits into four bytes
-pub obeys-from : (n k : ℕ) → k < 2 ^ 32 → obeys (withLastSerial k (fresh n)) ≡ true
+pub obeys-from : (n : ℕ) (hub : Bytes) → isHubName hub ≡ true → (k : ℕ) → k < 2 ^ 32 → obeys (withLastSerial k (fresh n hub)) ≡ true
 unfolding fresh same firstZero
-obeys-from n k small =
-    let t = withLastSerial k (fresh n) in
+obeys-from n hub good k small =
+    let t = withLastSerial k (fresh n hub) in
     obeys-by t
     (record {
       sound =
@@ -87,6 +88,7 @@ obeys-from n k small =
             uniques = refl;
             ids = all-replicate (textWithin idSize) n [] refl;
             bearers = bearers-by t (λ c l. or-right (isOpen t c) _ (rw (replicate-default {A = Bytes} n c [])));
+            named = good;
             jobsKnown = refl;
             ablesKnown = refl;
           };
@@ -95,9 +97,9 @@ obeys-from n k small =
       idle = fresh-idle t 0 n;
     })
 
-pub obeys-fresh : (n : ℕ) → obeys (fresh n) ≡ true
+pub obeys-fresh : (n : ℕ) (hub : Bytes) → isHubName hub ≡ true → obeys (fresh n hub) ≡ true
 unfolding fresh
-obeys-fresh n = obeys-from n 0 (omega arith)
+obeys-fresh n hub good = obeys-from n hub good 0 (omega arith)
 
 -- ---- every history
 
@@ -111,21 +113,21 @@ next-obeys : (e : Event) (s : Server) → obeys (s .table) ≡ true → obeys (n
 unfolding next
 next-obeys e s h = obeys-kept e s h
 
-start-obeys : (n : ℕ) → obeys (start n .table) ≡ true
+start-obeys : (n : ℕ) (hub : Bytes) → isHubName hub ≡ true → obeys (start n hub .table) ≡ true
 unfolding start
-start-obeys n = obeys-fresh n
+start-obeys n hub good = obeys-fresh n hub good
 
-start-shaped : (n : ℕ) → Shaped n (start n)
+start-shaped : (n : ℕ) (hub : Bytes) → Shaped n (start n hub)
 unfolding start fresh
-start-shaped n = record { connections = length-replicate n closed; ids = length-replicate {A = Bytes} n []; functions = refl; jobs = refl; workloads = refl; whole = whole-workloads 32 }
+start-shaped n hub = record { connections = length-replicate n closed; ids = length-replicate {A = Bytes} n []; functions = refl; jobs = refl; workloads = refl; whole = whole-workloads 32 }
   where
     whole-workloads : (k : ℕ) → All Whole (replicate k (replicate 1024 0))
     whole-workloads zero = All.none
     whole-workloads (suc k) = All.more (length-replicate {A = ℕ} 1024 0) (whole-workloads k)
 
 -- document 01's table rules hold after any history from a fresh table
-pub obeys-after : (n : ℕ) (h : List Event) → obeys (after (start n) h .table) ≡ true
-obeys-after n h = throughout (λ s. obeys (s .table) ≡ true) next-obeys (start n) h (start-obeys n)
+pub obeys-after : (n : ℕ) (hub : Bytes) → isHubName hub ≡ true → (h : List Event) → obeys (after (start n hub) h .table) ≡ true
+obeys-after n hub good h = throughout (λ s. obeys (s .table) ≡ true) next-obeys (start n hub) h (start-obeys n hub good)
 
-pub shaped-after : (n : ℕ) (h : List Event) → Shaped n (after (start n) h)
-shaped-after n h = throughout (Shaped n) (shaped-kept n) (start n) h (start-shaped n)
+pub shaped-after : (n : ℕ) (hub : Bytes) (h : List Event) → Shaped n (after (start n hub) h)
+shaped-after n hub h = throughout (Shaped n) (shaped-kept n) (start n hub) h (start-shaped n hub)

@@ -1,4 +1,5 @@
--- No event changes how many connections, client ids, functions, jobs and workloads there are, nor a workload's 1,024 bytes. Assumes nothing.
+-- No event changes how many connections, client ids, functions, jobs and workloads there are, nor a workload's 1,024 bytes, nor the name of the
+-- hub. Assumes nothing.
 use Prim.Native.Nat.{ℕ, suc}
 use mathlib.Core.Path.{_≡_, refl, ap, _∙_}
 use mathlib.Core.Bool.{false}
@@ -11,53 +12,54 @@ use Rattle.server.specs.declared.JobRow.{JobRow}
 use Rattle.server.specs.Table.{Function, Job, Table, closed, functionAt, live, setConnection, setFunction, setId, setJob, withJobs, withLastSerial, withName}
 use Rattle.server.specs.Requests.{Event, Request}
 use Rattle.server.specs.Events.{Send, Decision, silence, refuse, settle, dropped, wokenIn, forgot, unlessLost, opening, closing, unable, leftBy, unableToAll, sleeping}
-use Rattle.server.specs.Server.{Server, reworked, rework, decided, next, opaqueOf}
+use Rattle.server.specs.Server.{Server, reworked, rework, decided, next, after, opaqueOf}
 use Rattle.lists.proofs.Lists.{length-fit}
 use Rattle.lists.proofs.Cases.{cond-both, All}
 use Rattle.server_laws.proofs.Outcome.{Change, Served, Outcome, outcome}
 use Rattle.lists.proofs.Rows.{length-mapFrom}
 
--- u has as many places as t
+-- u has as many places as t, and the same hub
 pub record AsLong (t u : Table) : Type 0 where
   pub connections : length (u .connections) ≡ length (t .connections)
   pub ids : length (u .ids) ≡ length (t .ids)
   pub functions : length (u .functions) ≡ length (t .functions)
   pub jobs : length (u .jobs) ≡ length (t .jobs)
+  pub hub : u .hub ≡ t .hub
 
 long-then : {t u v : Table} → AsLong t u → AsLong u v → AsLong t v
-long-then a b = record { connections = b .connections ∙ a .connections; ids = b .ids ∙ a .ids; functions = b .functions ∙ a .functions; jobs = b .jobs ∙ a .jobs }
+long-then a b = record { connections = b .connections ∙ a .connections; ids = b .ids ∙ a .ids; functions = b .functions ∙ a .functions; jobs = b .jobs ∙ a .jobs; hub = b .hub ∙ a .hub }
 
 -- ---- one list anew
 
 module _ (t : Table) where
   long-same : AsLong t t
-  long-same = record { connections = refl; ids = refl; functions = refl; jobs = refl }
+  long-same = record { connections = refl; ids = refl; functions = refl; jobs = refl; hub = refl }
 
   long-connection : (c : ℕ) (x : Connection) → AsLong t (setConnection t c x)
-  long-connection c x = record { connections = length-set (t .connections) c x; ids = refl; functions = refl; jobs = refl }
+  long-connection c x = record { connections = length-set (t .connections) c x; ids = refl; functions = refl; jobs = refl; hub = refl }
 
   long-id : (c : ℕ) (i : Bytes) → AsLong t (setId t c i)
-  long-id c i = record { connections = refl; ids = length-set (t .ids) c i; functions = refl; jobs = refl }
+  long-id c i = record { connections = refl; ids = length-set (t .ids) c i; functions = refl; jobs = refl; hub = refl }
 
   long-function : (q : ℕ) (x : Function) → AsLong t (setFunction t q x)
-  long-function q x = record { connections = refl; ids = refl; functions = length-set (t .functions) q x; jobs = refl }
+  long-function q x = record { connections = refl; ids = refl; functions = length-set (t .functions) q x; jobs = refl; hub = refl }
 
   long-job : (p : ℕ) (j : Job) → AsLong t (setJob t p j)
-  long-job p j = record { connections = refl; ids = refl; functions = refl; jobs = length-set (t .jobs) p j }
+  long-job p j = record { connections = refl; ids = refl; functions = refl; jobs = length-set (t .jobs) p j; hub = refl }
 
   long-unable : (c : ℕ) → AsLong t (unableToAll c t)
   unfolding unableToAll
-  long-unable c = record { connections = refl; ids = refl; functions = length-map (t .functions) (unable c); jobs = refl }
+  long-unable c = record { connections = refl; ids = refl; functions = length-map (t .functions) (unable c); jobs = refl; hub = refl }
 
   long-left : (c : ℕ) → AsLong t (withJobs (map (leftBy c) (t .jobs)) t)
-  long-left c = record { connections = refl; ids = refl; functions = refl; jobs = length-map (t .jobs) (leftBy c) }
+  long-left c = record { connections = refl; ids = refl; functions = refl; jobs = length-map (t .jobs) (leftBy c); hub = refl }
 
   long-last : {u : Table} {s : ℕ} → AsLong t u → AsLong t (withLastSerial s u)
-  long-last a = record { connections = a .connections; ids = a .ids; functions = a .functions; jobs = a .jobs }
+  long-last a = record { connections = a .connections; ids = a .ids; functions = a .functions; jobs = a .jobs; hub = a .hub }
 
 pub long-settle : (ss : List Send) (t : Table) → AsLong t (settle ss t .table)
 unfolding settle dropped wokenIn forgot
-long-settle ss t = record { connections = length-mapFrom _ 0 (t .connections); ids = refl; functions = length-mapFrom _ 0 (t .functions); jobs = length-map (t .jobs) unlessLost }
+long-settle ss t = record { connections = length-mapFrom _ 0 (t .connections); ids = refl; functions = length-mapFrom _ 0 (t .functions); jobs = length-map (t .jobs) unlessLost; hub = refl }
 
 -- ---- every event
 
@@ -96,6 +98,17 @@ long-outcome t (Outcome.serves c b d o r) = long-served c t r
 
 pub long-decided : (e : Event) (s : Server) → AsLong (s .table) (decided e s .table)
 long-decided e s = long-outcome (s .table) (outcome e s)
+
+-- ---- the name of the hub: 02, ask 5, "it stands in the table"
+
+pub hub-kept : (e : Event) (s : Server) → next e s .table .hub ≡ s .table .hub
+unfolding next
+hub-kept e s = long-decided e s .hub
+
+pub hub-after : (es : List Event) (s : Server) → after s es .table .hub ≡ s .table .hub
+unfolding after
+hub-after [] s = refl
+hub-after (e ∷ es) s = hub-after es (next e s) ∙ hub-kept e s
 
 -- ---- workloads
 

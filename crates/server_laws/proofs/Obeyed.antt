@@ -33,7 +33,7 @@ obeys-by t h =
     (and-both (rowsHaveMeaning t) _ (s .rows) (and-both (functionsDistinct t) _ (s .functions) (and-both (functionsAsDefined t) _ (h .defined)
     (and-both (abilitiesOpen t) _ (s .abilities) (and-both (listenersOpen t) _ (s .listeners) (and-both (holdersOpen t) _ (s .holders)
     (and-both (closedClear t) _ (s .clear) (and-both (queuedAwaited t) _ (h .awaited) (and-both (uniquesDistinct t) _ (s .uniques)
-    (and-both (sleepersIdle t) _ (h .idle) (and-both (idsWithin t) _ (s .ids) (s .bearers)))))))))))))))))
+    (and-both (sleepersIdle t) _ (h .idle) (and-both (idsWithin t) _ (s .ids) (and-both (idsOpen t) _ (s .bearers) (s .named))))))))))))))))))
 
 -- ---- functions as defined, by place
 
@@ -85,6 +85,7 @@ obeyed t e =
     let e15 = and-right (queuedAwaited t) _ e14 in
     let e16 = and-right (uniquesDistinct t) _ e15 in
     let e17 = and-right (sleepersIdle t) _ e16 in
+    let e18 = and-right (idsWithin t) _ e17 in
     let r = and-left (rowsHaveMeaning t) _ e7 in
     let d = and-left (functionsAsDefined t) _ e9 in
     record {
@@ -104,7 +105,8 @@ obeyed t e =
             clear = and-left (closedClear t) _ e13;
             uniques = and-left (uniquesDistinct t) _ e15;
             ids = and-left (idsWithin t) _ e17;
-            bearers = and-right (idsWithin t) _ e17;
+            bearers = and-left (idsOpen t) _ e18;
+            named = and-right (idsOpen t) _ e18;
             jobsKnown = jobs-named t d r;
             ablesKnown = ables-named t d;
           };

@@ -28,9 +28,9 @@ pub data Change (c : ℕ) (t : Table) : Request → List Send → Table → Type
   grabbed : (uniq : Bool) (p : ℕ) → best t c ≡ some p
       → Change c t (grab uniq) (assign uniq c p ∷ []) (setJob (sleeping false c t) p (withRow (withHolder (suc c) (jobAt (sleeping false c t) p .row)) (jobAt (sleeping false c t) p)))
   joins : (priority : ℕ) (background : Bool) (f u : Bytes) (size p : ℕ) → joined t f u ≡ some p
-      → Change c t (submit priority background f u size) (created c (jobAt t p .row .serial) ∷ []) (setJob t p (withRow (submittedBy c background (jobAt t p .row)) (jobAt t p)))
+      → Change c t (submit priority background f u size) (created (t .hub) c (jobAt t p .row .serial) ∷ []) (setJob t p (withRow (submittedBy c background (jobAt t p .row)) (jobAt t p)))
   accepts : (priority : ℕ) (background : Bool) (f u : Bytes) (size q p : ℕ) → joined t f u ≡ none → roomFor (t .functions) f ≡ some q → freePlace t ≡ some p → t .last < 4294967295
-      → Change c t (submit priority background f u size) (created c (suc (t .last)) ∷ []) (accepted q f p (newJob c priority background q u size (suc (t .last))) t)
+      → Change c t (submit priority background f u size) (created (t .hub) c (suc (t .last)) ∷ []) (accepted q f p (newJob c priority background q u size (suc (t .last))) t)
   worker : (how : Work) (kind : ℕ) (h n d : Bytes) (p : ℕ) → heldJobOf t c h ≡ some p
       → Change c t (work how kind h n d) (toListeners how kind t (jobAt t p .row)) (setJob t p (worked how n d (jobAt t p)))
   status : (h : Bytes) (o : Option ℕ) → jobOf t h ≡ o → Change c t (getStatus h) (plain c 20 (statusOf o h t) ∷ []) t

@@ -24,13 +24,13 @@ pub data Sends (t : Table) (last : ℕ) : Event → Send → Type 0 where
   no-job : (c : ℕ) (b : Bytes) (uniq : Bool) → requestIn b ≡ grab uniq → best t c ≡ none → Sends t last (sends c b) (plain c 10 [])
   the-job : (c : ℕ) (b : Bytes) (uniq : Bool) → requestIn b ≡ grab uniq → (p : ℕ) → best t c ≡ some p → Sends t last (sends c b) (assign uniq c p)
   handle-joined : (c : ℕ) (b : Bytes) (priority : ℕ) (background : Bool) (f u : Bytes) (size : ℕ) → requestIn b ≡ submit priority background f u size → (p : ℕ) → joined t f u ≡ some p
-      → Sends t last (sends c b) (created c (jobAt t p .row .serial))
+      → Sends t last (sends c b) (created (t .hub) c (jobAt t p .row .serial))
   handle-made : (c : ℕ) (b : Bytes) (priority : ℕ) (background : Bool) (f u : Bytes) (size : ℕ) → requestIn b ≡ submit priority background f u size → t .last < 4294967295 → last ≡ suc (t .last)
-      → Sends t last (sends c b) (created c (suc (t .last)))
+      → Sends t last (sends c b) (created (t .hub) c (suc (t .last)))
   a-copy : (c : ℕ) (b : Bytes) (how : Work) (kind : ℕ) (h n d : Bytes) → requestIn b ≡ work how kind h n d → (p : ℕ) → heldJobOf t c h ≡ some p
       → (l : ℕ) → has (jobAt t p .row .listeners) l ≡ true → hears how t l ≡ true → Sends t last (sends c b) (copy l kind)
   a-failure : (c : ℕ) (b : Bytes) (how : Work) (kind : ℕ) (h n d : Bytes) → requestIn b ≡ work how kind h n d → (p : ℕ) → heldJobOf t c h ≡ some p
-      → (l : ℕ) → has (jobAt t p .row .listeners) l ≡ true → hears how t l ≡ false → Sends t last (sends c b) (failure (jobAt t p .row .serial) l)
+      → (l : ℕ) → has (jobAt t p .row .listeners) l ≡ true → hears how t l ≡ false → Sends t last (sends c b) (failure (t .hub) (jobAt t p .row .serial) l)
   a-status : (c : ℕ) (b h : Bytes) → requestIn b ≡ getStatus h → (o : Option ℕ) → jobOf t h ≡ o → Sends t last (sends c b) (plain c 20 (statusOf o h t))
   an-option : (c : ℕ) (b name : Bytes) → requestIn b ≡ option name → same name exceptionsName ≡ true → Sends t last (sends c b) (plain c 27 (name ∷ []))
   an-echo : (c : ℕ) (b : Bytes) → requestIn b ≡ echo → Sends t last (sends c b) (copy c 17)
@@ -45,7 +45,7 @@ members-have (suc n) s = all-append (members-have n s) (cond-cases (All (λ (l :
 
 -- each gets the copy, or WORK_FAIL
 pub told-each : (how : Work) (kind : ℕ) (t : Table) (r : JobRow) {P : Send → Type 0} → ((l : ℕ) → has (r .listeners) l ≡ true → hears how t l ≡ true → P (copy l kind))
-    → ((l : ℕ) → has (r .listeners) l ≡ true → hears how t l ≡ false → P (failure (r .serial) l)) → All P (toListeners how kind t r)
+    → ((l : ℕ) → has (r .listeners) l ≡ true → hears how t l ≡ false → P (failure (t .hub) (r .serial) l)) → All P (toListeners how kind t r)
 unfolding toListeners
 told-each how kind t r {P} f g = all-map (toListener how kind t r) (λ l m. cond-cases P (hears how t l) (f l m) (g l m)) (members-have (length (t .connections)) (r .listeners))
 

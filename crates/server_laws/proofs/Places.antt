@@ -101,7 +101,7 @@ module _ {t : Table} {c : ℕ} {b : Bytes} where
   becomes o q (Change.accepts priority background f u size k i r₁ r₂ r₃ l) =
       let (z, m) = free-place t i r₃ in
       one-becomes i q (rw (r₁, r₂, r₃, lt-ltb (t .last) 4294967295 l)) m (begins c b priority background f u size k o q z r₁ r₂ r₃ l refl)
-  becomes o q (Change.worker how kind h n d i r) = one-becomes i q r (found (λ j. holdsHandle c h (j .row)) noJob (t .jobs) (some i) r .inside) (told c b how kind h n d o q r)
+  becomes o q (Change.worker how kind h n d i r) = one-becomes i q r (found (λ j. holdsHandle (t .hub) c h (j .row)) noJob (t .jobs) (some i) r .inside) (told c b how kind h n d o q r)
   becomes o q (Change.status h i r) = none-becomes q refl
   becomes o q (Change.optioned name r) = none-becomes q refl
   becomes o q Change.echoed = none-becomes q refl

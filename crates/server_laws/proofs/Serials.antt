@@ -45,7 +45,7 @@ pub record Makes (c : ℕ) (t : Table) (d : Decision) : Type 0 where
   pub new : jobAt (d .table) place .row .serial ≡ suc (t .last)
   pub only : (i : ℕ) → ¬ (i ≡ place) → Follows 0 (jobAt t i) (jobAt (d .table) i)
   pub sleepers : List ℕ
-  pub packets : d .packets ≡ created c (suc (t .last)) ∷ map noop sleepers
+  pub packets : d .packets ≡ created (t .hub) c (suc (t .last)) ∷ map noop sleepers
 
 pub data IsSubmit : Request → Type 0 where
   is-submit : {priority : ℕ} {background : Bool} {f u : Bytes} {size : ℕ} → IsSubmit (submit priority background f u size)
@@ -93,10 +93,10 @@ module _ {c : ℕ} {t : Table} (o : Stands t c true) (b : Bytes) where
 
   made : (priority : ℕ) (background : Bool) (f u : Bytes) (size i p : ℕ) → requestIn b ≡ submit priority background f u size
       → joined t f u ≡ none → roomFor (t .functions) f ≡ some i → freePlace t ≡ some p → t .last < 4294967295
-      → Makes c t (settle (created c (suc (t .last)) ∷ []) (accepted i f p (newJob c priority background i u size (suc (t .last))) t))
+      → Makes c t (settle (created (t .hub) c (suc (t .last)) ∷ []) (accepted i f p (newJob c priority background i u size (suc (t .last))) t))
   unfolding settle
   made priority background f u size i p q r₁ r₂ r₃ l =
-      let ss = created c (suc (t .last)) ∷ [] in
+      let ss = created (t .hub) c (suc (t .last)) ∷ [] in
       let row = freshRow (suc (t .last)) i priority size in
       let j : Job = newJob c priority background i u size (suc (t .last)) in
       let v = accepted i f p j t in
@@ -232,6 +232,6 @@ unfolding after
 small-after [] s h = h
 small-after (e ∷ es) s h = small-after es (next e s) (last-small s e h)
 
-pub last-below : (n : ℕ) (es : List Event) → after (start n) es .table .last < 2 ^ 32
+pub last-below : (n : ℕ) (hub : Bytes) (es : List Event) → after (start n hub) es .table .last < 2 ^ 32
 unfolding start fresh
-last-below n es = small-after es (start n) (omega arith)
+last-below n hub es = small-after es (start n hub) (omega arith)

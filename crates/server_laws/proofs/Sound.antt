@@ -15,7 +15,7 @@ use Rattle.server.specs.declared.Connection.{Connection}
 use Rattle.lists.specs.Lists.{all, implies}
 use Rattle.server.specs.Sizes.{nameSize}
 use Rattle.server.specs.Table.{Function, Job, Table, noFunction, noRow, noJob, functionAt, jobAt, live, withConnections, withIds, withFunctions}
-use Rattle.server.specs.Rules.{nextSmall, serialsBelow, serialsDistinct, textWithin, namesWithin, textsWithin, together, sizesWithin, numbersFree, rowIsFree, rowHasMeaning, rowsHaveMeaning, isKnown, functionsDistinct, abilitiesOpen, listenersOpen, holdersOpen, closedClear, uniquesDistinct, idsWithin, idsOpen}
+use Rattle.server.specs.Rules.{nextSmall, serialsBelow, serialsDistinct, textWithin, namesWithin, textsWithin, together, sizesWithin, numbersFree, rowIsFree, rowHasMeaning, rowsHaveMeaning, isKnown, functionsDistinct, abilitiesOpen, listenersOpen, holdersOpen, closedClear, uniquesDistinct, idsWithin, idsOpen, hubNamed}
 use Rattle.lists.proofs.Rows.{implies-by, implies-use, all-at, all-row, all-by, all-imp}
 use Rattle.server.proofs.Rows.{free-row}
 use Rattle.server_laws.proofs.Openness.{holder-more}
@@ -51,6 +51,7 @@ pub record Sound (t : Table) : Type 0 where
   pub uniques : uniquesDistinct t ≡ true
   pub ids : idsWithin t ≡ true
   pub bearers : idsOpen t ≡ true
+  pub named : hubNamed t ≡ true
   pub jobsKnown : jobsNamed t ≡ true
   pub ablesKnown : ablesNamed t ≡ true
 
@@ -75,6 +76,7 @@ sound-connections t cs long a l o c b h =
       uniques = h .uniques;
       ids = h .ids;
       bearers = b;
+      named = h .named;
       jobsKnown = h .jobsKnown;
       ablesKnown = h .ablesKnown;
     }
@@ -99,6 +101,7 @@ sound-ids t is w b h =
       uniques = h .uniques;
       ids = w;
       bearers = b;
+      named = h .named;
       jobsKnown = h .jobsKnown;
       ablesKnown = h .ablesKnown;
     }
@@ -163,6 +166,7 @@ module _ (t : Table) (fs : List Function) (long : length fs ≡ length (t .funct
         uniques = h .uniques;
         ids = h .ids;
         bearers = h .bearers;
+        named = h .named;
         jobsKnown = jobs-stay s h;
         ablesKnown = k;
       }

@@ -107,6 +107,6 @@ module _ (c : ℕ) (t : Table) (priority : ℕ) (background : Bool) (f u : Bytes
       go x l false e = rw e
 
   pub new-job-packets : joined t f u ≡ none → t .last < 4294967295
-      → served c (submit priority background f u size) t .packets ≡ created c (suc (t .last)) ∷ map noop (filter sleeperAble (numbers 0 (length (t .connections))))
+      → served c (submit priority background f u size) t .packets ≡ created (t .hub) c (suc (t .last)) ∷ map noop (filter sleeperAble (numbers 0 (length (t .connections))))
   unfolding served submitTo submitNew settle
   new-job-packets alone l = rw (alone, here, free, lt-ltb (t .last) 4294967295 l, new-job-wakes)

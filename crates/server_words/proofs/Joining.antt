@@ -39,11 +39,11 @@ module _ (t : Table) (c priority : ℕ) (background : Bool) (f u : Bytes) (size 
   inside = found (joins (t .functions) f u) noJob (t .jobs) (some p) here .inside
 
   -- JOB_CREATED with the job's own handle, and nothing else
-  pub join-quiet : Quiet (created c (jobAt t p .row .serial) ∷ []) (setJob t p joiner) answered
+  pub join-quiet : Quiet (created (t .hub) c (jobAt t p .row .serial) ∷ []) (setJob t p joiner) answered
   unfolding served submitTo
   join-quiet =
       rw here
-      (one-job-quiet t (obeyed t h .awaited) (obeyed t h .idle) p joiner inside (submitted-awaited c background (jobAt t p .row)) (joined-grabbable c background (jobAt t p)) (created c (jobAt t p .row .serial) ∷ []))
+      (one-job-quiet t (obeyed t h .awaited) (obeyed t h .idle) p joiner inside (submitted-awaited c background (jobAt t p .row)) (joined-grabbable c background (jobAt t p)) (created (t .hub) c (jobAt t p .row .serial) ∷ []))
 
   row-after : (i : ℕ) → jobAt (answered .table) i ≡ getD (set (t .jobs) p joiner) i noJob
   row-after i = ap (λ (js : List Job). getD js i noJob) (join-quiet .jobs)

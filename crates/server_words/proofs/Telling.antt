@@ -112,7 +112,7 @@ module _ (t : Table) (c : ℕ) (how : Work) (kind : ℕ) (job n d : Bytes) (p : 
   unfolding served workAt
   work-quiet =
       let o = obeyed t h in
-      let i : p < length (t .jobs) = found (λ j. holdsHandle c job (j .row)) noJob (t .jobs) (some p) here .inside in
+      let i : p < length (t .jobs) = found (λ j. holdsHandle (t .hub) c job (j .row)) noJob (t .jobs) (some p) here .inside in
       rw here
       (one-job-quiet t (o .awaited) (o .idle) p (worked how n d (jobAt t p)) i
       (worked-awaited how n d (jobAt t p) (all-at (λ j. awaited (j .row)) (t .jobs) p noJob (o .awaited) i)) (worked-grabbable how n d (jobAt t p)) (toListeners how kind t (jobAt t p .row)))
@@ -132,4 +132,4 @@ module _ (t : Table) (c : ℕ) (how : Work) (kind : ℕ) (job n d : Bytes) (p : 
 -- an exception of a job of which no listener has set the option: WORK_FAIL goes to all of them
 pub exception-fails : (t : Table) (kind : ℕ) (r : JobRow) → ((l : ℕ) → has (r .listeners) l ≡ true → connectionAt t l .exceptions ≡ false) → toListeners throws kind t r ≡ failures t r
 unfolding toListeners
-exception-fails t kind r f = map-members _ _ (length (t .connections)) (r .listeners) (λ l i m. ap (λ (b : Bool). cond b (copy l kind) (failure (r .serial) l)) (f l m))
+exception-fails t kind r f = map-members _ _ (length (t .connections)) (r .listeners) (λ l i m. ap (λ (b : Bool). cond b (copy l kind) (failure (t .hub) (r .serial) l)) (f l m))

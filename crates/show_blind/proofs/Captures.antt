@@ -1,11 +1,13 @@
 -- `show` shows no opaque byte: two captures whose lines differ in opaque bytes alone are shown by the same bytes. From a fresh table
--- for 16 connections. Assumes nothing.
+-- for 16 connections, of one hub: 02, "Demand 3 takes the names as equal." Assumes nothing.
 use Prim.Native.Nat.{ℕ, suc, _≤_}
 use mathlib.Core.Path.{_≡_, refl, ap, ap₂, sym, _∙_}
+use mathlib.Core.Bool.{true}
 use mathlib.Core.Option.{Option, none, some}
 use mathlib.Core.List.{List, [], _++_}
 use lib.ListN.{length}
 use Rattle.octets.specs.Bytes.{Bytes}
+use Rattle.handle.specs.Handle.{isHubName}
 use Rattle.server.specs.Sizes.{connectionCount, workloadsSize, outputSize}
 use Rattle.server.specs.Requests.{Event}
 use Rattle.server.specs.Table.{Table}
@@ -59,8 +61,11 @@ captures-alike (All2.more {a = l} {b = m} a rest) k s r p =
     ap₂ {C = Bytes} (λ (x y : Bytes). x ++ y) (spoken-alike s r p a k) (captures-alike rest (suc k) (serverAfter (frame l) s) (serverAfter (frame m) r) (pair-after s r p a))
 
 -- by the definitions
-pub show-blind : (ls ms : List Bytes) → All2 AlikeLines ls ms → answeredText ls (start connectionCount) ≡ answeredText ms (start connectionCount)
-show-blind ls ms a = captures-alike a 1 (start connectionCount) (start connectionCount) (record { first = running-start connectionCount; second = running-start connectionCount; tables = refl })
+pub show-blind : (hub : Bytes) → isHubName hub ≡ true → (ls ms : List Bytes) → All2 AlikeLines ls ms → answeredText ls (start connectionCount hub) ≡ answeredText ms (start connectionCount hub)
+show-blind hub good ls ms a =
+    let s = start connectionCount hub in
+    let h = running-start connectionCount hub good in
+    captures-alike a 1 s s (record { first = h; second = h; tables = refl })
 
 -- ---- on lent bytes
 
@@ -72,9 +77,9 @@ pub record Lent (t w o x : Bytes) : Type 0 where
   pub text : textSize ≤ length x
 
 -- by the code, from a fresh table in whatever bytes are lent to each
-pub shown-blind : (ls ms : List Bytes) → All2 AlikeLines ls ms → (t w o x : Bytes) → Lent t w o x → (u v p y : Bytes) → Lent u v p y
-    → shownText ls (make connectionCount t w .table) (make connectionCount t w .workloads) o x ≡ shownText ms (make connectionCount u v .table) (make connectionCount u v .workloads) p y
-shown-blind ls ms a t w o x h u v p y g =
-    show-text t w (h .table) (h .workloads) ls o x (h .output) (h .text)
-    ∙ show-blind ls ms a
-    ∙ sym (show-text u v (g .table) (g .workloads) ms p y (g .output) (g .text))
+pub shown-blind : (hub : Bytes) → isHubName hub ≡ true → (ls ms : List Bytes) → All2 AlikeLines ls ms → (t w o x : Bytes) → Lent t w o x → (u v p y : Bytes) → Lent u v p y
+    → shownText ls (make connectionCount hub t w .table) (make connectionCount hub t w .workloads) o x ≡ shownText ms (make connectionCount hub u v .table) (make connectionCount hub u v .workloads) p y
+shown-blind hub good ls ms a t w o x h u v p y g =
+    show-text hub good t w (h .table) (h .workloads) ls o x (h .output) (h .text)
+    ∙ show-blind hub good ls ms a
+    ∙ sym (show-text hub good u v (g .table) (g .workloads) ms p y (g .output) (g .text))

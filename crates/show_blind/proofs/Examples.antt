@@ -1,12 +1,14 @@
 -- Two captures that differ in the bytes of a workload and of an echo, computed: their lines are alike, so they are shown by the same
--- bytes. Assumes nothing.
+-- bytes, whatever the hub's name. Assumes nothing.
 use Prim.Native.Nat.{ℕ}
 use mathlib.Core.Path.{_≡_, refl, ap}
+use mathlib.Core.Bool.{true}
 use mathlib.Core.List.{List, [], _∷_}
 use native.Mathlib.Omega.{arith}
 use lib.ListN.{getD}
 use Rattle.octets.specs.Bytes.{Bytes, startsWith, firstZero}
 use Rattle.hex.specs.Hex.{unhex, hex}
+use Rattle.handle.specs.Handle.{isHubName}
 use Rattle.packet.specs.Layout.{rulesOf, requestShape}
 use Rattle.packet.specs.Packet.{requests, header, packet}
 use Rattle.packet.specs.Opaque.{hasZeros, past, hides, seen, visible, opaque}
@@ -48,5 +50,5 @@ unfolding compute
 captures-alike = All2.more (alike opening) (All2.more (alike (sending refl refl)) (All2.more (alike (sending refl refl)) (All2.more nothing All2.none)))
 
 -- they are shown by the same bytes
-captures-shown : answeredText (capture test) (start connectionCount) ≡ answeredText (capture zeros) (start connectionCount)
-captures-shown = show-blind (capture test) (capture zeros) captures-alike
+captures-shown : (hub : Bytes) → isHubName hub ≡ true → answeredText (capture test) (start connectionCount hub) ≡ answeredText (capture zeros) (start connectionCount hub)
+captures-shown hub good = show-blind hub good (capture test) (capture zeros) captures-alike

@@ -51,15 +51,15 @@ packets-alike (All2.more {a = p} {b = q} a rest) = ap₂ {C = Bytes} (λ (x y : 
 -- ---- the jobs, and the line
 
 module _ {ps qs : List Sent} (r : All2 AlikeSent ps qs) where
-  jobs-alike : {e f : Event} → Alike e f → (n : ℕ) (u v : List JobRow) → jobsAfter (some e) (map addressed ps) n u v ≡ jobsAfter (some f) (map addressed qs) n u v
+  jobs-alike : (hub : Bytes) {e f : Event} → Alike e f → (n : ℕ) (u v : List JobRow) → jobsAfter hub (some e) (map addressed ps) n u v ≡ jobsAfter hub (some f) (map addressed qs) n u v
   unfolding jobsAfter
-  jobs-alike opening n u v = refl
-  jobs-alike closing n u v = refl
-  jobs-alike (sending {a = a} {b = b} w l) n u v = ap (λ (s : S.Serial). packetJobs s u v) (concerned-alike a b w l r)
+  jobs-alike hub opening n u v = refl
+  jobs-alike hub closing n u v = refl
+  jobs-alike hub (sending {a = a} {b = b} w l) n u v = ap (λ (s : S.Serial). packetJobs hub s u v) (concerned-alike hub a b w l r)
 
   line-alike : {e f : Event} → Alike e f → (k n : ℕ) (u t : Table) → lineText k (some e) (map addressed ps) n u t ≡ lineText k (some f) (map addressed qs) n u t
   unfolding lineWith headingText answerText tableText
-  line-alike a k n u t = rw (digits-alike a, event-alike a, packets-alike r, jobs-alike a n _ _)
+  line-alike a k n u t = rw (digits-alike a, event-alike a, packets-alike r, jobs-alike (t .hub) a n _ _)
 
 -- ---- two servers
 

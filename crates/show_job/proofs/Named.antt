@@ -18,7 +18,7 @@ use Rattle.packet_laws.proofs.Answers.{read-answer, refused-answer}
 use Rattle.packet_laws.proofs.Places.{argument-read}
 use Rattle.handle.specs.declared.Serial as S
 use Rattle.handle.specs.declared.Serial.the-variants as SV
-use Rattle.handle.specs.Handle.{lap, serialOf}
+use Rattle.handle.specs.Handle.{serialOf}
 use Rattle.lists.specs.Lists.{concat}
 use Rattle.capture.specs.Packets.{packetLength, Addressed, Packed, packetsIn, cut}
 use Rattle.capture.proofs.Cutting.{first-length, packets-in}
@@ -26,36 +26,36 @@ use Rattle.show_job.specs.Concerned.{concerned, firstSent, handleIn, job
 
 -- ---- a handle by its shape
 
-module _ (shape : Shape) (a : Bytes) (names : Bool) (e : names ≡ namesJob shape) where
-  pub handle-none : not names ≡ true → SV.None ≡ handleIn shape a
+module _ (hub : Bytes) (shape : Shape) (a : Bytes) (names : Bool) (e : names ≡ namesJob shape) where
+  pub handle-none : not names ≡ true → SV.None ≡ handleIn hub shape a
   unfolding handleIn
   handle-none h = rw (sym e ∙ not-true names h)
 
-  pub handle-first : not names ≡ false → (b : Bytes) → b ≡ a → (r : S.Serial) → r ≡ serialOf lap b → r ≡ handleIn shape a
+  pub handle-first : not names ≡ false → (b : Bytes) → b ≡ a → (r : S.Serial) → r ≡ serialOf hub b → r ≡ handleIn hub shape a
   unfolding handleIn
   handle-first h b q r f = rw (sym e ∙ not-false names h, ← q) f
 
 -- ---- the job that a packet names
 
-module _ (w : Direction) (s : Bytes) where
-  pub named-none : (n : ℕ) → RV.Refused n ≡ answerOf (read w s) → SV.None ≡ jobNamed w s
+module _ (hub : Bytes) (w : Direction) (s : Bytes) where
+  pub named-none : (n : ℕ) → RV.Refused n ≡ answerOf (read w s) → SV.None ≡ jobNamed hub w s
   unfolding jobNamed namedBy
   named-none n e = rw (refused-answer (read w s) n (sym e))
 
   pub named-first : (k : ℕ) (ends : Ends) → RV.Packet k ends ≡ answerOf (read w s) → (shape : Shape) → shape ≡ w .shape k
-      → handleIn shape (argumentAt s ends 0) ≡ jobNamed w s
+      → handleIn hub shape (argumentAt s ends 0) ≡ jobNamed hub w s
   unfolding jobNamed namedBy
   named-first k ends e shape q =
       let r = read-answer (read w s) k ends (sym e) in
       let a : argumentAt s ends 0 ≡ getD (r .0) 0 [] = ap (λ (x : Ends). argumentAt s x 0) (r .2) ∙ argument-read w s k (r .0) (r .1) 0 (lit≤ tt) in
-      rw (q, a) (sym (ap (namedBy (w .shape)) (r .1)))
+      rw (q, a) (sym (ap (namedBy hub (w .shape)) (r .1)))
 
 -- ---- the first packet that was sent
 
-pub first-none : (b : Bytes) → length b ≡ 0 → SV.None ≡ jobNamed responses (firstSent (packetsIn b))
+pub first-none : (hub b : Bytes) → length b ≡ 0 → SV.None ≡ jobNamed hub responses (firstSent (packetsIn b))
 unfolding packetsIn cut jobNamed namedBy read header
-first-none [] h = refl
-first-none (x ∷ b) h = absurd (omega arith)
+first-none hub [] h = refl
+first-none hub (x ∷ b) h = absurd (omega arith)
 
 -- it stands at the start of what was sent, after its connection
 record First (b : Bytes) : Type 0 where
@@ -90,16 +90,16 @@ module _ (b : Bytes) (k : Packed b) (h : length b ≡ 0 → ⊥) where
     pub first-inside : n ≤ length b
     first-inside = rw e (first .inside)
 
-    pub first-named : (r : S.Serial) → r ≡ jobNamed responses (take (n - 1) (drop 1 b)) → r ≡ jobNamed responses (firstSent (packetsIn b))
-    first-named r f = f ∙ rw e (ap (jobNamed responses) (first .is))
+    pub first-named : (hub : Bytes) (r : S.Serial) → r ≡ jobNamed hub responses (take (n - 1) (drop 1 b)) → r ≡ jobNamed hub responses (firstSent (packetsIn b))
+    first-named hub r f = f ∙ rw e (ap (jobNamed hub responses) (first .is))
 
 -- ---- the job that is concerned
 
-module _ (s : Bytes) (ps : List Bytes) where
-  pub concerned-own : (n : ℕ) → SV.Of n ≡ jobNamed requests s → SV.Of n ≡ concerned s ps
+module _ (hub s : Bytes) (ps : List Bytes) where
+  pub concerned-own : (n : ℕ) → SV.Of n ≡ jobNamed hub requests s → SV.Of n ≡ concerned hub s ps
   unfolding concerned
   concerned-own n e = rw (← e)
 
-  pub concerned-sent : SV.None ≡ jobNamed requests s → (r : S.Serial) → r ≡ jobNamed responses (firstSent ps) → r ≡ concerned s ps
+  pub concerned-sent : SV.None ≡ jobNamed hub requests s → (r : S.Serial) → r ≡ jobNamed hub responses (firstSent ps) → r ≡ concerned hub s ps
   unfolding concerned
   concerned-sent e r f = rw (← e) f

@@ -11,7 +11,7 @@ use Rattle.hex.specs.Hex.{unhex, hex}
 use Rattle.packet.specs.Layout.{rulesOf, requestShape, responseShape}
 use Rattle.packet.specs.Arguments.{fits, split}
 use Rattle.packet.specs.Packet.{header, body, read}
-use Rattle.handle.specs.Handle.{decimal, decimalIn, handle, serialOf, value}
+use Rattle.handle.specs.Handle.{decimal, decimalIn, handle, lap, serialOf, value}
 use Rattle.show_names.specs.Names.{labelOf, labelsOf, nameOf, reasonOf}
 use Rattle.prints.specs.Pieces.{pieces}
 use Rattle.prints.specs.Printed.{printed, printedOr}
@@ -43,10 +43,10 @@ spelled s = bytesIn (unhex (text s))
 -- one job, with this serial, this holder and these listeners
 abbrev oneJob : ℕ → ℕ → ℕ → Table
 unfolding fresh
-oneJob serial holder listeners = setJob (fresh connectionCount) 0 (unstarted (withHolder holder (withListeners listeners (freshRow serial 0 1 4))) [])
+oneJob serial holder listeners = setJob (fresh connectionCount lap) 0 (unstarted (withHolder holder (withListeners listeners (freshRow serial 0 1 4))) [])
 
 submission : words 6 (text "030000524551000000070000000d72657665727365000074657374")
-    (spelled "00005245530000000800000007483a6c61703a31" ∷ spelled "01005245530000000600000000" ∷ []) 0 (fresh connectionCount) (oneJob 1 0 1)
+    (spelled "00005245530000000800000007483a6c61703a31" ∷ spelled "01005245530000000600000000" ∷ []) 0 (fresh connectionCount lap) (oneJob 1 0 1)
     ≡ text "line 6 030000524551000000070000000d\n    0 -> SUBMIT_JOB function reverse unique \"\" workload 4 bytes\n    0 <- JOB_CREATED H:lap:1\n    1 <- NOOP\n    done\n    asleep none\n    job H:lap:1 holder none listeners 0\n"
 unfolding words
 submission = refl
@@ -58,12 +58,12 @@ unfolding words
 late-result = refl
 
 result : words 7 (text "0301005245510000000d0000000c483a6c61703a310070707070")
-    (spelled "00005245530000000d0000000c483a6c61703a310070707070" ∷ []) 0 (oneJob 1 2 1) (fresh connectionCount)
+    (spelled "00005245530000000d0000000c483a6c61703a310070707070" ∷ []) 0 (oneJob 1 2 1) (fresh connectionCount lap)
     ≡ text "line 7 0301005245510000000d0000000c\n    1 -> WORK_COMPLETE handle H:lap:1 data 4 bytes\n    0 <- WORK_COMPLETE handle H:lap:1 data 4 bytes\n    done\n    asleep none\n    ended H:lap:1\n"
 unfolding words
 result = refl
 
-close : words 9 (text "0203") [] 0 (oneJob 2 0 8) (fresh connectionCount) ≡ text "line 9 0203\n    3 closes\n    done\n    asleep none\n    dropped H:lap:2\n"
+close : words 9 (text "0203") [] 0 (oneJob 2 0 8) (fresh connectionCount lap) ≡ text "line 9 0203\n    3 closes\n    done\n    asleep none\n    dropped H:lap:2\n"
 unfolding words
 close = refl
 

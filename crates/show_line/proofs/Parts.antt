@@ -2,6 +2,7 @@
 -- has its room. Assumes nothing.
 use Prim.Native.Nat.{ℕ, _+_, _*_, _≤_}
 use mathlib.Core.Path.{_≡_, ap, _∙_}
+use mathlib.Core.Bool.{true}
 use mathlib.Core.Option.{Option}
 use mathlib.Core.List.{List, _++_}
 use native.Mathlib.Omega.{arith}
@@ -12,6 +13,7 @@ use Rattle.octets.proofs.Laying.{length-put}
 use Rattle.server.specs.declared.JobRow.{JobRow}
 use Rattle.server.specs.Sizes.{connectionCount, outputSize}
 use Rattle.server.specs.Table.{Table}
+use Rattle.server.specs.Rules.{hubNamed}
 use Rattle.server.specs.Requests.{Event}
 use Rattle.capture.specs.Packets.{Packed, packetsIn}
 use Rattle.capture.proofs.Cutting.{packets-in}
@@ -35,11 +37,11 @@ module _ (k : ℕ) (f : Option Event) (b : Bytes) (n : ℕ) (before : List JobRo
   abbrev Laid : ℕ → Bytes → Bytes → ℕ → Bytes → Type 0
   Laid at y z p o = (p ≡ at + length y) × (o ≡ put at y z)
 
-  module _ (packed : Packed b) (few : length b ≤ outputSize connectionCount) (long : textSize ≤ length x) where
+  module _ (named : (n ≡ 1 → ⊥) → (n ≡ 16 → ⊥) → hubNamed t ≡ true) (packed : Packed b) (few : length b ≤ outputSize connectionCount) (long : textSize ≤ length x) where
     all : 0 + length (lineWith k f (packetsIn b) n before t) ≤ length x
     all =
         let q : packetsIn b ≡ packed .packets = packets-in b (packed .packets) (packed .formed) (packed .whole) in
-        let l : length (lineWith k f (packetsIn b) n before t) ≤ textSize = rw q (line-short k f (packed .packets) n before t (packed .formed) (omega (arith, ap length (packed .whole)))) in
+        let l : length (lineWith k f (packetsIn b) n before t) ≤ textSize = rw q (line-short k f (packed .packets) n before t named (packed .formed) (omega (arith, ap length (packed .whole)))) in
         omega (arith, l)
 
     pub heading-room : 0 + length heading ≤ length x

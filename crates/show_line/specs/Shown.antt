@@ -38,6 +38,6 @@ shownText lines t w o x = said textSize lineText 1 lines t w o x
 abbrev pub answeredText : List Bytes → Server → Bytes
 answeredText lines s = spoken lineText 1 lines s
 
--- a capture from its first byte to its last, shown
-abbrev pub showOf : Bytes → Bytes
-showOf text = spokenText lineText text
+-- a capture of the hub of this name, from its first byte to its last, shown
+abbrev pub showOf : Bytes → Bytes → Bytes
+showOf hub text = spokenText lineText hub text

@@ -12,10 +12,12 @@ use show_table::GONE_ROOM;
 use show_table::JOBS_ROOM;
 use show_table::SLEEPERS_ROOM;
 ghost use mathlib.Core.Path.{_≡_};
+ghost use mathlib.Core.Bool.{true};
 ghost use Prim.Native.Nat.{_+_, _≤_};
 ghost use lib.ListN.{length};
 ghost use Rattle.octets.specs.Put.{put};
 ghost use Rattle.server.specs.Sizes.{connectionCount, outputSize};
+ghost use Rattle.server.specs.Rules.{hubNamed};
 ghost use Rattle.server.specs.Layout.{tableOf, tableSize};
 ghost use Rattle.server.specs.Table.{rowsOf};
 ghost use Rattle.capture.specs.Frames.{Bounded, eventOf};
@@ -51,7 +53,8 @@ fn put_line(
     sent: &[u8],
     outcome: u8,
 ) -> usize
-    requires { ⌜ Bounded frame × Packed (now sent) × ((outcome ≡ 1 → ⊥) → (outcome ≡ 16 → ⊥) → tableSize connectionCount ≤ length (now table))
+    requires { ⌜ Bounded frame × Packed (now sent)
+        × ((outcome ≡ 1 → ⊥) → (outcome ≡ 16 → ⊥) → (tableSize connectionCount ≤ length (now table)) × (hubNamed (tableOf connectionCount (now table)) ≡ true))
         × (length (now sent) ≤ outputSize connectionCount) × (textSize ≤ length (now text)) ⌝ }
     ensures { λ r. ⌜ (r ≡ 0 + length (lineWith number (eventOf frame (now (bytes .entry))) (packetsIn (now (sent .entry))) outcome before (tableOf connectionCount (now (table .entry)))))
         × (now (text .exit) ≡ put 0 (lineWith number (eventOf frame (now (bytes .entry))) (packetsIn (now (sent .entry))) outcome before (tableOf connectionCount (now (table .entry)))) (now (text .entry))) ⌝ }

@@ -1,9 +1,11 @@
 -- How long the parts of a line are at the most. Assumes nothing.
 use Prim.Native.Nat.{ℕ, _+_, _*_, _≤_}
+use mathlib.Core.Path.{_≡_, refl}
 use mathlib.Core.Bool.{Bool, true, false, cond, _||_}
 use mathlib.Core.Option.{Option, none, some}
 use mathlib.Core.List.{List, [], _∷_, _++_}
 use native.Mathlib.Omega.{arith}
+use borrow.Author.Tests.{eqb-false}
 use lib.ListN.{length, getD, take, drop, length-append, length-take, length-drop}
 use lib.Dec.{eqb, ltb}
 use Rattle.octets.specs.Bytes.{Bytes}
@@ -12,12 +14,13 @@ use Rattle.hex.proofs.Writing.{hex-length}
 use Rattle.packet.specs.Packet.{Reading, refused, got, read, requests}
 use Rattle.handle.specs.declared.Serial as S
 use Rattle.handle.specs.declared.Serial.the-variants as SV
-use Rattle.handle.specs.Handle.{decimal}
+use Rattle.handle.specs.Handle.{decimal, isHubName}
 use Rattle.handle.proofs.Decimal.{decimal-most}
 use Rattle.server.specs.declared.JobRow.{JobRow}
 use Rattle.lists.specs.Lists.{concat}
 use Rattle.server.specs.Sizes.{connectionCount}
 use Rattle.server.specs.Table.{Table, rowsOf}
+use Rattle.server.specs.Rules.{hubNamed}
 use Rattle.server.specs.Requests.{Event, opens, closes, sends}
 use Rattle.capture.specs.Packets.{Addressed, packetLines}
 use Rattle.capture.proofs.Lines.{lines-short}
@@ -74,33 +77,47 @@ pub answer-short : (ps : List Bytes) (n : ℕ) → Addressed ps → length (answ
 unfolding answerText
 answer-short ps n a = omega (arith, length-append (packetLines sentText ps) (numberText n), lines-short sentText 14 sent-short ps a, number-short n)
 
-named-short : (s : S.Serial) (u v : List JobRow) → length (namedText s u v) ≤ jobsRoom
-named-short SV.None u v = omega arith
-named-short (SV.Of n) u v = omega (arith, serial-text-short n u v)
+-- ---- the table, where its hub has a name
 
-packet-jobs-short : (s : S.Serial) (u v : List JobRow) → length (packetJobs s u v) ≤ goneRoom + jobsRoom
-unfolding packetJobs
-packet-jobs-short s u v = omega (arith, length-append (goneText endedWord u v) (namedText s u v), gone-short endedWord u v (omega arith), named-short s u v)
+module _ (hub : Bytes) (good : isHubName hub ≡ true) where
+  named-short : (s : S.Serial) (u v : List JobRow) → length (namedText hub s u v) ≤ jobsRoom
+  named-short SV.None u v = omega arith
+  named-short (SV.Of n) u v = omega (arith, serial-text-short hub good n u v)
 
-close-jobs-short : (n : ℕ) (u v : List JobRow) → length (closeJobs n u v) ≤ goneRoom + jobsRoom
-unfolding closeJobs
-close-jobs-short n u v = either (eqb n 0)
-  where
-    either : (b : Bool) → length (cond b (goneText droppedWord u v ++ jobsText connectionCount v) []) ≤ goneRoom + jobsRoom
-    either true = omega (arith, length-append (goneText droppedWord u v) (jobsText connectionCount v), gone-short droppedWord u v (omega arith), jobs-short v)
-    either false = omega arith
+  packet-jobs-short : (s : S.Serial) (u v : List JobRow) → length (packetJobs hub s u v) ≤ goneRoom + jobsRoom
+  unfolding packetJobs
+  packet-jobs-short s u v = omega (arith, length-append (goneText hub endedWord u v) (namedText hub s u v), gone-short hub good endedWord u v (omega arith), named-short s u v)
 
-jobs-after-short : (f : Option Event) (ps : List Bytes) (n : ℕ) (u v : List JobRow) → length (jobsAfter f ps n u v) ≤ goneRoom + jobsRoom
-unfolding jobsAfter
-jobs-after-short none ps n u v = omega arith
-jobs-after-short (some (opens c)) ps n u v = omega arith
-jobs-after-short (some (closes c)) ps n u v = close-jobs-short n u v
-jobs-after-short (some (sends c b)) ps n u v = packet-jobs-short (concerned b ps) u v
+  close-jobs-short : (n : ℕ) (u v : List JobRow) → length (closeJobs hub n u v) ≤ goneRoom + jobsRoom
+  unfolding closeJobs
+  close-jobs-short n u v = either (eqb n 0)
+    where
+      either : (b : Bool) → length (cond b (goneText hub droppedWord u v ++ jobsText hub connectionCount v) []) ≤ goneRoom + jobsRoom
+      either true = omega (arith, length-append (goneText hub droppedWord u v) (jobsText hub connectionCount v), gone-short hub good droppedWord u v (omega arith), jobs-short hub good v)
+      either false = omega arith
 
-pub table-short : (f : Option Event) (ps : List Bytes) (n : ℕ) (u : List JobRow) (t : Table) → length (tableText f ps n u t) ≤ sleepersRoom + goneRoom + jobsRoom
+  jobs-after-short : (f : Option Event) (ps : List Bytes) (n : ℕ) (u v : List JobRow) → length (jobsAfter hub f ps n u v) ≤ goneRoom + jobsRoom
+  unfolding jobsAfter
+  jobs-after-short none ps n u v = omega arith
+  jobs-after-short (some (opens c)) ps n u v = omega arith
+  jobs-after-short (some (closes c)) ps n u v = close-jobs-short n u v
+  jobs-after-short (some (sends c b)) ps n u v = packet-jobs-short (concerned hub b ps) u v
+
+-- of a table that is none nothing is said, and its hub needs no name
+pub table-short : (f : Option Event) (ps : List Bytes) (n : ℕ) (u : List JobRow) (t : Table) → ((n ≡ 1 → ⊥) → (n ≡ 16 → ⊥) → hubNamed t ≡ true)
+    → length (tableText f ps n u t) ≤ sleepersRoom + goneRoom + jobsRoom
 unfolding tableText
-table-short f ps n u t = either (eqb n 1 || eqb n 16)
+table-short f ps n u t named = go (eqb n 1) (eqb n 16) refl refl
   where
-    either : (b : Bool) → length (cond b [] (sleepersText connectionCount (t .connections) ++ jobsAfter f ps n u (rowsOf t))) ≤ sleepersRoom + goneRoom + jobsRoom
-    either true = omega arith
-    either false = omega (arith, length-append (sleepersText connectionCount (t .connections)) (jobsAfter f ps n u (rowsOf t)), sleepers-short (t .connections), jobs-after-short f ps n u (rowsOf t))
+    go : (b c : Bool) → eqb n 1 ≡ b → eqb n 16 ≡ c
+        → length (cond (b || c) [] (sleepersText connectionCount (t .connections) ++ jobsAfter (t .hub) f ps n u (rowsOf t))) ≤ sleepersRoom + goneRoom + jobsRoom
+    go true c e d = omega arith
+    go false true e d = omega arith
+    go false false e d =
+        let good = named (eqb-false n 1 e) (eqb-false n 16 d) in
+        omega (
+          arith,
+          length-append (sleepersText connectionCount (t .connections)) (jobsAfter (t .hub) f ps n u (rowsOf t)),
+          sleepers-short (t .connections),
+          jobs-after-short (t .hub) good f ps n u (rowsOf t),
+        )

@@ -1,7 +1,7 @@
 -- What each branch lays is the part of the line that the definition gives: by the kind of frame, by the number, by the serial that was
 -- found. Assumes nothing.
 use Prim.Native.Nat.{ℕ, _-_, _<_, _≤_}
-use mathlib.Core.Path.{_≡_, ap, sym}
+use mathlib.Core.Path.{_≡_, ap, ap₂, sym}
 use mathlib.Core.Option.{Option}
 use mathlib.Core.List.{List, [], _++_}
 use borrow.Author.Tests.{le-ltb, lt-ltb, ne-eqb}
@@ -42,9 +42,9 @@ module _ (f : F.Frame) (b : Bytes) where
     unfolding eventText
     nothing-event = rw e
 
-    pub nothing-jobs : (ps : List Bytes) (n : ℕ) (u v : List JobRow) → [] ≡ jobsAfter (eventOf f b) ps n u v
+    pub nothing-jobs : (hub : Bytes) (ps : List Bytes) (n : ℕ) (u v : List JobRow) → [] ≡ jobsAfter hub (eventOf f b) ps n u v
     unfolding jobsAfter
-    nothing-jobs ps n u v = rw e
+    nothing-jobs hub ps n u v = rw e
 
   module _ (c : ℕ) where
     module _ (e : f ≡ FV.Open c) where
@@ -56,9 +56,9 @@ module _ (f : F.Frame) (b : Bytes) where
       unfolding eventText
       open-event = rw e
 
-      pub open-jobs : (ps : List Bytes) (n : ℕ) (u v : List JobRow) → [] ≡ jobsAfter (eventOf f b) ps n u v
+      pub open-jobs : (hub : Bytes) (ps : List Bytes) (n : ℕ) (u v : List JobRow) → [] ≡ jobsAfter hub (eventOf f b) ps n u v
       unfolding jobsAfter
-      open-jobs ps n u v = rw e
+      open-jobs hub ps n u v = rw e
 
     module _ (e : f ≡ FV.Close c) where
       pub close-digits : frameDigits 2 c [] ≡ digitsText (eventOf f b)
@@ -69,9 +69,9 @@ module _ (f : F.Frame) (b : Bytes) where
       unfolding eventText
       close-event = rw e
 
-      pub close-jobs : (ps : List Bytes) (n : ℕ) (u v : List JobRow) → closeJobs n u v ≡ jobsAfter (eventOf f b) ps n u v
+      pub close-jobs : (hub : Bytes) (ps : List Bytes) (n : ℕ) (u v : List JobRow) → closeJobs hub n u v ≡ jobsAfter hub (eventOf f b) ps n u v
       unfolding jobsAfter
-      close-jobs ps n u v = rw e
+      close-jobs hub ps n u v = rw e
 
     module _ (end : ℕ) (e : f ≡ FV.Packet c end) where
       pub packet-digits : (header : Bytes) → header ≡ headerSeen (take (end - 2) (drop 2 b)) → frameDigits 3 c header ≡ digitsText (eventOf f b)
@@ -82,9 +82,10 @@ module _ (f : F.Frame) (b : Bytes) where
       unfolding eventText
       packet-event = rw e
 
-      pub packet-jobs : (s : S.Serial) (ps : List Bytes) (n : ℕ) (u v : List JobRow) → s ≡ concerned (take (end - 2) (drop 2 b)) ps → packetJobs s u v ≡ jobsAfter (eventOf f b) ps n u v
+      pub packet-jobs : (hub : Bytes) (s : S.Serial) (ps : List Bytes) (n : ℕ) (u v : List JobRow) → s ≡ concerned hub (take (end - 2) (drop 2 b)) ps
+          → packetJobs hub s u v ≡ jobsAfter hub (eventOf f b) ps n u v
       unfolding jobsAfter
-      packet-jobs s ps n u v q = rw (e, q)
+      packet-jobs hub s ps n u v q = rw (e, q)
 
 -- ---- by the reading of a packet
 
@@ -104,11 +105,11 @@ module _ (b : Bytes) where
 
 -- ---- by the serial
 
-module _ (s : S.Serial) (u v : List JobRow) where
-  pub no-serial : s ≡ SV.None → [] ≡ namedText s u v
+module _ (hub : Bytes) (s : S.Serial) (u v : List JobRow) where
+  pub no-serial : s ≡ SV.None → [] ≡ namedText hub s u v
   no-serial e = rw e
 
-  pub of-serial : (n : ℕ) → s ≡ SV.Of n → serialText connectionCount n u v ≡ namedText s u v
+  pub of-serial : (n : ℕ) → s ≡ SV.Of n → serialText hub connectionCount n u v ≡ namedText hub s u v
   of-serial n e = rw e
 
 -- ---- by the number
@@ -121,13 +122,13 @@ pub number-refused : (n : ℕ) → (n ≡ 0 → ⊥) → below ++ refusalText n 
 unfolding numberText
 number-refused n e = rw (ne-eqb n 0 e)
 
-pub close-done : (n : ℕ) (u v : List JobRow) → n ≡ 0 → goneText droppedWord u v ++ jobsText connectionCount v ≡ closeJobs n u v
+pub close-done : (hub : Bytes) (n : ℕ) (u v : List JobRow) → n ≡ 0 → goneText hub droppedWord u v ++ jobsText hub connectionCount v ≡ closeJobs hub n u v
 unfolding closeJobs
-close-done n u v e = rw e
+close-done hub n u v e = rw e
 
-pub close-refused : (n : ℕ) (u v : List JobRow) → (n ≡ 0 → ⊥) → [] ≡ closeJobs n u v
+pub close-refused : (hub : Bytes) (n : ℕ) (u v : List JobRow) → (n ≡ 0 → ⊥) → [] ≡ closeJobs hub n u v
 unfolding closeJobs
-close-refused n u v e = rw (ne-eqb n 0 e)
+close-refused hub n u v e = rw (ne-eqb n 0 e)
 
 module _ (f : Option Event) (ps : List Bytes) (n : ℕ) (before : List JobRow) (t : Table) where
   pub no-table : n ≡ 1 → [] ≡ tableText f ps n before t
@@ -138,10 +139,13 @@ module _ (f : Option Event) (ps : List Bytes) (n : ℕ) (before : List JobRow) (
   unfolding tableText
   unseen e = rw e
 
-  pub table-stands : (n ≡ 1 → ⊥) → (n ≡ 16 → ⊥) → (v : V′.Values) → v ≡ valuesOf t
-      → sleepersText connectionCount (v .connections) ++ jobsAfter f ps n before (v .rows) ≡ tableText f ps n before t
+  -- the name and the values as they were read from the bytes
+  pub table-stands : (n ≡ 1 → ⊥) → (n ≡ 16 → ⊥) → (hub : Bytes) → hub ≡ t .hub → (v : V′.Values) → v ≡ valuesOf t
+      → sleepersText connectionCount (v .connections) ++ jobsAfter hub f ps n before (v .rows) ≡ tableText f ps n before t
   unfolding tableText valuesOf
-  table-stands a b v e = rw (ne-eqb n 1 a, ne-eqb n 16 b) (ap (λ (u : V′.Values). sleepersText connectionCount (u .connections) ++ jobsAfter f ps n before (u .rows)) e)
+  table-stands a b hub q v e =
+      rw (ne-eqb n 1 a, ne-eqb n 16 b)
+      (ap₂ {C = Bytes} (λ (h : Bytes) (u : V′.Values). sleepersText connectionCount (u .connections) ++ jobsAfter h f ps n before (u .rows)) q e)
 
 -- ---- an addressed packet
 

@@ -81,29 +81,30 @@ numberText n = below ++ cond (eqb n 0) doneWord (refusalText n)
 
 -- ---- how the table stands
 
--- the jobs, from the rows before the event and after it
+-- the jobs at the hub of this name, from the rows before the event and after it
 
-abbrev pub namedText : S.Serial → List JobRow → List JobRow → Bytes
-namedText SV.None before after = []
-namedText (SV.Of n) before after = serialText connectionCount n before after
+abbrev pub namedText : Bytes → S.Serial → List JobRow → List JobRow → Bytes
+namedText hub SV.None before after = []
+namedText hub (SV.Of n) before after = serialText hub connectionCount n before after
 
 -- a packet: the job that it ended, and the one that it concerns
-unfoldable pub packetJobs : S.Serial → List JobRow → List JobRow → Bytes
-packetJobs s before after = goneText endedWord before after ++ namedText s before after
+unfoldable pub packetJobs : Bytes → S.Serial → List JobRow → List JobRow → Bytes
+packetJobs hub s before after = goneText hub endedWord before after ++ namedText hub s before after
 
 -- a close that is done: the jobs that it dropped, and all that are left
-unfoldable pub closeJobs : ℕ → List JobRow → List JobRow → Bytes
-closeJobs n before after = cond (eqb n 0) (goneText droppedWord before after ++ jobsText connectionCount after) []
+unfoldable pub closeJobs : Bytes → ℕ → List JobRow → List JobRow → Bytes
+closeJobs hub n before after = cond (eqb n 0) (goneText hub droppedWord before after ++ jobsText hub connectionCount after) []
 
-unfoldable pub jobsAfter : Option Event → List Bytes → ℕ → List JobRow → List JobRow → Bytes
-jobsAfter none ps n before after = []
-jobsAfter (some (opens c)) ps n before after = []
-jobsAfter (some (closes c)) ps n before after = closeJobs n before after
-jobsAfter (some (sends c b)) ps n before after = packetJobs (concerned b ps) before after
+unfoldable pub jobsAfter : Bytes → Option Event → List Bytes → ℕ → List JobRow → List JobRow → Bytes
+jobsAfter hub none ps n before after = []
+jobsAfter hub (some (opens c)) ps n before after = []
+jobsAfter hub (some (closes c)) ps n before after = closeJobs hub n before after
+jobsAfter hub (some (sends c b)) ps n before after = packetJobs hub (concerned hub b ps) before after
 
--- the table after the event, with the rows before it. What was refused by 1 is no table; what was refused by 16 the server did not see.
+-- the table after the event, with the rows before it; the hub is the table's. What was refused by 1 is no table; what was refused by 16 the
+-- server did not see.
 unfoldable pub tableText : Option Event → List Bytes → ℕ → List JobRow → Table → Bytes
-tableText f ps n before t = cond (eqb n 1 || eqb n 16) [] (sleepersText connectionCount (t .connections) ++ jobsAfter f ps n before (rowsOf t))
+tableText f ps n before t = cond (eqb n 1 || eqb n 16) [] (sleepersText connectionCount (t .connections) ++ jobsAfter (t .hub) f ps n before (rowsOf t))
 
 -- ---- the parts of a line
 

@@ -8,12 +8,14 @@ use packet::Read;
 use server::JOBS;
 use server::JobRow;
 ghost use mathlib.Core.Path.{_≡_};
+ghost use mathlib.Core.Bool.{true};
 ghost use mathlib.Core.List.{_++_};
 ghost use Prim.Native.Nat.{_+_, _*_, _≤_};
 ghost use lib.ListN.{length};
 ghost use Rattle.octets.specs.Put.{put};
-ghost use Rattle.handle.specs.Handle.{decimal};
+ghost use Rattle.handle.specs.Handle.{decimal, isHubName};
 ghost use Rattle.server.specs.Sizes.{connectionCount};
+ghost use Rattle.server.specs.Rules.{hubNamed};
 ghost use Rattle.server.specs.Layout.{tableOf, tableSize};
 ghost use Rattle.capture.specs.Frames.{Bounded, eventOf};
 ghost use Rattle.capture.specs.Packets.{Packed, packetLines, packetsIn};
@@ -155,20 +157,22 @@ pub fn put_answer(text: &mut [u8], at: usize, sent: &[u8], number: u8) -> usize
     put_outcome(text, outcome, number)
 }
 
-// Lays the job of a serial, if there is one.
+// Lays the job of a serial at the hub of this name, if there is one.
 fn put_job(
     text: &mut [u8],
     at: usize,
+    hub: &[u8],
     serial: Serial,
     before: [JobRow; JOBS],
     after: [JobRow; JOBS],
 ) -> usize
-    requires { ⌜ at + length (namedText serial before after) ≤ length (now text) ⌝ }
-    ensures { λ r. ⌜ (r ≡ at + length (namedText serial before after)) × (now (text .exit) ≡ put at (namedText serial before after) (now (text .entry))) ⌝ }
+    requires { ⌜ (isHubName (now hub) ≡ true) × (at + length (namedText (now hub) serial before after) ≤ length (now text)) ⌝ }
+    ensures { λ r. ⌜ (r ≡ at + length (namedText (now (hub .entry)) serial before after))
+        × (now (text .exit) ≡ put at (namedText (now (hub .entry)) serial before after) (now (text .entry))) ⌝ }
 {
     match serial {
         Serial::None => at,
-        Serial::Of(n) => show_table::put_job_of(text, at, before, after, n),
+        Serial::Of(n) => show_table::put_job_of(text, at, hub, before, after, n),
     }
 }
 
@@ -176,39 +180,44 @@ fn put_job(
 fn put_ended(
     text: &mut [u8],
     at: usize,
+    hub: &[u8],
     serial: Serial,
     before: [JobRow; JOBS],
     after: [JobRow; JOBS],
 ) -> usize
-    requires { ⌜ at + length (packetJobs serial before after) ≤ length (now text) ⌝ }
-    ensures { λ r. ⌜ (r ≡ at + length (packetJobs serial before after)) × (now (text .exit) ≡ put at (packetJobs serial before after) (now (text .entry))) ⌝ }
+    requires { ⌜ (isHubName (now hub) ≡ true) × (at + length (packetJobs (now hub) serial before after) ≤ length (now text)) ⌝ }
+    ensures { λ r. ⌜ (r ≡ at + length (packetJobs (now (hub .entry)) serial before after))
+        × (now (text .exit) ≡ put at (packetJobs (now (hub .entry)) serial before after) (now (text .entry))) ⌝ }
 {
-    let place = show_table::put_gone(text, at, b"ended ", before, after);
-    put_job(text, place, serial, before, after)
+    let place = show_table::put_gone(text, at, hub, b"ended ", before, after);
+    put_job(text, place, hub, serial, before, after)
 }
 
 // Lays the jobs that a close dropped and those that are left, if it is done.
 fn put_dropped(
     text: &mut [u8],
     at: usize,
+    hub: &[u8],
     number: u8,
     before: [JobRow; JOBS],
     after: [JobRow; JOBS],
 ) -> usize
-    requires { ⌜ at + length (closeJobs number before after) ≤ length (now text) ⌝ }
-    ensures { λ r. ⌜ (r ≡ at + length (closeJobs number before after)) × (now (text .exit) ≡ put at (closeJobs number before after) (now (text .entry))) ⌝ }
+    requires { ⌜ (isHubName (now hub) ≡ true) × (at + length (closeJobs (now hub) number before after) ≤ length (now text)) ⌝ }
+    ensures { λ r. ⌜ (r ≡ at + length (closeJobs (now (hub .entry)) number before after))
+        × (now (text .exit) ≡ put at (closeJobs (now (hub .entry)) number before after) (now (text .entry))) ⌝ }
 {
     if number == 0 {
-        let place = show_table::put_gone(text, at, b"dropped ", before, after);
-        return show_table::put_jobs(text, place, after);
+        let place = show_table::put_gone(text, at, hub, b"dropped ", before, after);
+        return show_table::put_jobs(text, place, hub, after);
     }
     at
 }
 
-// Lays the jobs that a frame concerns, from the rows before its event and after it.
+// Lays the jobs of the hub of this name that a frame concerns, from the rows before its event and after it.
 fn put_jobs(
     text: &mut [u8],
     at: usize,
+    hub: &[u8],
     frame: Frame,
     bytes: &[u8; FRAME_SIZE],
     sent: &[u8],
@@ -216,24 +225,25 @@ fn put_jobs(
     before: [JobRow; JOBS],
     after: [JobRow; JOBS],
 ) -> usize
-    requires { ⌜ Bounded frame × Packed (now sent) × (at + length (jobsAfter (eventOf frame (now bytes)) (packetsIn (now sent)) number before after) ≤ length (now text)) ⌝ }
-    ensures { λ r. ⌜ (r ≡ at + length (jobsAfter (eventOf frame (now (bytes .entry))) (packetsIn (now (sent .entry))) number before after))
-        × (now (text .exit) ≡ put at (jobsAfter (eventOf frame (now (bytes .entry))) (packetsIn (now (sent .entry))) number before after) (now (text .entry))) ⌝ }
+    requires { ⌜ Bounded frame × Packed (now sent) × (isHubName (now hub) ≡ true)
+        × (at + length (jobsAfter (now hub) (eventOf frame (now bytes)) (packetsIn (now sent)) number before after) ≤ length (now text)) ⌝ }
+    ensures { λ r. ⌜ (r ≡ at + length (jobsAfter (now (hub .entry)) (eventOf frame (now (bytes .entry))) (packetsIn (now (sent .entry))) number before after))
+        × (now (text .exit) ≡ put at (jobsAfter (now (hub .entry)) (eventOf frame (now (bytes .entry))) (packetsIn (now (sent .entry))) number before after) (now (text .entry))) ⌝ }
 {
     match frame {
         Frame::Nothing => at,
         Frame::Open { connection } => at,
-        Frame::Close { connection } => put_dropped(text, at, number, before, after),
+        Frame::Close { connection } => put_dropped(text, at, hub, number, before, after),
         Frame::Packet { connection, end } => {
             let all = &bytes[..];
-            let serial = show_job::concerned(&all[2..end], sent);
-            put_ended(text, at, serial, before, after)
+            let serial = show_job::concerned(hub, &all[2..end], sent);
+            put_ended(text, at, hub, serial, before, after)
         }
     }
 }
 
-// Lays how the table stands: the sleepers, and the jobs concerned, with the rows before the event. After refusal 1 there is no table,
-// and 16 is of no event.
+// Lays how the table stands: the sleepers, and the jobs concerned, with the rows before the event, named by the table's own hub. After
+// refusal 1 there is no table, and 16 is of no event.
 pub fn put_table(
     text: &mut [u8],
     at: usize,
@@ -244,7 +254,8 @@ pub fn put_table(
     sent: &[u8],
     number: u8,
 ) -> usize
-    requires { ⌜ Bounded frame × Packed (now sent) × ((number ≡ 1 → ⊥) → (number ≡ 16 → ⊥) → tableSize connectionCount ≤ length (now table))
+    requires { ⌜ Bounded frame × Packed (now sent)
+        × ((number ≡ 1 → ⊥) → (number ≡ 16 → ⊥) → (tableSize connectionCount ≤ length (now table)) × (hubNamed (tableOf connectionCount (now table)) ≡ true))
         × (at + length (tableText (eventOf frame (now bytes)) (packetsIn (now sent)) number before (tableOf connectionCount (now table))) ≤ length (now text)) ⌝ }
     ensures { λ r. ⌜ (r ≡ at + length (tableText (eventOf frame (now (bytes .entry))) (packetsIn (now (sent .entry))) number before (tableOf connectionCount (now (table .entry)))))
         × (now (text .exit) ≡ put at (tableText (eventOf frame (now (bytes .entry))) (packetsIn (now (sent .entry))) number before (tableOf connectionCount (now (table .entry)))) (now (text .entry))) ⌝ }
@@ -255,9 +266,10 @@ pub fn put_table(
     if number == 16 {
         return at;
     }
+    let hub = table_texts::hub_of(table);
     let values = table_rows::read_values(table);
     let connections = values.connections;
     let rows = values.rows;
     let place = show_table::put_sleepers(text, at, connections);
-    put_jobs(text, place, frame, bytes, sent, number, before, rows)
+    put_jobs(text, place, hub, frame, bytes, sent, number, before, rows)
 }

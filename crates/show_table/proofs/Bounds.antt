@@ -1,6 +1,7 @@
 -- How long the lines on the table are at the most: the sleepers', a job's, those of all jobs together, and of all that are gone. A text
--- with that much room after `at` has room for any table's. Assumes nothing.
+-- with that much room after `at` has room for any table's whose hub has a name. Assumes nothing.
 use Prim.Native.Nat.{ℕ, zero, suc, _+_, _/_, _%_, _<_, _≤_}
+use mathlib.Core.Path.{_≡_}
 use mathlib.Core.Bool.{Bool, true, false, cond}
 use mathlib.Core.List.{List, [], _∷_, _++_}
 use mathlib.Core.Option.{Option, none, some}
@@ -10,9 +11,9 @@ use lib.Dec.{eqb, ltb}
 use lib.ListN.{length, getD, length-append}
 use Rattle.octets.specs.Bytes.{Bytes}
 use Rattle.sets.specs.Sets.{has}
-use Rattle.handle.specs.Handle.{decimal, decimalIn, handle, lap}
+use Rattle.handle.specs.Handle.{decimal, decimalIn, handle, handleMost, isHubName}
 use Rattle.handle.proofs.Decimal.{decimal-most}
-use Rattle.handle.proofs.Handles.{handle-most}
+use Rattle.handle.proofs.Handles.{handle-bounded}
 use Rattle.server.specs.declared.Connection.{Connection}
 use Rattle.server.specs.declared.JobRow.{JobRow}
 use Rattle.server.specs.Sizes.{connectionCount, jobCount}
@@ -20,7 +21,7 @@ use Rattle.server.specs.Table.{live, noRow}
 use Rattle.plan.specs.Values.{serialRow}
 use Rattle.show_names.specs.Names.{space}
 use Rattle.prints.proofs.Pieces.{pieces-short}
-use Rattle.show_table.specs.Standing.{absentText, backgroundWord, connectionsText, each, foundText, goneOne, goneText, handleLine, highWord, holderText, holderWord, jobText, jobWord, jobsText, listenersWord, lowWord, marksText, noJobWord, orNone, serialText, sleepersText, unfoundText, connectionsRoom, sleepersRoom, jobRoom, jobsRoom, goneRoom}
+use Rattle.show_table.specs.Standing.{absentText, backgroundWord, connectionsText, each, foundText, goneOne, goneText, handleLine, highWord, holderText, holderWord, jobText, jobWord, jobsText, listenersWord, lowWord, marksText, noJobWord, orNone, serialText, sleepersText, unfoundText, connectionsRoom, sleepersRoom, jobRoom, jobsRoom, goneOneRoom, goneRoom}
 use Rattle.show_table.proofs.Connections.{shown, sleeps}
 use Rattle.show_table.proofs.Jobs.{gone, unfinished}
 
@@ -61,10 +62,6 @@ unfolding holderText
 holder-short zero = omega arith
 holder-short (suc c) = omega (arith, decimal-most c)
 
-handle-line-short : (word : Bytes) (serial : ℕ) → length (handleLine word serial) ≤ length word + 21
-unfolding handleLine
-handle-line-short word serial = omega (arith, length-append word (handle lap serial), handle-most lap serial)
-
 -- what is laid only if a test holds
 if-short : (b : Bool) (word : Bytes) → length (cond b word []) ≤ length word
 if-short true word = omega arith
@@ -85,61 +82,66 @@ marks-short r =
       if-short (r .background) backgroundWord,
     )
 
-job-short : (r : JobRow) → length (jobText connectionCount r) ≤ jobRoom
-unfolding jobText
-job-short r =
-    let l : Bytes = connectionsText (has (r .listeners)) connectionCount in
-    let h : Bytes = holderWord ++ holderText (r .holder) in
-    omega (
-      arith,
-      length-append (handleLine jobWord (r .serial)) (marksText r ++ (h ++ (listenersWord ++ l))),
-      length-append (marksText r) (h ++ (listenersWord ++ l)),
-      length-append h (listenersWord ++ l),
-      handle-line-short jobWord (r .serial),
-      marks-short r,
-      holder-short (r .holder),
-      connections-short (has (r .listeners)),
-    )
+module _ (hub : Bytes) (good : isHubName hub ≡ true) where
+  handle-line-short : (word : Bytes) (serial : ℕ) → length (handleLine hub word serial) ≤ length word + 5 + handleMost
+  unfolding handleLine
+  handle-line-short word serial = omega (arith, length-append word (handle hub serial), handle-bounded hub good serial)
 
-unfound-short : (word : Bytes) (serial : ℕ) (o : Option ℕ) → length (unfoundText word serial o) ≤ length word + 21
-unfolding unfoundText
-unfound-short word serial (some p) = omega arith
-unfound-short word serial none = handle-line-short word serial
+  job-short : (r : JobRow) → length (jobText hub connectionCount r) ≤ jobRoom
+  unfolding jobText
+  job-short r =
+      let l : Bytes = connectionsText (has (r .listeners)) connectionCount in
+      let h : Bytes = holderWord ++ holderText (r .holder) in
+      omega (
+        arith,
+        length-append (handleLine hub jobWord (r .serial)) (marksText r ++ (h ++ (listenersWord ++ l))),
+        length-append (marksText r) (h ++ (listenersWord ++ l)),
+        length-append h (listenersWord ++ l),
+        handle-line-short jobWord (r .serial),
+        marks-short r,
+        holder-short (r .holder),
+        connections-short (has (r .listeners)),
+      )
 
-absent-short : (word : Bytes) (serial : ℕ) (rs : List JobRow) → length (absentText word serial rs) ≤ length word + 21
-unfolding absentText
-absent-short word serial rs = unfound-short word serial (serialRow serial rs)
+  unfound-short : (word : Bytes) (serial : ℕ) (o : Option ℕ) → length (unfoundText hub word serial o) ≤ length word + 5 + handleMost
+  unfolding unfoundText
+  unfound-short word serial (some p) = omega arith
+  unfound-short word serial none = handle-line-short word serial
 
-found-short : (serial : ℕ) (before after : List JobRow) (o : Option ℕ) → length (foundText connectionCount serial before after o) ≤ jobRoom
-unfolding foundText
-found-short serial before after (some p) = job-short (getD after p noRow)
-found-short serial before after none = omega (arith, absent-short noJobWord serial before)
+  absent-short : (word : Bytes) (serial : ℕ) (rs : List JobRow) → length (absentText hub word serial rs) ≤ length word + 5 + handleMost
+  unfolding absentText
+  absent-short word serial rs = unfound-short word serial (serialRow serial rs)
 
-pub serial-text-short : (serial : ℕ) (before after : List JobRow) → length (serialText connectionCount serial before after) ≤ jobRoom
-unfolding serialText
-serial-text-short serial before after = found-short serial before after (serialRow serial after)
+  found-short : (serial : ℕ) (before after : List JobRow) (o : Option ℕ) → length (foundText hub connectionCount serial before after o) ≤ jobRoom
+  unfolding foundText
+  found-short serial before after (some p) = job-short (getD after p noRow)
+  found-short serial before after none = omega (arith, absent-short noJobWord serial before)
 
-row-short : (r : JobRow) → length (cond (live r) (jobText connectionCount r) []) ≤ jobRoom
-row-short r = either (live r)
-  where
-    either : (b : Bool) → length (cond b (jobText connectionCount r) []) ≤ jobRoom
-    either true = job-short r
-    either false = omega arith
+  pub serial-text-short : (serial : ℕ) (before after : List JobRow) → length (serialText hub connectionCount serial before after) ≤ jobRoom
+  unfolding serialText
+  serial-text-short serial before after = found-short serial before after (serialRow serial after)
 
-pub jobs-short : (rs : List JobRow) → length (jobsText connectionCount rs) ≤ jobsRoom
-unfolding jobsText
-jobs-short rs = pieces-short (unfinished rs) jobRoom jobCount (λ p h. row-short (getD rs p noRow))
+  row-short : (r : JobRow) → length (cond (live r) (jobText hub connectionCount r) []) ≤ jobRoom
+  row-short r = either (live r)
+    where
+      either : (b : Bool) → length (cond b (jobText hub connectionCount r) []) ≤ jobRoom
+      either true = job-short r
+      either false = omega arith
 
--- ---- jobs that are gone
+  pub jobs-short : (rs : List JobRow) → length (jobsText hub connectionCount rs) ≤ jobsRoom
+  unfolding jobsText
+  jobs-short rs = pieces-short (unfinished hub rs) jobRoom jobCount (λ p h. row-short (getD rs p noRow))
 
-gone-one-short : (word : Bytes) (after : List JobRow) (r : JobRow) → length word ≤ 8 → length (goneOne word after r) ≤ 29
-unfolding goneOne
-gone-one-short word after r h = either (live r)
-  where
-    either : (b : Bool) → length (cond b (absentText word (r .serial) after) []) ≤ 29
-    either true = omega (arith, absent-short word (r .serial) after)
-    either false = omega arith
+  -- ---- jobs that are gone
 
-pub gone-short : (word : Bytes) (before after : List JobRow) → length word ≤ 8 → length (goneText word before after) ≤ goneRoom
-unfolding goneText
-gone-short word before after h = pieces-short (gone word before after) 29 jobCount (λ p l. gone-one-short word after (getD before p noRow) h)
+  gone-one-short : (word : Bytes) (after : List JobRow) (r : JobRow) → length word ≤ 8 → length (goneOne hub word after r) ≤ goneOneRoom
+  unfolding goneOne
+  gone-one-short word after r h = either (live r)
+    where
+      either : (b : Bool) → length (cond b (absentText hub word (r .serial) after) []) ≤ goneOneRoom
+      either true = omega (arith, absent-short word (r .serial) after)
+      either false = omega arith
+
+  pub gone-short : (word : Bytes) (before after : List JobRow) → length word ≤ 8 → length (goneText hub word before after) ≤ goneRoom
+  unfolding goneText
+  gone-short word before after h = pieces-short (gone hub word before after) goneOneRoom jobCount (λ p l. gone-one-short word after (getD before p noRow) h)

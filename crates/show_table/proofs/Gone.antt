@@ -25,13 +25,13 @@ unfolding pieces
 nothing-laid g zero h = refl
 nothing-laid g (suc n) h = rw (nothing-laid g n h, h n)
 
-module _ (word : Bytes) (rs : List JobRow) where
+module _ (hub word : Bytes) (rs : List JobRow) where
   -- the search for a serial finds a job that has it
-  finds : (s p : ℕ) → p < length rs → live (getD rs p noRow) && eqb (getD rs p noRow .serial) s ≡ true → absentText word s rs ≡ []
+  finds : (s p : ℕ) → p < length rs → live (getD rs p noRow) && eqb (getD rs p noRow .serial) s ≡ true → absentText hub word s rs ≡ []
   unfolding absentText unfoundText serialRow
   finds s p h e = go (serialRow s rs) refl
     where
-      go : (o : Option ℕ) → serialRow s rs ≡ o → unfoundText word s o ≡ []
+      go : (o : Option ℕ) → serialRow s rs ≡ o → unfoundText hub word s o ≡ []
       go (some i) q = refl
       go none q =
           let n : not (live (getD rs p noRow) && eqb (getD rs p noRow .serial) s) ≡ true = all-at _ rs p noRow (found _ noRow rs none q) h in
@@ -49,14 +49,14 @@ module _ (word : Bytes) (rs : List JobRow) where
           let z : false ≡ true = rw n at e in
           let y : _≡_ {A = ℕ} 0 1 = cc in absurd (omega arith)
 
-  stays : (p : ℕ) → gone word rs rs p ≡ []
+  stays : (p : ℕ) → gone hub word rs rs p ≡ []
   unfolding goneOne
   stays p = go (live (getD rs p noRow)) refl
     where
-      go : (b : Bool) → live (getD rs p noRow) ≡ b → cond b (absentText word (getD rs p noRow .serial) rs) [] ≡ []
+      go : (b : Bool) → live (getD rs p noRow) ≡ b → cond b (absentText hub word (getD rs p noRow .serial) rs) [] ≡ []
       go true e = finds (getD rs p noRow .serial) p (inside p e) (rw (e, eq-eqb _ _ refl))
       go false e = refl
 
-  pub kept-unnamed : goneText word rs rs ≡ []
+  pub kept-unnamed : goneText hub word rs rs ≡ []
   unfolding goneText
-  kept-unnamed = nothing-laid (gone word rs rs) jobCount stays
+  kept-unnamed = nothing-laid (gone hub word rs rs) jobCount stays

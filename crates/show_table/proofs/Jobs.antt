@@ -18,12 +18,12 @@ use Rattle.show_names.specs.Names.{space}
 use Rattle.show_table.specs.Standing.{absentText, foundText, goneOne, handleLine, holderText, holderWord, jobText, noJobWord, noneWord, serialText, unfoundText}
 
 -- the piece of place p
-abbrev pub unfinished : List JobRow → ℕ → Bytes
-unfinished rs p = cond (live (getD rs p noRow)) (jobText connectionCount (getD rs p noRow)) []
+abbrev pub unfinished : Bytes → List JobRow → ℕ → Bytes
+unfinished hub rs p = cond (live (getD rs p noRow)) (jobText hub connectionCount (getD rs p noRow)) []
 
 -- what is said of place p, if its job is gone
-abbrev pub gone : Bytes → List JobRow → List JobRow → ℕ → Bytes
-gone word before after p = goneOne word after (getD before p noRow)
+abbrev pub gone : Bytes → Bytes → List JobRow → List JobRow → ℕ → Bytes
+gone hub word before after p = goneOne hub word after (getD before p noRow)
 
 -- ---- a holder, from the number in the row
 
@@ -38,20 +38,20 @@ holder-some (suc c) n = let e : suc c - 1 ≡ c = omega arith in rw e
 
 -- ---- the job of a serial, from the answer of the search
 
-module _ (n serial : ℕ) (before after : List JobRow) where
-  pub serial-found : (p : ℕ) (r : JobRow) → At p ≡ placed (serialRow serial after) → r ≡ getD after p noRow → jobText n r ≡ serialText n serial before after
+module _ (hub : Bytes) (n serial : ℕ) (before after : List JobRow) where
+  pub serial-found : (p : ℕ) (r : JobRow) → At p ≡ placed (serialRow serial after) → r ≡ getD after p noRow → jobText hub n r ≡ serialText hub n serial before after
   unfolding serialText foundText
-  serial-found p r e q = ap (jobText n) q ∙ ap (foundText n serial before after) (searched (serialRow serial after) (At p) e)
+  serial-found p r e q = ap (jobText hub n) q ∙ ap (foundText hub n serial before after) (searched (serialRow serial after) (At p) e)
 
-  pub serial-unfound : Nowhere ≡ placed (serialRow serial after) → absentText noJobWord serial before ≡ serialText n serial before after
+  pub serial-unfound : Nowhere ≡ placed (serialRow serial after) → absentText hub noJobWord serial before ≡ serialText hub n serial before after
   unfolding serialText foundText
-  serial-unfound e = ap (foundText n serial before after) (searched (serialRow serial after) Nowhere e)
+  serial-unfound e = ap (foundText hub n serial before after) (searched (serialRow serial after) Nowhere e)
 
-module _ (word : Bytes) (serial : ℕ) (rs : List JobRow) where
-  pub not-absent : (p : ℕ) → At p ≡ placed (serialRow serial rs) → [] ≡ absentText word serial rs
+module _ (hub word : Bytes) (serial : ℕ) (rs : List JobRow) where
+  pub not-absent : (p : ℕ) → At p ≡ placed (serialRow serial rs) → [] ≡ absentText hub word serial rs
   unfolding absentText unfoundText
-  not-absent p e = ap (unfoundText word serial) (searched (serialRow serial rs) (At p) e)
+  not-absent p e = ap (unfoundText hub word serial) (searched (serialRow serial rs) (At p) e)
 
-  pub absent : Nowhere ≡ placed (serialRow serial rs) → handleLine word serial ≡ absentText word serial rs
+  pub absent : Nowhere ≡ placed (serialRow serial rs) → handleLine hub word serial ≡ absentText hub word serial rs
   unfolding absentText unfoundText
-  absent e = ap (unfoundText word serial) (searched (serialRow serial rs) Nowhere e)
+  absent e = ap (unfoundText hub word serial) (searched (serialRow serial rs) Nowhere e)

@@ -1,5 +1,6 @@
 -- How the table stands after an event, in words: who is asleep, the jobs that are gone, and a job with its marks, its holder and its
--- listeners. A line begins with a line end and four spaces, and has no line end after it. Assumes nothing.
+-- listeners. A job is named by its handle at the hub. A line begins with a line end and four spaces, and has no line end after it.
+-- Assumes nothing.
 use Prim.Native.Nat.{ℕ, zero, suc, _+_, _*_}
 use mathlib.Core.Bool.{Bool, cond}
 use mathlib.Core.List.{List, [], _∷_, _++_}
@@ -8,7 +9,7 @@ use lib.ListN.{getD}
 use lib.Dec.{eqb}
 use Rattle.octets.specs.Bytes.{Bytes}
 use Rattle.sets.specs.Sets.{has}
-use Rattle.handle.specs.Handle.{decimal, handle, lap}
+use Rattle.handle.specs.Handle.{decimal, handle, handleMost}
 use Rattle.server.specs.declared.Connection.{Connection}
 use Rattle.server.specs.declared.JobRow.{JobRow}
 use Rattle.server.specs.Sizes.{connectionCount, jobCount}
@@ -71,9 +72,9 @@ sleepersText n cs = below ++ (asleepWord ++ connectionsText (λ c. getD cs c clo
 
 -- ---- one job
 
--- `dropped H:lap:3`: a word with a space after it, and the handle
-unfoldable pub handleLine : Bytes → ℕ → Bytes
-handleLine word serial = below ++ (word ++ handle lap serial)
+-- `dropped H:lap:3`: a word with a space after it, and the handle at the hub of this name
+unfoldable pub handleLine : Bytes → Bytes → ℕ → Bytes
+handleLine hub word serial = below ++ (word ++ handle hub serial)
 
 -- ` low`, ` high`, ` background`; of a normal priority and of the foreground nothing is said
 unfoldable pub marksText : JobRow → Bytes
@@ -85,41 +86,41 @@ holderText zero = noneWord
 holderText (suc c) = space ++ decimal c
 
 -- `job H:lap:1 high background holder 1 listeners 0 2`
-unfoldable pub jobText : ℕ → JobRow → Bytes
-jobText n r =
-    handleLine jobWord (r .serial) ++ (marksText r ++ ((holderWord ++ holderText (r .holder)) ++ (listenersWord ++ connectionsText (has (r .listeners)) n)))
+unfoldable pub jobText : Bytes → ℕ → JobRow → Bytes
+jobText hub n r =
+    handleLine hub jobWord (r .serial) ++ (marksText r ++ ((holderWord ++ holderText (r .holder)) ++ (listenersWord ++ connectionsText (has (r .listeners)) n)))
 
 -- a line for a serial that no unfinished job of the rows has
-unfoldable pub unfoundText : Bytes → ℕ → Option ℕ → Bytes
-unfoundText word serial (some p) = []
-unfoundText word serial none = handleLine word serial
+unfoldable pub unfoundText : Bytes → Bytes → ℕ → Option ℕ → Bytes
+unfoundText hub word serial (some p) = []
+unfoundText hub word serial none = handleLine hub word serial
 
-unfoldable pub absentText : Bytes → ℕ → List JobRow → Bytes
-absentText word serial rs = unfoundText word serial (serialRow serial rs)
+unfoldable pub absentText : Bytes → Bytes → ℕ → List JobRow → Bytes
+absentText hub word serial rs = unfoundText hub word serial (serialRow serial rs)
 
 -- the job at the place where a serial was found after the event; `no job H:lap:7`, if none had it before the event either: one that had
 -- it is gone, and is named as such
-unfoldable pub foundText : ℕ → ℕ → List JobRow → List JobRow → Option ℕ → Bytes
-foundText n serial before after (some p) = jobText n (getD after p noRow)
-foundText n serial before after none = absentText noJobWord serial before
+unfoldable pub foundText : Bytes → ℕ → ℕ → List JobRow → List JobRow → Option ℕ → Bytes
+foundText hub n serial before after (some p) = jobText hub n (getD after p noRow)
+foundText hub n serial before after none = absentText hub noJobWord serial before
 
 -- the unfinished job of a serial, from the rows before the event and after it
-unfoldable pub serialText : ℕ → ℕ → List JobRow → List JobRow → Bytes
-serialText n serial before after = foundText n serial before after (serialRow serial after)
+unfoldable pub serialText : Bytes → ℕ → ℕ → List JobRow → List JobRow → Bytes
+serialText hub n serial before after = foundText hub n serial before after (serialRow serial after)
 
 -- ---- all jobs
 
 -- every unfinished job, in the order of the places
-unfoldable pub jobsText : ℕ → List JobRow → Bytes
-jobsText n rs = pieces (λ p. cond (live (getD rs p noRow)) (jobText n (getD rs p noRow)) []) jobCount
+unfoldable pub jobsText : Bytes → ℕ → List JobRow → Bytes
+jobsText hub n rs = pieces (λ p. cond (live (getD rs p noRow)) (jobText hub n (getD rs p noRow)) []) jobCount
 
 -- a row's job, if none of the rows after the event has its serial
-unfoldable pub goneOne : Bytes → List JobRow → JobRow → Bytes
-goneOne word after r = cond (live r) (absentText word (r .serial) after) []
+unfoldable pub goneOne : Bytes → Bytes → List JobRow → JobRow → Bytes
+goneOne hub word after r = cond (live r) (absentText hub word (r .serial) after) []
 
 -- every job that stood in the table before the event and is gone after it, in the order of the places: `dropped H:lap:3`
-unfoldable pub goneText : Bytes → List JobRow → List JobRow → Bytes
-goneText word before after = pieces (λ p. goneOne word after (getD before p noRow)) jobCount
+unfoldable pub goneText : Bytes → Bytes → List JobRow → List JobRow → Bytes
+goneText hub word before after = pieces (λ p. goneOne hub word after (getD before p noRow)) jobCount
 
 -- ---- room for them
 
@@ -130,13 +131,16 @@ connectionsRoom = 3 * connectionCount
 abbrev pub sleepersRoom : ℕ
 sleepersRoom = connectionsRoom + 11
 
--- `job` 9, the handle 16, the marks 20, the holder 18, `listeners` 10
+-- `job` 9, the marks 20, the holder 18, `listeners` 10, and the handle
 abbrev pub jobRoom : ℕ
-jobRoom = connectionsRoom + 73
+jobRoom = connectionsRoom + 57 + handleMost
 
 abbrev pub jobsRoom : ℕ
 jobsRoom = jobRoom * jobCount
 
--- `dropped` 13, the handle 16
+-- `dropped` 13, and the handle
+abbrev pub goneOneRoom : ℕ
+goneOneRoom = 13 + handleMost
+
 abbrev pub goneRoom : ℕ
-goneRoom = 29 * jobCount
+goneRoom = goneOneRoom * jobCount

@@ -12,16 +12,16 @@ use Rattle.octets.specs.Put.{over, put}
 use Rattle.octets.proofs.Strings.{same-refl, same-is}
 use Rattle.octets.proofs.Laying.{put-start}
 use Rattle.lists.specs.Lists.{fit, numbers}
-use Rattle.server.specs.Sizes.{functionCount, jobCount, nameSize, uniqueSize, numberSize, idSize}
+use Rattle.server.specs.Sizes.{functionCount, jobCount, nameSize, uniqueSize, numberSize, idSize, hubSize}
 use Rattle.server.specs.Table.{Table}
-use Rattle.server.specs.Layout.{little, littleAt, flagByte, column, bytesOf, tableOf, tableSize, isImage, connectionIn, idIn, functionIn, jobIn, setSize, ableAt, listenersAt, namesAt, uniquesAt, numeratorsAt, denominatorsAt, openedAt, asleepAt, exceptionsAt, idsAt}
+use Rattle.server.specs.Layout.{little, littleAt, flagByte, column, bytesOf, tableOf, tableSize, isImage, connectionIn, idIn, functionIn, jobIn, setSize, ableAt, listenersAt, namesAt, uniquesAt, numeratorsAt, denominatorsAt, hubAt, openedAt, asleepAt, exceptionsAt, idsAt}
 use Rattle.table_laws.specs.Tests.{part, areFlags, arePadded, imageTests}
 use Rattle.table_laws.proofs.Fields.{length-little, little-again}
 use Rattle.table_laws.proofs.Columns.{length-places}
 use Rattle.table_laws.proofs.Laid.{length-bytes}
 use Rattle.table_laws.proofs.Round.{Fitting, table-put}
 use Rattle.table_laws.proofs.RowColumns.{rowsSize, next-rows}
-use Rattle.table_laws.proofs.Same.{Agrees, and-assoc, next-agrees, next-numbers, next-flags, next-texts, same-texts, flags-add}
+use Rattle.table_laws.proofs.Same.{Agrees, and-assoc, next-agrees, next-numbers, next-flags, next-texts, next-text, same-texts, flags-add}
 
 -- ---- an image laid over itself
 
@@ -79,7 +79,7 @@ module _ (n : ℕ) (b : Bytes) (small : (i : ℕ) → getD b i 0 < 256) (long : 
   unfolding isImage tableOf bytesOf imageTests
   image-tests =
       let k : tableSize n ≡ 4 + (rowsSize + (nameSize * functionCount + (uniqueSize * jobCount
-      + (numberSize * jobCount + (numberSize * jobCount + (setSize n * functionCount + (setSize n * jobCount + (n + (n + (n + idSize * n)))))))))) = omega arith in
+      + (numberSize * jobCount + (numberSize * jobCount + (hubSize + (setSize n * functionCount + (setSize n * jobCount + (n + (n + (n + idSize * n))))))))))) = omega arith in
       let z : same (part 4 b 0) (little 4 (littleAt 4 b 0)) ≡ true = rw (little-again 4 b 0 small (omega arith)) (same-refl (part 4 b 0)) in
       let f = functionIn n b in
       let j = jobIn n b in
@@ -90,6 +90,7 @@ module _ (n : ℕ) (b : Bytes) (small : (i : ℕ) → getD b i 0 < 256) (long : 
       (next-texts b j uniqueSize jobCount (λ x. x .unique) uniquesAt (omega arith) (λ i. refl)
       (next-texts b j numberSize jobCount (λ x. x .numerator) numeratorsAt (omega arith) (λ i. refl)
       (next-texts b j numberSize jobCount (λ x. x .denominator) denominatorsAt (omega arith) (λ i. refl)
+      (next-text b hubSize hubAt (omega arith)
       (next-numbers b f (setSize n) functionCount (λ x. x .able) ableAt small (omega arith) (λ i. refl)
       (next-numbers b j (setSize n) jobCount (λ x. x .row .listeners) (listenersAt n) small (omega arith) (λ i. refl)
-      connections-agree)))))))) .agrees)
+      connections-agree))))))))) .agrees)

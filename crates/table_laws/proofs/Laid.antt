@@ -5,9 +5,10 @@ use native.Mathlib.Omega.{arith}
 use lib.ListN.{length, length-append}
 use Rattle.octets.specs.Bytes.{Bytes}
 use Rattle.lists.specs.Lists.{fit}
-use Rattle.server.specs.Sizes.{functionCount, jobCount, nameSize, uniqueSize, numberSize, idSize}
+use Rattle.lists.proofs.Lists.{length-fit}
+use Rattle.server.specs.Sizes.{functionCount, jobCount, nameSize, uniqueSize, numberSize, idSize, hubSize}
 use Rattle.server.specs.Table.{Table}
-use Rattle.server.specs.Layout.{little, flagByte, column, rowBytes, bytesOf, tableSize, setSize, lastAt, ableAt, serialsAt, listenersAt, namesAt, uniquesAt, numeratorsAt, denominatorsAt, openedAt, asleepAt, exceptionsAt, idsAt}
+use Rattle.server.specs.Layout.{little, flagByte, column, rowBytes, bytesOf, tableSize, setSize, lastAt, ableAt, serialsAt, listenersAt, namesAt, uniquesAt, numeratorsAt, denominatorsAt, hubAt, openedAt, asleepAt, exceptionsAt, idsAt}
 use Rattle.table_laws.proofs.Fields.{Lies, lies-left, length-little}
 use Rattle.table_laws.proofs.Columns.{numbers-long, flags-long, texts-long}
 use Rattle.table_laws.proofs.RowColumns.{rowsSize, rows-long, next-lies}
@@ -59,6 +60,7 @@ module _ (t : Table) (fs : length (t .functions) ≡ functionCount) (js : length
         texts-long uniqueSize (λ j. j .unique) (t .jobs) jobCount js,
         texts-long numberSize (λ j. j .numerator) (t .jobs) jobCount js,
         texts-long numberSize (λ j. j .denominator) (t .jobs) jobCount js,
+        length-fit hubSize (t .hub),
         numbers-long (setSize n) (λ x. x .able) (t .functions) functionCount fs,
         numbers-long (setSize n) (λ j. j .row .listeners) (t .jobs) jobCount js,
         flags-long (λ x. x .opened) (t .connections) n refl,
@@ -77,6 +79,7 @@ pub record Laid (t : Table) (b : Bytes) : Type 0 where
   pub unique : Lies b uniquesAt (uniques t)
   pub numerator : Lies b numeratorsAt (numerators t)
   pub denominator : Lies b denominatorsAt (denominators t)
+  pub hub : Lies b hubAt (fit hubSize (t .hub))
   pub able : Lies b ableAt (ables t)
   pub listening : Lies b (listenersAt (length (t .connections))) (listeners t)
   pub opened : Lies b (openedAt (length (t .connections))) (openeds t)
@@ -93,12 +96,13 @@ laid t b fs js l0 =
     let l3 = next-lies (names t) (nameSize * functionCount) uniquesAt l2 (texts-long nameSize (λ x. x .name) (t .functions) functionCount fs) refl in
     let l4 = next-lies (uniques t) (uniqueSize * jobCount) numeratorsAt l3 (texts-long uniqueSize (λ j. j .unique) (t .jobs) jobCount js) refl in
     let l5 = next-lies (numerators t) (numberSize * jobCount) denominatorsAt l4 (texts-long numberSize (λ j. j .numerator) (t .jobs) jobCount js) refl in
-    let l6 = next-lies (denominators t) (numberSize * jobCount) ableAt l5 (texts-long numberSize (λ j. j .denominator) (t .jobs) jobCount js) refl in
-    let l7 = next-lies (ables t) (setSize n * functionCount) (listenersAt n) l6 (numbers-long (setSize n) (λ x. x .able) (t .functions) functionCount fs) refl in
-    let l8 = next-lies (listeners t) (setSize n * jobCount) (openedAt n) l7 (numbers-long (setSize n) (λ j. j .row .listeners) (t .jobs) jobCount js) refl in
-    let l9 = next-lies (openeds t) n (asleepAt n) l8 (flags-long (λ x. x .opened) (t .connections) n refl) refl in
-    let l10 = next-lies (asleeps t) n (exceptionsAt n) l9 (flags-long (λ x. x .asleep) (t .connections) n refl) refl in
-    let l11 = next-lies (exceptionses t) n (idsAt n) l10 (flags-long (λ x. x .exceptions) (t .connections) n refl) refl in
+    let l6 = next-lies (denominators t) (numberSize * jobCount) hubAt l5 (texts-long numberSize (λ j. j .denominator) (t .jobs) jobCount js) refl in
+    let l7 = next-lies (fit hubSize (t .hub)) hubSize ableAt l6 (length-fit hubSize (t .hub)) refl in
+    let l8 = next-lies (ables t) (setSize n * functionCount) (listenersAt n) l7 (numbers-long (setSize n) (λ x. x .able) (t .functions) functionCount fs) refl in
+    let l9 = next-lies (listeners t) (setSize n * jobCount) (openedAt n) l8 (numbers-long (setSize n) (λ j. j .row .listeners) (t .jobs) jobCount js) refl in
+    let l10 = next-lies (openeds t) n (asleepAt n) l9 (flags-long (λ x. x .opened) (t .connections) n refl) refl in
+    let l11 = next-lies (asleeps t) n (exceptionsAt n) l10 (flags-long (λ x. x .asleep) (t .connections) n refl) refl in
+    let l12 = next-lies (exceptionses t) n (idsAt n) l11 (flags-long (λ x. x .exceptions) (t .connections) n refl) refl in
     record {
       last = lies-left b _ _ _ l0;
       rows = lies-left b _ _ _ l1;
@@ -106,10 +110,11 @@ laid t b fs js l0 =
       unique = lies-left b _ _ _ l3;
       numerator = lies-left b _ _ _ l4;
       denominator = lies-left b _ _ _ l5;
-      able = lies-left b _ _ _ l6;
-      listening = lies-left b _ _ _ l7;
-      opened = lies-left b _ _ _ l8;
-      asleep = lies-left b _ _ _ l9;
-      exceptions = lies-left b _ _ _ l10;
-      id = l11;
+      hub = lies-left b _ _ _ l6;
+      able = lies-left b _ _ _ l7;
+      listening = lies-left b _ _ _ l8;
+      opened = lies-left b _ _ _ l9;
+      asleep = lies-left b _ _ _ l10;
+      exceptions = lies-left b _ _ _ l11;
+      id = l12;
     }

@@ -12,11 +12,12 @@ use lib.Pow.{pow-mono, pow-add}
 use Rattle.octets.specs.Bytes.{Bytes, same, firstZero, zeroFree, within, every}
 use Rattle.octets.proofs.Strings.{and-left, and-right, same-is}
 use Rattle.packet.specs.Arguments.{digits}
+use Rattle.handle.proofs.Hubs.{hub-most, hub-zero-free}
 use Rattle.lists.specs.Lists.{all, implies}
 use Rattle.server.specs.Sizes.{functionCount, jobCount, nameSize, uniqueSize, idSize}
 use Rattle.server.specs.Table.{Job, Table, noFunction, noJob, idAt, functionAt, jobAt, live}
 use Rattle.server.specs.Layout.{setSize}
-use Rattle.server.specs.Rules.{nextSmall, serialsBelow, serialsDistinct, textWithin, storedNumber, namesWithin, textsWithin, together, sizesWithin, numbersFree, rowIsFree, rowHasMeaning, rowsHaveMeaning, functionsDistinct, functionsAsDefined, onlyOpen, abilitiesOpen, listenersOpen, holdersOpen, closedClear, queuedAwaited, uniquesDistinct, sleepersIdle, idsWithin, obeys}
+use Rattle.server.specs.Rules.{nextSmall, serialsBelow, serialsDistinct, textWithin, storedNumber, namesWithin, textsWithin, together, sizesWithin, numbersFree, rowIsFree, rowHasMeaning, rowsHaveMeaning, functionsDistinct, functionsAsDefined, onlyOpen, abilitiesOpen, listenersOpen, holdersOpen, closedClear, queuedAwaited, uniquesDistinct, sleepersIdle, idsWithin, idsOpen, obeys}
 use Rattle.server.proofs.Rows.{RangeFits, free-fits, free-row, range-fits}
 use Rattle.table_laws.proofs.Round.{TextFits, Fitting}
 
@@ -127,11 +128,14 @@ obeys-fitting t fs js is cs e =
     let abilities = and-left (abilitiesOpen t) _ e10 in
     let hearers = and-left (listenersOpen t) _ e11 in
     let ids = and-left (idsWithin t) _ e17 in
+    let e18 = and-right (idsWithin t) _ e17 in
+    let hub = and-right (idsOpen t) _ e18 in
     record {
       sixteen = fs;
       thirtyTwo = js;
       oneEach = is;
       last = small;
+      hub = record { within = omega (arith, hub-most (t .hub) hub); clean = hub-zero-free (t .hub) hub };
       ids = λ c h. text-fits idSize (idAt t c) (all-at (textWithin idSize) (t .ids) c [] ids (rw is h));
       functions = λ q h.
           let i : q < length (t .functions) = rw fs h in

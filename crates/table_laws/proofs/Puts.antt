@@ -1,5 +1,6 @@
--- One job, function, connection, client id or the last serial laid over the bytes of a table: the bytes of the table with it. Each is the law of
--- one field, at every column of its kind. A table has 16 functions and 32 jobs, and any number of connections and ids. Assumes nothing.
+-- One job, function, connection, client id, the hub's name or the last serial laid over the bytes of a table: the bytes of the table with
+-- it. Each is the law of one field, at every column of its kind. A table has 16 functions and 32 jobs, and any number of connections and
+-- ids. Assumes nothing.
 use Prim.Native.Nat.{ℕ, _+_, _*_, _<_}
 use mathlib.Core.Path.{_≡_, refl, sym, ap, _∙_}
 use mathlib.Core.Bool.{Bool}
@@ -11,9 +12,9 @@ use Rattle.octets.specs.Put.{put}
 use Rattle.server.specs.declared.Connection.{Connection}
 use Rattle.server.specs.declared.JobRow.{JobRow}
 use Rattle.lists.specs.Lists.{fit}
-use Rattle.server.specs.Sizes.{functionCount, jobCount, nameSize, uniqueSize, numberSize, idSize}
-use Rattle.server.specs.Table.{Function, Job, Table, closed, noJob, noFunction, connectionAt, jobAt, functionAt, setConnection, setId, setFunction, setJob, withRow, withTexts, withLastSerial, withAsleep, withName, withAble}
-use Rattle.server.specs.Layout.{little, flagByte, column, rowBytes, bytesOf, setSize, ableAt, listenersAt, namesAt, uniquesAt, numeratorsAt, denominatorsAt, openedAt, asleepAt, exceptionsAt, idsAt}
+use Rattle.server.specs.Sizes.{functionCount, jobCount, nameSize, uniqueSize, numberSize, idSize, hubSize}
+use Rattle.server.specs.Table.{Function, Job, Table, closed, noJob, noFunction, connectionAt, jobAt, functionAt, setConnection, setId, setFunction, setJob, withRow, withTexts, withLastSerial, withAsleep, withName, withAble, withHub}
+use Rattle.server.specs.Layout.{little, flagByte, column, rowBytes, bytesOf, setSize, ableAt, listenersAt, namesAt, uniquesAt, numeratorsAt, denominatorsAt, hubAt, openedAt, asleepAt, exceptionsAt, idsAt}
 use Rattle.lists.proofs.Lists.{length-fit}
 use Rattle.table_laws.proofs.Fields.{length-little}
 use Rattle.table_laws.proofs.Columns.{numbers-long, flags-long, texts-long}
@@ -28,15 +29,17 @@ pub record Sized (t : Table) : Type 0 where
 
 -- ---- the columns of a table
 
--- n connections; the numbers of js, the uniques of us, the stored texts of ns, the names of fs, the sets of xs, the flags of cs and the ids is
-abbrev pub segmentsOf : ℕ → ℕ → List Job → List Job → List Job → List Function → List Function → List Connection → List Bytes → List Bytes
-segmentsOf n last js us ns fs xs cs is =
+-- n connections; the numbers of js, the uniques of us, the stored texts of ns, the names of fs, the sets of xs, the flags of cs, the ids is
+-- and the hub's name
+abbrev pub segmentsOf : ℕ → ℕ → List Job → List Job → List Job → List Function → List Function → List Connection → List Bytes → Bytes → List Bytes
+segmentsOf n last js us ns fs xs cs is hub =
     little 4 last
     ∷ rowBytes js
     ∷ column (λ x. fit nameSize (x .name)) fs
     ∷ column (λ j. fit uniqueSize (j .unique)) us
     ∷ column (λ j. fit numberSize (j .numerator)) ns
     ∷ column (λ j. fit numberSize (j .denominator)) ns
+    ∷ fit hubSize hub
     ∷ column (λ x. little (setSize n) (x .able)) xs
     ∷ column (λ j. little (setSize n) (j .row .listeners)) js
     ∷ column (λ x. flagByte (x .opened)) cs
@@ -46,13 +49,13 @@ segmentsOf n last js us ns fs xs cs is =
     ∷ []
 
 abbrev pub segments : Table → List Bytes
-segments t = segmentsOf (length (t .connections)) (t .last) (t .jobs) (t .jobs) (t .jobs) (t .functions) (t .functions) (t .connections) (t .ids)
+segments t = segmentsOf (length (t .connections)) (t .last) (t .jobs) (t .jobs) (t .jobs) (t .functions) (t .functions) (t .connections) (t .ids) (t .hub)
 
 -- n connections and m ids
 abbrev pub widthsFor : ℕ → ℕ → List ℕ
 widthsFor n m =
     4 ∷ rowsSize ∷ nameSize * functionCount ∷ uniqueSize * jobCount
-    ∷ numberSize * jobCount ∷ numberSize * jobCount ∷ setSize n * functionCount ∷ setSize n * jobCount ∷ n ∷ n ∷ n ∷ idSize * m ∷ []
+    ∷ numberSize * jobCount ∷ numberSize * jobCount ∷ hubSize ∷ setSize n * functionCount ∷ setSize n * jobCount ∷ n ∷ n ∷ n ∷ idSize * m ∷ []
 
 pub bytes-laid : (t : Table) → bytesOf t ≡ laid (segments t)
 unfolding bytesOf
@@ -74,6 +77,7 @@ module _ (t : Table) (z : Sized t) where
         texts-long uniqueSize (λ j. j .unique) (t .jobs) jobCount (z .jobs),
         texts-long numberSize (λ j. j .numerator) (t .jobs) jobCount (z .jobs),
         texts-long numberSize (λ j. j .denominator) (t .jobs) jobCount (z .jobs),
+        length-fit hubSize (t .hub),
         numbers-long (setSize n) (λ x. x .able) (t .functions) functionCount (z .functions),
         numbers-long (setSize n) (λ j. j .row .listeners) (t .jobs) jobCount (z .jobs),
         flags-long (λ x. x .opened) (t .connections) n refl,
@@ -102,9 +106,9 @@ module _ (t : Table) (z : Sized t) where
     abbrev pub textPuts : Job → Bytes → Bytes
     textPuts j x = put (denominatorsAt + numberSize * p) (fit numberSize (j .denominator)) (put (numeratorsAt + numberSize * p) (fit numberSize (j .numerator)) (put (uniquesAt + uniqueSize * p) (fit uniqueSize (j .unique)) x))
 
-    row-over : (j : Job) → Over b (widthsFor n m) (rowPuts (j .row) (put 0 (bytesOf t) b)) (segmentsOf n (t .last) (set (t .jobs) p j) (t .jobs) (t .jobs) (t .functions) (t .functions) (t .connections) (t .ids))
+    row-over : (j : Job) → Over b (widthsFor n m) (rowPuts (j .row) (put 0 (bytesOf t) b)) (segmentsOf n (t .last) (set (t .jobs) p j) (t .jobs) (t .jobs) (t .functions) (t .functions) (t .connections) (t .ids) (t .hub))
     row-over j =
-        let o1 = next (start b) (λ (j : Job). little (setSize n) (j .row .listeners)) (setSize n) (λ j. length-little (setSize n) (j .row .listeners)) 7 (listenersAt n) (t .jobs) p j refl (omega arith) (omega arith) inside in
+        let o1 = next (start b) (λ (j : Job). little (setSize n) (j .row .listeners)) (setSize n) (λ j. length-little (setSize n) (j .row .listeners)) 8 (listenersAt n) (t .jobs) p j refl (omega arith) (omega arith) inside in
         next-row (t .jobs) (z .jobs) p h j (length-little 4 (t .last)) o1
 
     pub put-job : (j : Job) → textPuts j (rowPuts (j .row) (put 0 (bytesOf t) b)) ≡ put 0 (bytesOf (setJob t p j)) b
@@ -129,7 +133,7 @@ module _ (t : Table) (z : Sized t) where
 
     -- a job that keeps its row
     texts-over : (j : Job) → j .row ≡ jobAt t p .row → (us : List Job) → column (λ j. fit uniqueSize (j .unique)) us ≡ column (λ j. fit uniqueSize (j .unique)) (set (t .jobs) p j)
-        → laid (segmentsOf n (t .last) (t .jobs) us (set (t .jobs) p j) (t .functions) (t .functions) (t .connections) (t .ids)) ≡ bytesOf (setJob t p j)
+        → laid (segmentsOf n (t .last) (t .jobs) us (set (t .jobs) p j) (t .functions) (t .functions) (t .connections) (t .ids) (t .hub)) ≡ bytesOf (setJob t p j)
     texts-over j e us u =
         sym (bytes-laid (setJob t p j)
         ∙ rw (
@@ -161,7 +165,7 @@ module _ (t : Table) (z : Sized t) where
 
     pub put-function : (x : Function) → put (namesAt + nameSize * q) (fit nameSize (x .name)) (put (ableAt + setSize n * q) (little (setSize n) (x .able)) (put 0 (bytesOf t) b)) ≡ put 0 (bytesOf (setFunction t q x)) b
     put-function x =
-        let o1 = next (start b) (λ (x : Function). little (setSize n) (x .able)) (setSize n) (λ x. length-little (setSize n) (x .able)) 6 ableAt (t .functions) q x refl (omega arith) refl inside-functions in
+        let o1 = next (start b) (λ (x : Function). little (setSize n) (x .able)) (setSize n) (λ x. length-little (setSize n) (x .able)) 7 ableAt (t .functions) q x refl (omega arith) refl inside-functions in
         finish b _ (setFunction t q x) (next o1 (λ (x : Function). fit nameSize (x .name)) nameSize (λ x. length-fit nameSize (x .name)) 2 namesAt (t .functions) q x refl (omega arith) refl inside-functions)
 
     -- a function that keeps its set
@@ -176,7 +180,7 @@ module _ (t : Table) (z : Sized t) where
     pub put-able : (s : ℕ) → put (ableAt + setSize n * q) (little (setSize n) s) (put 0 (bytesOf t) b) ≡ put 0 (bytesOf (setFunction t q (withAble s (functionAt t q)))) b
     put-able s =
         let x : Function = withAble s (functionAt t q) in
-        let o1 = next (start b) (λ (x : Function). little (setSize n) (x .able)) (setSize n) (λ x. length-little (setSize n) (x .able)) 6 ableAt (t .functions) q x refl (omega arith) refl inside-functions in
+        let o1 = next (start b) (λ (x : Function). little (setSize n) (x .able)) (setSize n) (λ x. length-little (setSize n) (x .able)) 7 ableAt (t .functions) q x refl (omega arith) refl inside-functions in
         o1 .is
         ∙ ap (λ (s : Bytes). put 0 s b) (sym (bytes-laid (setFunction t q x) ∙ rw (column-same (λ (x : Function). fit nameSize (x .name)) (t .functions) q x noFunction refl)))
 
@@ -184,25 +188,25 @@ module _ (t : Table) (z : Sized t) where
 
   module _ (b : Bytes) (c : ℕ) (h : c < length (t .connections)) where
     -- other flags, but as many connections
-    as-many : (x : Connection) → laid (segmentsOf n (t .last) (t .jobs) (t .jobs) (t .jobs) (t .functions) (t .functions) (set (t .connections) c x) (t .ids)) ≡ bytesOf (setConnection t c x)
+    as-many : (x : Connection) → laid (segmentsOf n (t .last) (t .jobs) (t .jobs) (t .jobs) (t .functions) (t .functions) (set (t .connections) c x) (t .ids) (t .hub)) ≡ bytesOf (setConnection t c x)
     as-many x =
-        ap (λ (m : ℕ). laid (segmentsOf m (t .last) (t .jobs) (t .jobs) (t .jobs) (t .functions) (t .functions) (set (t .connections) c x) (t .ids))) (sym (length-set (t .connections) c x))
+        ap (λ (m : ℕ). laid (segmentsOf m (t .last) (t .jobs) (t .jobs) (t .jobs) (t .functions) (t .functions) (set (t .connections) c x) (t .ids) (t .hub))) (sym (length-set (t .connections) c x))
         ∙ sym (bytes-laid (setConnection t c x))
 
     pub put-connection : (x : Connection)
         → put (exceptionsAt n + c) (flagByte (x .exceptions)) (put (asleepAt n + c) (flagByte (x .asleep)) (put (openedAt n + c) (flagByte (x .opened)) (put 0 (bytesOf t) b)))
         ≡ put 0 (bytesOf (setConnection t c x)) b
     put-connection x =
-        let o1 = next1 (start b) (λ (x : Connection). flagByte (x .opened)) (λ x. refl) 8 (openedAt n) (t .connections) c x refl (omega arith) (omega arith) h in
-        let o2 = next1 o1 (λ (x : Connection). flagByte (x .asleep)) (λ x. refl) 9 (asleepAt n) (t .connections) c x refl (omega arith) (omega arith) h in
-        let o3 = next1 o2 (λ (x : Connection). flagByte (x .exceptions)) (λ x. refl) 10 (exceptionsAt n) (t .connections) c x refl (omega arith) (omega arith) h in
+        let o1 = next1 (start b) (λ (x : Connection). flagByte (x .opened)) (λ x. refl) 9 (openedAt n) (t .connections) c x refl (omega arith) (omega arith) h in
+        let o2 = next1 o1 (λ (x : Connection). flagByte (x .asleep)) (λ x. refl) 10 (asleepAt n) (t .connections) c x refl (omega arith) (omega arith) h in
+        let o3 = next1 o2 (λ (x : Connection). flagByte (x .exceptions)) (λ x. refl) 11 (exceptionsAt n) (t .connections) c x refl (omega arith) (omega arith) h in
         o3 .is ∙ ap (λ (s : Bytes). put 0 s b) (as-many x)
 
     -- a connection that keeps its other flags
     pub put-asleep : (a : Bool) → put (asleepAt n + c) (flagByte a) (put 0 (bytesOf t) b) ≡ put 0 (bytesOf (setConnection t c (withAsleep a (connectionAt t c)))) b
     put-asleep a =
         let x : Connection = withAsleep a (connectionAt t c) in
-        let o1 = next1 (start b) (λ (x : Connection). flagByte (x .asleep)) (λ x. refl) 9 (asleepAt n) (t .connections) c x refl (omega arith) (omega arith) h in
+        let o1 = next1 (start b) (λ (x : Connection). flagByte (x .asleep)) (λ x. refl) 10 (asleepAt n) (t .connections) c x refl (omega arith) (omega arith) h in
         o1 .is
         ∙ ap (λ (s : Bytes). put 0 s b)
         (sym (sym (as-many x)
@@ -214,7 +218,14 @@ module _ (t : Table) (z : Sized t) where
   -- ---- one client id
 
   pub put-id : (b : Bytes) (c : ℕ) → c < length (t .ids) → (i : Bytes) → put (idsAt n + idSize * c) (fit idSize i) (put 0 (bytesOf t) b) ≡ put 0 (bytesOf (setId t c i)) b
-  put-id b c h i = finish b _ (setId t c i) (next (start b) (fit idSize) idSize (length-fit idSize) 11 (idsAt n) (t .ids) c i refl (omega arith) (omega arith) h)
+  put-id b c h i = finish b _ (setId t c i) (next (start b) (fit idSize) idSize (length-fit idSize) 12 (idsAt n) (t .ids) c i refl (omega arith) (omega arith) h)
+
+  -- ---- the name of the hub
+
+  pub put-hub : (b h : Bytes) → put hubAt (fit hubSize h) (put 0 (bytesOf t) b) ≡ put 0 (bytesOf (withHub h t)) b
+  put-hub b h =
+      let o = next (start b) (fit hubSize) hubSize (length-fit hubSize) 6 hubAt (t .hub ∷ []) 0 h (sym (append-nil (fit hubSize (t .hub)))) (omega arith) refl (omega arith) in
+      o .is ∙ ap (λ (s : Bytes). put 0 (laid (set (segments t) 6 s)) b) (append-nil (fit hubSize h)) ∙ ap (λ (s : Bytes). put 0 s b) (sym (bytes-laid (withHub h t)))
 
 -- ---- the last serial
 

@@ -11,10 +11,10 @@ use Rattle.octets.specs.Put.{put}
 use Rattle.octets.proofs.Laying.{put-start}
 use Rattle.server.specs.declared.Connection.{Connection}
 use Rattle.server.specs.declared.JobRow.{JobRow}
-use Rattle.server.specs.Sizes.{functionCount, jobCount, nameSize, uniqueSize, numberSize, idSize}
+use Rattle.server.specs.Sizes.{functionCount, jobCount, idSize, hubSize}
 use Rattle.server.specs.Table.{Function, Job, Table, closed, noFunction, noJob, connectionAt, idAt, functionAt, jobAt}
-use Rattle.server.specs.Layout.{bytesOf, tableOf, tableSize, setSize, connectionIn, idIn, functionIn, rowIn, jobIn}
-use Rattle.table_laws.proofs.Fields.{little-lies}
+use Rattle.server.specs.Layout.{bytesOf, tableOf, tableSize, setSize, hubAt, connectionIn, idIn, functionIn, rowIn, jobIn}
+use Rattle.table_laws.proofs.Fields.{little-lies, text-lies}
 use Rattle.table_laws.proofs.Columns.{places-are, number-at, flag-at, text-at}
 use Rattle.table_laws.proofs.RowColumns.{RowFits, rows-laid, row-back}
 use Rattle.table_laws.proofs.Laid.{Laid, laid, length-bytes}
@@ -42,6 +42,7 @@ pub record Fitting (t : Table) : Type 0 where
   pub thirtyTwo : length (t .jobs) ≡ jobCount
   pub oneEach : length (t .ids) ≡ length (t .connections)
   pub last : t .last < 2 ^ 32
+  pub hub : TextFits hubSize (t .hub)
   pub ids : (c : ℕ) → c < length (t .connections) → TextFits idSize (idAt t c)
   pub functions : (q : ℕ) → q < functionCount → FunctionFits (length (t .connections)) (functionAt t q)
   pub jobs : (p : ℕ) → p < jobCount → JobFits (length (t .connections)) (jobAt t p)
@@ -59,9 +60,9 @@ job-is : (j : Job) {r : JobRow} {u n d : Bytes} → r ≡ j .row → u ≡ j .un
     → _≡_ {A = Job} (record { row = r; unique = u; numerator = n; denominator = d }) j
 job-is j p q r s = rw (p, q, r, s)
 
-table-is : (t : Table) {l : ℕ} {cs : List Connection} {is : List Bytes} {fs : List Function} {js : List Job} → l ≡ t .last → cs ≡ t .connections → is ≡ t .ids → fs ≡ t .functions → js ≡ t .jobs
-    → _≡_ {A = Table} (record { last = l; connections = cs; ids = is; functions = fs; jobs = js }) t
-table-is t p q i r s = rw (p, q, i, r, s)
+table-is : (t : Table) {l : ℕ} {cs : List Connection} {is : List Bytes} {fs : List Function} {js : List Job} {h : Bytes} → l ≡ t .last → cs ≡ t .connections → is ≡ t .ids → fs ≡ t .functions → js ≡ t .jobs → h ≡ t .hub
+    → _≡_ {A = Table} (record { last = l; connections = cs; ids = is; functions = fs; jobs = js; hub = h }) t
+table-is t p q i r s h = rw (p, q, i, r, s, h)
 
 -- ---- the round trip
 
@@ -106,6 +107,7 @@ module _ (t : Table) (b : Bytes) (ok : Fitting t) (l : Laid t b) where
       (places-are (idIn (length (t .connections)) b) [] (length (t .connections)) (t .ids) (ok .oneEach) ids-back)
       (places-are (functionIn (length (t .connections)) b) noFunction functionCount (t .functions) (ok .sixteen) functions-back)
       (places-are (jobIn (length (t .connections)) b) noJob jobCount (t .jobs) (ok .thirtyTwo) jobs-back)
+      (text-lies hubSize (t .hub) b hubAt (ok .hub .within) (ok .hub .clean) (l .hub))
 
 -- "bytes of table beyond what the layout uses" have no say
 pub table-back : (t : Table) (r : Bytes) → Fitting t → tableOf (length (t .connections)) (bytesOf t ++ r) ≡ t

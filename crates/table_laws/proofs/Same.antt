@@ -186,3 +186,8 @@ module _ {A : Type 0} (b : Bytes) (g : ℕ → A) where
       → ((i : ℕ) → v (g i) ≡ textAt k b (at + k * i)) → Agrees rest b (at + k * m) r q → Agrees (k * m + rest) b at (column (λ x. fit k (v x)) (map g (numbers 0 m)) ++ r) (arePadded k m b at && q)
   next-texts k m v at h e a =
       next-agrees (k * m) b at (column (λ x. fit k (v x)) (map g (numbers 0 m))) h (texts-long k v (map g (numbers 0 m)) m (length-places g 0 m)) (same-texts k v g b at m h e) a
+
+-- one text, and then the rest
+pub next-text : (b : Bytes) (k at : ℕ) {rest : ℕ} {r : Bytes} {q : Bool} → at + k ≤ length b → Agrees rest b (at + k) r q → Agrees (k + rest) b at (fit k (textAt k b at) ++ r) (isPadded k b at && q)
+unfolding isPadded textAt
+next-text b k at h a = next-agrees k b at (fit k (textAt k b at)) h (length-fit k (textAt k b at)) (text-test (part k b at) k (length-part k b at h)) a

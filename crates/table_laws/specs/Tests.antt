@@ -6,8 +6,8 @@ use lib.ListN.{take, drop}
 use lib.Dec.{eqb, leb}
 use Rattle.octets.specs.Bytes.{Bytes, firstZero, every}
 use Rattle.lists.specs.Lists.{all, numbers}
-use Rattle.server.specs.Sizes.{functionCount, jobCount, nameSize, uniqueSize, numberSize, idSize}
-use Rattle.server.specs.Layout.{backgroundsAt, namesAt, uniquesAt, numeratorsAt, denominatorsAt, openedAt, idsAt}
+use Rattle.server.specs.Sizes.{functionCount, jobCount, nameSize, uniqueSize, numberSize, idSize, hubSize}
+use Rattle.server.specs.Layout.{backgroundsAt, namesAt, uniquesAt, numeratorsAt, denominatorsAt, hubAt, openedAt, idsAt}
 
 -- the k bytes of b from a place on
 abbrev pub part : ℕ → Bytes → ℕ → Bytes
@@ -38,5 +38,6 @@ imageTests n b =
     && (arePadded uniqueSize jobCount b uniquesAt
     && (arePadded numberSize jobCount b numeratorsAt
     && (arePadded numberSize jobCount b denominatorsAt
+    && (isPadded hubSize b hubAt
     && (areFlags (3 * n) b (openedAt n)
-    && arePadded idSize n b (idsAt n))))))
+    && arePadded idSize n b (idsAt n)))))))

@@ -1,5 +1,6 @@
-// The texts of the table in the lent bytes: names, uniques, stored texts and client ids, each at the start of a place of fixed width and followed
-// by zeros. An inner crate: every function asks its callers that the place lies inside the bytes, and refuses nothing.
+// The texts of the table in the lent bytes: names, uniques, stored texts, client ids and the hub's name, each at the start of a place of
+// fixed width and followed by zeros. An inner crate: every function asks its callers that the place lies inside the bytes, and refuses
+// nothing.
 ghost use mathlib.Core.Path.{_≡_};
 ghost use Prim.Native.Nat.{_+_, _*_, _≤_, _<_};
 ghost use mathlib.Core.List.{[]};
@@ -13,6 +14,8 @@ ghost use Rattle.lists.specs.Places.{placed};
 ghost use Rattle.table_texts.specs.Places.{agree, namesIn, placeOf, zeros};
 use lists::Place;
 use server::FUNCTIONS;
+use server::HUB_AT;
+use server::HUB_SIZE;
 use server::ID_SIZE;
 use server::IDS_AT;
 use server::NAME_SIZE;
@@ -35,6 +38,14 @@ pub fn id_at(table: &[u8], c: usize) -> &[u8]
     ensures { λ r. ⌜ now r ≡ idAt (tableOf connectionCount (now (table .entry))) c ⌝ }
 {
     text(table, IDS_AT + ID_SIZE * c, ID_SIZE)
+}
+
+// The name of the hub.
+pub fn hub_of(table: &[u8]) -> &[u8]
+    requires { ⌜ tableSize connectionCount ≤ length (now table) ⌝ }
+    ensures { λ r. ⌜ now r ≡ tableOf connectionCount (now (table .entry)) .hub ⌝ }
+{
+    text(table, HUB_AT, HUB_SIZE)
 }
 
 // Lays `n` zeros over `b` from `at` on.

@@ -4,7 +4,7 @@
 use crate::event::Event;
 
 /// The functions as C has them.
-type Fresh = unsafe extern "C" fn(*mut u8, usize, *mut u8, usize) -> u32;
+type Fresh = unsafe extern "C" fn(*mut u8, usize, *mut u8, usize, *const u8, usize) -> u32;
 type Quiet = unsafe extern "C" fn(*mut u8, usize, *mut u8, usize, *mut u8, usize, u32, *mut u32) -> u32;
 type Packet =
     unsafe extern "C" fn(*mut u8, usize, *mut u8, usize, *mut u8, usize, u32, *const u8, usize, *mut u32) -> u32;
@@ -22,7 +22,14 @@ macro_rules! calls {
     ($fresh:literal, $open:literal, $close:literal, $packet:literal) => {{
         extern "C" {
             #[link_name = $fresh]
-            fn fresh(table: *mut u8, table_len: usize, workloads: *mut u8, workloads_len: usize) -> u32;
+            fn fresh(
+                table: *mut u8,
+                table_len: usize,
+                workloads: *mut u8,
+                workloads_len: usize,
+                name: *const u8,
+                name_len: usize,
+            ) -> u32;
             #[link_name = $open]
             fn open(
                 table: *mut u8,
@@ -66,7 +73,9 @@ macro_rules! calls {
 /// The archive that is compared with the ordinary server.
 pub static ARCHIVE: Calls = calls!("lap_fresh", "lap_open", "lap_close", "lap_packet");
 
-/// An older archive, its functions renamed by host/bench.sh so that both can be linked.
+/// An older archive, its functions renamed by host/bench.sh so that both can be linked. One from before request 5 of
+/// document 02 makes a fresh table without a name: the two arguments more come in registers that it does not read, and
+/// its hub is always `lap`. Its table is shorter, and a longer one is never refused.
 #[cfg(feature = "before")]
 pub static BEFORE: Calls = calls!("before_fresh", "before_open", "before_close", "before_packet");
 
@@ -92,9 +101,18 @@ pub const NO_LENGTH: u32 = 0xdead_beef;
 pub type Report = (u32, u32);
 
 impl Calls {
-    pub fn fresh(&self, table: &mut [u8], workloads: &mut [u8]) -> u32 {
-        // Safe: the archive touches only the bytes it is lent, and slices do not overlap.
-        unsafe { (self.fresh)(table.as_mut_ptr(), table.len(), workloads.as_mut_ptr(), workloads.len()) }
+    pub fn fresh(&self, table: &mut [u8], workloads: &mut [u8], name: &[u8]) -> u32 {
+        // Safe: the archive touches only the bytes it is lent, and slices do not overlap; the name is only read.
+        unsafe {
+            (self.fresh)(
+                table.as_mut_ptr(),
+                table.len(),
+                workloads.as_mut_ptr(),
+                workloads.len(),
+                name.as_ptr(),
+                name.len(),
+            )
+        }
     }
 
     pub fn open(&self, table: &mut [u8], workloads: &mut [u8], output: &mut [u8], connection: u32) -> Report {

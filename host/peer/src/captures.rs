@@ -12,11 +12,15 @@ use crate::server::Server;
 /// Lengths around the longest line that can be a frame, and beyond what a program may keep of a line.
 const LONG_LINES: [usize; 8] = [2_078, 2_079, 2_080, 2_081, 2_082, 2_084, 4_096, 9_000];
 
-/// A capture of so many lines; the last one of an odd seed has no line end.
+/// A capture of so many lines on the hub `lap`; the last one of an odd seed has no line end.
 pub fn capture(lines: u64, seed: u64) -> Vec<u8> {
+    capture_from(Server::new(), lines, seed)
+}
+
+/// The same on any hub, from its fresh table.
+pub fn capture_from(mut server: Server, lines: u64, seed: u64) -> Vec<u8> {
     let mut history = History::new(seed);
     let mut random = Random::new(seed ^ 0xca);
-    let mut server = Server::new();
     let mut out = Outbox::default();
     let mut text = Vec::new();
     for _ in 0..lines {

@@ -1,18 +1,30 @@
 //! Damaged tables: single bytes set to telling values, and whole fields set so that single rules break or nearly break.
 #![forbid(unsafe_code)]
 
+use crate::hub::names;
 use crate::layout::*;
 use crate::random::Random;
 use crate::server::{CONNECTIONS, FUNCTIONS, JOBS};
 
-/// The values that a byte of this value is set to, each other than it.
-pub fn values(old: u8) -> Vec<u8> {
+/// The values that the byte at this offset, now of this value, is set to, each other than it. In the hub's name there
+/// are more: letters, digits and capitals, some of which leave a good name.
+pub fn values(at: usize, old: u8) -> Vec<u8> {
     let mut values =
         vec![0, 1, 2, b'0', b':', 0x80, 0xff, old ^ 1, old ^ 0x10, old.wrapping_add(1), old.wrapping_sub(1)];
+    if is_in_hub(at) {
+        values.extend(b"amz9");
+        values.extend(names::BAD_BYTES);
+        values.push(old ^ 0x20);
+    }
     values.sort_unstable();
     values.dedup();
     values.retain(|&value| value != old);
     values
+}
+
+/// Whether the byte at this offset belongs to the place of the hub's name.
+pub fn is_in_hub(at: usize) -> bool {
+    (HUB..HUB + HUB_BYTES).contains(&at)
 }
 
 /// Changes one field, by one of many kinds of damage; most kinds aim at one table rule.
@@ -21,7 +33,7 @@ pub fn field(table: &mut [u8], random: &mut Random) {
     let other = job(table, random);
     let q = random.below(FUNCTIONS);
     let c = random.below(CONNECTIONS);
-    match random.below(30) {
+    match random.below(32) {
         0 => {
             let place = random.below(TABLE);
             table[place] ^= 1 << random.below(8);
@@ -56,9 +68,8 @@ pub fn field(table: &mut [u8], random: &mut Random) {
         11 => {
             // The workload's size as large as the rule allows, or one more.
             let name = NAME + 32 * usize::from(table[FUNCTION + p] & 15);
-            let function = table[name..name + 32].iter().take_while(|&&byte| byte != 0).count();
-            let unique = UNIQUE + 64 * p;
-            let unique = table[unique..unique + 64].iter().take_while(|&&byte| byte != 0).count();
+            let function = text_length(&table[name..name + 32]);
+            let unique = text_length(&table[UNIQUE + 64 * p..][..64]);
             let size = 1_022 - function - unique + random.below(2);
             set(table, SIZE + 2 * p, &(size as u16).to_le_bytes());
         }
@@ -95,12 +106,32 @@ pub fn field(table: &mut [u8], random: &mut Random) {
             let place = IDS + 64 * c + random.below(64);
             table[place] = *random.pick(&[0, b'i']);
         }
+        29 | 30 => hub(table, random),
         _ => {
             // A connection that leaves, its id with it or not.
             table[OPEN + c] = 0;
             if random.chance(50) {
                 set(table, IDS + 64 * c, &[0; 64]);
             }
+        }
+    }
+}
+
+/// Changes the hub's name: to another one, to none, to a full place, or by single bytes.
+fn hub(table: &mut [u8], random: &mut Random) {
+    let at = HUB + random.below(HUB_BYTES);
+    let length = text_length(&table[HUB..][..HUB_BYTES]);
+    match random.below(8) {
+        0 => table[at] = 0,
+        1 => table[at] = *random.pick(b"az09"),
+        2 => table[at] = *random.pick(&names::BAD_BYTES),
+        // One byte longer or shorter.
+        3 => table[HUB + length.min(HUB_BYTES - 1)] = *random.pick(b"a1"),
+        4 => table[HUB + length.saturating_sub(1)] = 0,
+        5 => set(table, HUB, &[*random.pick(b"\0a0A"); HUB_BYTES]),
+        _ => {
+            set(table, HUB, &[0; HUB_BYTES]);
+            set(table, HUB, &names::any(random));
         }
     }
 }
@@ -113,6 +144,11 @@ fn job(table: &[u8], random: &mut Random) -> usize {
     } else {
         *random.pick(&jobs)
     }
+}
+
+/// The bytes before the first zero byte of a place.
+fn text_length(place: &[u8]) -> usize {
+    place.iter().take_while(|&&byte| byte != 0).count()
 }
 
 fn four(table: &[u8], at: usize) -> u32 {

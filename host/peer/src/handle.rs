@@ -1,12 +1,16 @@
-//! Handles of jobs: `H:lap:` and the serial in decimal. They match as exact text: no leading zero, no sign, no wrap.
+//! Handles of jobs: `H:`, the hub's name, a colon and the serial in decimal. They match as exact text: no other name,
+//! no leading zero, no sign, no wrap.
 #![forbid(unsafe_code)]
 
 use crate::text::Text;
 
-pub const PREFIX: &[u8] = b"H:lap:";
+/// The longest handle: a name of 15 bytes and a serial of 10 digits.
+pub const MOST: usize = 28;
 
-/// The handle of the job with this serial.
-pub fn print(serial: u32) -> Text<16> {
+pub type Handle = Text<MOST>;
+
+/// The handle of the job with this serial on the hub of this name.
+pub fn print(hub: &[u8], serial: u32) -> Handle {
     let mut digits = [0; 10];
     let mut at = digits.len();
     let mut rest = serial;
@@ -18,16 +22,18 @@ pub fn print(serial: u32) -> Text<16> {
             break;
         }
     }
-    let mut bytes = [0; 16];
-    let length = PREFIX.len() + digits.len() - at;
-    bytes[..PREFIX.len()].copy_from_slice(PREFIX);
-    bytes[PREFIX.len()..length].copy_from_slice(&digits[at..]);
+    let mut bytes = [0; MOST];
+    let mut length = 0;
+    for part in [b"H:", hub, b":", &digits[at..]] {
+        bytes[length..length + part.len()].copy_from_slice(part);
+        length += part.len();
+    }
     Text::new(&bytes[..length])
 }
 
-/// The serial whose handle this text is, if it is one.
-pub fn read(handle: &[u8]) -> Option<u32> {
-    let digits = handle.strip_prefix(PREFIX)?;
+/// The serial whose handle this text is on the hub of this name, if it is one.
+pub fn read(hub: &[u8], handle: &[u8]) -> Option<u32> {
+    let digits = handle.strip_prefix(b"H:")?.strip_prefix(hub)?.strip_prefix(b":")?;
     if digits.is_empty() || digits.len() > 10 || digits[0] == b'0' {
         return None;
     }
@@ -47,10 +53,14 @@ mod tests {
 
     #[test]
     fn handles_are_read_as_they_are_printed() {
-        for serial in [1, 9, 10, 99, 100, 4_294_967_294, 4_294_967_295] {
-            assert_eq!(print(serial).bytes(), format!("H:lap:{serial}").as_bytes());
-            assert_eq!(read(print(serial).bytes()), Some(serial));
+        for hub in ["lap", "l", "lap1", "0", "abcdefghijklmno"] {
+            for serial in [1, 9, 10, 99, 100, 4_294_967_294, 4_294_967_295] {
+                let handle = print(hub.as_bytes(), serial);
+                assert_eq!(handle.bytes(), format!("H:{hub}:{serial}").as_bytes());
+                assert_eq!(read(hub.as_bytes(), handle.bytes()), Some(serial));
+            }
         }
+        assert_eq!(print(b"abcdefghijklmno", u32::MAX).bytes().len(), MOST);
     }
 
     #[test]
@@ -65,8 +75,19 @@ mod tests {
             "h:lap:1",
             "H:lap:4294967296",
             "H:lap:4294967297",
+            // Other hubs, and what is nearly this one.
+            "H:lap1:1",
+            "H:lap11:1",
+            "H:la:1",
+            "H::1",
+            "H:1",
+            "H:LAP:1",
+            "H:lap::1",
+            "H:lap1",
+            "H:lap:lap:1",
         ] {
-            assert_eq!(read(text.as_bytes()), None, "{text}");
+            assert_eq!(read(b"lap", text.as_bytes()), None, "{text}");
         }
+        assert_eq!(read(b"lap1", b"H:lap:11"), None);
     }
 }

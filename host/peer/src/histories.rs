@@ -1,10 +1,12 @@
-//! Random histories of events, the same for the same seed. Functions, uniques and handles come from small sets, so that
-//! joins, grabs, completions, sleeps and refusals happen often; some packets stand at a limit, some are damaged.
+//! Random histories of events, the same for the same seed, on hubs of random names. Functions, uniques and handles come
+//! from small sets, so that joins, grabs, completions, sleeps and refusals happen often; some packets stand at a limit,
+//! some are damaged.
 #![forbid(unsafe_code)]
 
 mod packets;
 
 use crate::event::Event;
+use crate::hub::names;
 use crate::packet::Side;
 use crate::random::Random;
 use crate::server::{Job, Server, CONNECTIONS, JOBS};
@@ -74,8 +76,8 @@ impl History {
         History { random: Random::new(seed), mood: Mood::Mixed, left: 0, functions: 3, uniques: 3, connections: 6 }
     }
 
-    /// The state that the history starts from: mostly a fresh one, in some seeds with serials near a longer handle or
-    /// near their end, in some with workloads that hold any bytes.
+    /// The state that the history starts from: mostly a fresh one of any name, in some seeds with serials near a longer
+    /// handle or near their end, in some with workloads that hold any bytes.
     pub fn start(&mut self) -> Server {
         let mut server = Server::new();
         server.last_serial = match self.random.below(32) {
@@ -97,6 +99,7 @@ impl History {
                 *byte = self.random.byte();
             }
         }
+        server.hub = Text::new(&names::any(&mut self.random));
         server
     }
 

@@ -7,18 +7,19 @@ use crate::rules::{text, Table};
 use crate::server::{Connection, Function, Job, Server, Set, CONNECTIONS, FUNCTIONS, JOBS, WORKLOADS};
 use crate::text::Text;
 
-/// The table's 4,820 bytes.
+/// The table's 4,836 bytes.
 pub fn image(server: &Server) -> Vec<u8> {
     let mut table = vec![0; TABLE];
     write(server, &mut table);
     table
 }
 
-/// The table's 4,820 bytes, written over the first ones of a buffer; the rest of the buffer stays.
+/// The table's 4,836 bytes, written over the first ones of a buffer; the rest of the buffer stays.
 pub fn write(server: &Server, table: &mut [u8]) {
     let mut put = |at: usize, bytes: &[u8]| table[at..at + bytes.len()].copy_from_slice(bytes);
     put(0, &[0; TABLE]);
     put(LAST_SERIAL, &server.last_serial.to_le_bytes());
+    put(HUB, server.hub.bytes());
     for (q, function) in server.functions.iter().enumerate() {
         let Some(function) = function else { continue };
         put(NAME + NAME_BYTES * q, function.name.bytes());
@@ -49,6 +50,7 @@ pub fn write(server: &Server, table: &mut [u8]) {
 pub fn read(table: &[u8], workloads: &[u8]) -> Server {
     let table = Table(&table[..TABLE]);
     let mut server = Server::new();
+    server.hub = Text::new(text(table.hub_place()));
     server.last_serial = table.last_serial();
     server.workloads.copy_from_slice(&workloads[..WORKLOADS]);
     for c in 0..CONNECTIONS {

@@ -7,6 +7,8 @@ pub const NAME_BYTES: usize = 32;
 pub const UNIQUE_BYTES: usize = 64;
 pub const DIGITS_BYTES: usize = 10;
 pub const ID_BYTES: usize = 64;
+/// One byte more than the longest name, so that a zero byte follows each.
+pub const HUB_BYTES: usize = 16;
 
 // Each column begins where the one before it ends.
 pub const LAST_SERIAL: usize = 0;
@@ -20,7 +22,8 @@ pub const NAME: usize = FUNCTION + JOBS;
 pub const UNIQUE: usize = NAME + NAME_BYTES * FUNCTIONS;
 pub const NUMERATOR: usize = UNIQUE + UNIQUE_BYTES * JOBS;
 pub const DENOMINATOR: usize = NUMERATOR + DIGITS_BYTES * JOBS;
-pub const ABLE: usize = DENOMINATOR + DIGITS_BYTES * JOBS;
+pub const HUB: usize = DENOMINATOR + DIGITS_BYTES * JOBS;
+pub const ABLE: usize = HUB + HUB_BYTES;
 pub const LISTENERS: usize = ABLE + 4 * FUNCTIONS;
 pub const OPEN: usize = LISTENERS + 4 * JOBS;
 pub const ASLEEP: usize = OPEN + CONNECTIONS;

@@ -3,11 +3,12 @@
 
 use crate::archive::{self, ARCHIVE};
 use crate::event::Event;
+use crate::hub;
 use crate::image;
 use crate::layout::{OUTPUT, TABLE};
 use crate::questions::Question;
 use crate::random::Random;
-use crate::server::{Server, WORKLOADS};
+use crate::server::{Server, DONE, WORKLOADS};
 
 const GUARD: u8 = 0xc7;
 const GUARDS_AFTER: usize = 48;
@@ -35,15 +36,20 @@ impl Buffer {
         &self.actual[self.start..self.start + self.length]
     }
 
+    /// The lent part as it must be after the call.
+    fn right(&mut self) -> &mut [u8] {
+        &mut self.expected[self.start..self.start + self.length]
+    }
+
     /// The first bytes of the lent part must be these after the call.
     fn expect(&mut self, bytes: &[u8]) {
-        self.expected[self.start..self.start + bytes.len()].copy_from_slice(bytes);
+        self.right()[..bytes.len()].copy_from_slice(bytes);
     }
 
     /// The whole lent part gets this value, as it is and as it must be.
     fn fill(&mut self, value: u8) {
         self.lend().fill(value);
-        self.expected[self.start..self.start + self.length].fill(value);
+        self.right().fill(value);
     }
 
     /// The first bytes of the lent part are set, as they are and as they must be.
@@ -107,25 +113,22 @@ impl Host {
         self.table.expected[self.table.start + at] = value;
     }
 
-    /// The archive makes a table over any bytes and must refuse it exactly for short buffers.
-    pub fn fresh(&mut self, random: &mut Random) -> Result<u32, String> {
+    /// The archive makes a table over any bytes, and must refuse it exactly for short buffers and bad names. The name
+    /// is lent as the start of longer bytes, which must not be looked at. Gives back whether a table was made.
+    pub fn fresh(&mut self, name: &[u8], random: &mut Random) -> Result<bool, String> {
         self.table.fill(random.byte());
         self.workloads.fill(random.byte());
-        let right = u32::from(self.table.length < TABLE || self.workloads.length < WORKLOADS);
-        if right == 0 {
-            self.table.expect(&[0; TABLE]);
-            self.workloads.expect(&[0; WORKLOADS]);
-        }
-        let number = ARCHIVE.fresh(self.table.lend(), self.workloads.lend());
+        let right = hub::fresh(self.table.right(), self.workloads.right(), name);
+        let longer = [name, &[*random.pick(b"a1A\0\xff"); 16]].concat();
+        let number = ARCHIVE.fresh(self.table.lend(), self.workloads.lend(), &longer[..name.len()]);
         self.compare((number, 0), (right, 0))?;
-        Ok(right)
+        Ok(right == DONE)
     }
 
     /// The archive runs an event and must report and write what the ordinary server answered.
     pub fn step(&mut self, event: &Event, server: &Server, number: u32, packets: &[u8]) -> Result<(), String> {
         self.run(event, number, packets, |host| {
-            let start = host.table.start;
-            image::write(server, &mut host.table.expected[start..]);
+            image::write(server, host.table.right());
             host.workloads.expect(&server.workloads);
         })
     }

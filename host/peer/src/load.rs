@@ -5,6 +5,7 @@ pub mod grabs;
 
 use crate::handle;
 use crate::histories::request;
+use crate::hub::LAP;
 use crate::random::Random;
 use std::collections::HashMap;
 
@@ -89,7 +90,7 @@ impl Load {
     }
 
     fn complete(&mut self, connection: usize, serial: u32) {
-        self.step(COMPLETE, connection, 13, &[handle::print(serial).bytes(), &[b'r'; 32]]);
+        self.step(COMPLETE, connection, 13, &[handle::print(LAP, serial).bytes(), &[b'r'; 32]]);
     }
 
     /// The steps so far lead to the state; the cycles, numbered from 0, follow until there are enough events.

@@ -25,9 +25,13 @@ pub fn frame(line: &[u8]) -> Option<Event> {
     }
 }
 
-/// The whole output for a whole input.
+/// The whole output for a whole input, from the fresh table of the hub `lap`.
 pub fn replay(input: &[u8]) -> String {
-    let mut server = Server::new();
+    replay_from(Server::new(), input)
+}
+
+/// The same from this state.
+pub fn replay_from(mut server: Server, input: &[u8]) -> String {
     let mut out = Outbox::default();
     let mut output = String::new();
     for line in lines(input) {

@@ -1,12 +1,13 @@
-//! The table rules of document 01, word by word, and those of document 02's client ids, over any bytes of the layout's
-//! length.
+//! The table rules of document 01, word by word, and those of document 02's client ids and hub names, over any bytes of
+//! the layout's length.
 //! Each rule is one function named after it; none takes for granted that another one holds.
 #![forbid(unsafe_code)]
 
+use crate::hub;
 use crate::layout::*;
 use crate::server::{CONNECTIONS, FUNCTIONS, JOBS};
 
-/// Whether the first 4,820 bytes obey every table rule.
+/// Whether the first 4,836 bytes obey every table rule.
 pub fn obeys(bytes: &[u8]) -> bool {
     RULES.iter().all(|(_, rule)| rule(Table(&bytes[..TABLE])))
 }
@@ -18,7 +19,7 @@ pub fn broken(bytes: &[u8]) -> Vec<&'static str> {
 
 type Rule = fn(Table) -> bool;
 
-pub const RULES: [(&str, Rule); 16] = [
+pub const RULES: [(&str, Rule); 17] = [
     ("serials distinct", serials_distinct),
     ("serials from 1 and below the next", serials_below_the_next),
     ("names within sizes", names_within_sizes),
@@ -35,6 +36,7 @@ pub const RULES: [(&str, Rule); 16] = [
     ("a queued job is background or has a listener", queued_is_background_or_has_a_listener),
     ("no two jobs share function and non-empty unique", no_shared_unique),
     ("no sleeper has a grabbable job", no_sleeper_has_a_grabbable_job),
+    ("the hub's name has 1 to 15 lowercase letters and digits", hub_has_a_name),
 ];
 
 /// The fields of a table's bytes, read with no look at their meaning.
@@ -81,6 +83,10 @@ impl<'a> Table<'a> {
     }
     pub fn denominator_place(self, p: usize) -> &'a [u8] {
         &self.0[DENOMINATOR + DIGITS_BYTES * p..][..DIGITS_BYTES]
+    }
+    /// The whole place of the hub's name.
+    pub fn hub_place(self) -> &'a [u8] {
+        &self.0[HUB..][..HUB_BYTES]
     }
     pub fn able(self, q: usize) -> u32 {
         self.four(ABLE + 4 * q)
@@ -177,7 +183,7 @@ fn zeros_after_texts(table: Table) -> bool {
     let rows = (0..JOBS)
         .all(|p| clean(table.unique_place(p)) && clean(table.numerator_place(p)) && clean(table.denominator_place(p)));
     let ids = (0..CONNECTIONS).all(|c| clean(table.id_place(c)));
-    names && rows && ids
+    names && rows && ids && clean(table.hub_place())
 }
 
 fn free_places_are_zero(table: Table) -> bool {
@@ -246,4 +252,9 @@ fn no_sleeper_has_a_grabbable_job(table: Table) -> bool {
     (0..CONNECTIONS)
         .filter(|&c| table.asleep(c) != 0)
         .all(|c| jobs(table).all(|p| !table.is_queued(p) || table.able_for(p) >> c & 1 == 0))
+}
+
+/// A full place of 16 bytes is too long; what follows a shorter name is another rule's.
+fn hub_has_a_name(table: Table) -> bool {
+    hub::is_name(text(table.hub_place()))
 }

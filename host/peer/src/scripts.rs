@@ -1,21 +1,51 @@
-//! Fixed histories for what random ones meet too rarely: the example, the largest output, full queues, all asleep, grabs
-//! of a whole queue in order, exceptions to every mix of listeners, client ids, the longest texts and names whose order
-//! is easily mistaken.
+//! Fixed histories for what random ones meet too rarely: the example, the largest output, full queues, all asleep,
+//! grabs of a whole queue in order, exceptions to every mix of listeners, client ids, the longest texts, names whose
+//! order is easily mistaken, and hubs of other names.
 #![forbid(unsafe_code)]
 
+mod hubs;
+mod texts;
+
 use crate::event::Event;
-use crate::handle;
+use crate::handle::{self, Handle};
 use crate::histories::{request, SUBMISSIONS};
-use crate::server::{CONNECTIONS, FUNCTIONS, JOBS};
+use crate::hub::LAP;
+use crate::server::{Server, CONNECTIONS, FUNCTIONS, JOBS};
+use crate::text::Text;
 
 pub struct Script {
     pub name: &'static str,
-    /// The last serial of the table that it starts from, which is a fresh one otherwise.
+    /// The hub's name and the last serial of the table that it starts from, which is a fresh one otherwise.
+    pub hub: &'static [u8],
     pub last_serial: u32,
     pub events: Vec<Event>,
 }
 
+impl Script {
+    /// A script on the hub of document 01's cases, from this last serial on.
+    fn of_lap(name: &'static str, last_serial: u32, events: Vec<Event>) -> Self {
+        Script { name, hub: LAP, last_serial, events }
+    }
+
+    /// What a description of a difference calls it.
+    pub fn title(&self) -> String {
+        format!("script '{}' on the hub {}", self.name, self.hub.escape_ascii())
+    }
+
+    /// The state that it starts from.
+    pub fn start(&self) -> Server {
+        Server { hub: Text::new(self.hub), last_serial: self.last_serial, ..Server::new() }
+    }
+}
+
 pub fn all() -> Vec<Script> {
+    let mut scripts = of_lap();
+    scripts.extend(texts::all());
+    scripts.extend(hubs::all());
+    scripts
+}
+
+fn of_lap() -> Vec<Script> {
     vec![
         example(),
         largest_output(),
@@ -27,15 +57,16 @@ pub fn all() -> Vec<Script> {
         sizes(),
         priorities(),
         exceptions(),
-        client_ids(),
-        longest_texts(),
-        names_in_reverse(),
-        names_alike(),
     ]
 }
 
 fn packet(connection: usize, kind: u32, arguments: &[&[u8]]) -> Event {
     Event::Packet(connection as u32, request(kind, arguments))
+}
+
+/// The handle of this serial on the hub of document 01's cases.
+fn handle(serial: u32) -> Handle {
+    handle::print(LAP, serial)
 }
 
 fn open_all() -> Vec<Event> {
@@ -58,7 +89,7 @@ fn example() -> Script {
         packet(1, 9, &[]),
         packet(1, 13, &[b"H:lap:1", b"tset"]),
     ];
-    Script { name: "example", last_serial: 0, events }
+    Script::of_lap("example", 0, events)
 }
 
 /// The largest worker packet to 16 listeners: 16,592 bytes, of each type that carries data.
@@ -71,9 +102,9 @@ fn largest_output() -> Script {
             events.push(packet(connection, 7, &[b"f", b"u", b"w"]));
         }
         events.push(packet(3, 9, &[]));
-        events.push(packet(3, kind, &[handle::print(serial).bytes(), &[0xee; 1_024 - 8]]));
+        events.push(packet(3, kind, &[handle(serial).bytes(), &[0xee; 1_024 - 8]]));
     }
-    Script { name: "largest output", last_serial: 0, events }
+    Script::of_lap("largest output", 0, events)
 }
 
 /// An assignment of 1,041 bytes: the longest handle, and a submission of 1,024 bytes.
@@ -84,7 +115,7 @@ fn largest_assignment() -> Script {
         events.push(packet(0, 7, &[&[b'f'; 32], &vec![b'u'; unique], &vec![0; 1_022 - 32 - unique]]));
         events.push(packet(0, if unique == 1 { 9 } else { 30 }, &[]));
     }
-    Script { name: "largest assignment", last_serial: u32::MAX - 3, events }
+    Script::of_lap("largest assignment", u32::MAX - 3, events)
 }
 
 /// 16 functions, 32 jobs and the last serial at once: 11 before 12 before 13, and joins through all of them.
@@ -105,16 +136,16 @@ fn refusals_of_new_jobs() -> Script {
     // One job ends: a place is free, and its function is still named by another job.
     events.push(packet(1, 1, &[&function(0)]));
     events.push(packet(1, 9, &[]));
-    events.push(packet(1, 14, &[handle::print(u32::MAX - 31).bytes()]));
+    events.push(packet(1, 14, &[handle(u32::MAX - 31).bytes()]));
     tries(&mut events);
     // The second job of the function ends too: after CANT_DO a function place is free.
     events.push(packet(1, 9, &[]));
-    events.push(packet(1, 14, &[handle::print(u32::MAX - 15).bytes()]));
+    events.push(packet(1, 14, &[handle(u32::MAX - 15).bytes()]));
     events.push(packet(1, 2, &[&function(0)]));
     events.push(packet(2, 7, &[b"unknown", b"u", b"w"]));
     events.push(packet(2, 1, &[b"unknown"]));
     tries(&mut events);
-    Script { name: "refusals of new jobs", last_serial: u32::MAX - 32, events }
+    Script::of_lap("refusals of new jobs", u32::MAX - 32, events)
 }
 
 /// 16 sleepers woken by a submission, then 15 of them by a close.
@@ -134,7 +165,7 @@ fn all_asleep() -> Script {
     events.push(packet(4, 15, &[b"H:lap:1"]));
     events.push(Event::Close(9));
     events.push(packet(4, 15, &[b"H:lap:1"]));
-    Script { name: "all asleep", last_serial: 0, events }
+    Script::of_lap("all asleep", 0, events)
 }
 
 /// One connection holds 32 jobs and leaves: those that are wanted return, the others are dropped.
@@ -146,13 +177,13 @@ fn holder_of_all_leaves() -> Script {
         let kind = [7, 18, 33, 32][place / 3 % 4];
         events.push(packet(place % 3, kind, &[&function(place), b"", &vec![place as u8; 31 * place]]));
         events.push(packet(0, 9, &[]));
-        events.push(packet(0, 12, &[handle::print(place as u32 + 1).bytes(), b"12", b"345"]));
+        events.push(packet(0, 12, &[handle(place as u32 + 1).bytes(), b"12", b"345"]));
     }
     events.push(packet(15, 4, &[]));
     events.push(Event::Close(1));
     events.push(Event::Close(0));
     events.extend((0..JOBS).map(|_| packet(15, 30, &[])));
-    Script { name: "holder of all jobs leaves", last_serial: 0, events }
+    Script::of_lap("holder of all jobs leaves", 0, events)
 }
 
 /// One connection waits for 32 jobs over 16 functions and leaves: everything is forgotten.
@@ -164,7 +195,7 @@ fn client_of_all_leaves() -> Script {
     events.push(Event::Close(6));
     events.push(Event::Open(6));
     events.push(packet(6, 7, &[b"again", b"", b""]));
-    Script { name: "client of all jobs leaves", last_serial: 0, events }
+    Script::of_lap("client of all jobs leaves", 0, events)
 }
 
 /// Arguments at their limits and one byte beyond them.
@@ -190,7 +221,7 @@ fn sizes() -> Script {
     for length in [0, 1, 1_023, 1_024, 1_025, 1_036] {
         events.push(packet(0, 16, &[&vec![0; length]]));
     }
-    Script { name: "sizes", last_serial: 0, events }
+    Script::of_lap("sizes", 0, events)
 }
 
 /// Connection 1 can do `f`, connection 2 can do `g`, and connection 3 nothing. A grab gives the highest priority, then
@@ -217,12 +248,12 @@ fn priorities() -> Script {
     }
     events.push(grab(3));
     events.extend((0..=JOBS).map(|index| packet(1, [9, 30][index % 2], &[])));
-    Script { name: "priorities", last_serial: 0, events }
+    Script::of_lap("priorities", 0, events)
 }
 
 /// The worker ends the job with this serial.
 fn ended(worker: usize, serial: u32) -> Event {
-    packet(worker, 13, &[handle::print(serial).bytes(), b"r"])
+    packet(worker, 13, &[handle(serial).bytes(), b"r"])
 }
 
 /// Exceptions to listeners with the option and without it, mixed and apart, the holder among them, and to nobody; empty
@@ -255,7 +286,7 @@ fn exceptions() -> Script {
         (all_submit(7, &[9, 10, 15]), again(15), b"text"),
     ];
     for (serial, (submissions, between, data)) in (10..).zip(rounds) {
-        let handle = handle::print(serial);
+        let handle = handle(serial);
         events.extend(submissions);
         events.push(packet(HOLDER, 9, &[]));
         events.extend(between);
@@ -264,91 +295,10 @@ fn exceptions() -> Script {
         events.extend([packet(HOLDER, 13, &[handle.bytes(), b"late"]), packet(HOLDER, 14, &[handle.bytes()])]);
         events.push(packet(1, 15, &[handle.bytes()]));
     }
-    Script { name: "exceptions", last_serial: 9, events }
+    Script::of_lap("exceptions", 9, events)
 }
 
 /// These connections submit one job: the first makes it, the others join it.
 fn all_submit(kind: u32, connections: &[usize]) -> Vec<Event> {
     connections.iter().map(|&connection| packet(connection, kind, &[b"f", b"u", b"w"])).collect()
-}
-
-/// Ids at their limits and beyond, sent again, kept over RESET_ABILITIES and in sleep, and cleared by a close.
-fn client_ids() -> Script {
-    let id = |connection: usize, id: &[u8]| packet(connection, 22, &[id]);
-    let mut events = vec![Event::Open(3), id(3, b"alone"), id(2, b"not open"), id(16, b"beyond"), Event::Close(3)];
-    events.extend(open_all());
-    for length in [0, 1, 2, 63, 64, 65, 66, 1_024] {
-        events.push(id(length % 7, &vec![b'i'; length]));
-    }
-    for at in [0, 1, 31, 63] {
-        // A zero byte first, inside and last; then the id without it.
-        let mut bytes = vec![b'z'; 64];
-        bytes[at] = 0;
-        events.extend([id(8, &bytes), id(8, &bytes[..at]), id(8, &bytes[..at + 1])]);
-    }
-    events.extend((1..=255).map(|byte| id(9, &[byte])));
-    // The last one counts, and a shorter one leaves nothing of a longer one.
-    events.extend([id(10, &[b'l'; 64]), id(10, b"short"), id(10, b""), id(11, b"short")]);
-    // A sleeper stays asleep, also where it has just given up what it can do.
-    events.extend([packet(10, 1, &[b"f"]), packet(10, 4, &[]), id(10, b"asleep"), packet(10, 3, &[])]);
-    events.extend([packet(0, 18, &[b"f", b"", b"w"]), packet(10, 9, &[])]);
-    events.extend([Event::Close(10), Event::Open(10), Event::Close(11), Event::Open(11), id(11, b"again")]);
-    events.extend((0..CONNECTIONS as u32).map(Event::Close));
-    events.extend(open_all());
-    Script { name: "client ids", last_serial: 0, events }
-}
-
-/// All connections with ids of 64 bytes can do 16 functions with names of 32; the 32 jobs of one of them are all held.
-fn longest_texts() -> Script {
-    let mut events = open_all();
-    let name = |number: usize| [&[b'n'; 31][..], &[b'p' - number as u8]].concat();
-    for connection in 0..CONNECTIONS {
-        events.push(packet(connection, 22, &[&[b'A' + connection as u8; 64]]));
-        events.extend((0..FUNCTIONS).map(|number| packet(connection, 1, &[&name(number)])));
-    }
-    for place in 0..JOBS {
-        events.push(packet(place % CONNECTIONS, 18, &[&name(3), b"", b"w"]));
-        events.push(packet((place + 5) % CONNECTIONS, 9, &[]));
-    }
-    events.push(Event::Close(5));
-    Script { name: "longest texts", last_serial: 0, events }
-}
-
-/// 16 functions in the reverse order of their places: some only named by jobs, some of these held by a connection that
-/// has given them up.
-fn names_in_reverse() -> Script {
-    let mut events = open_all();
-    let name = |number: usize| format!("function-{:02}", FUNCTIONS - number).into_bytes();
-    for number in 0..FUNCTIONS {
-        let worker = number % 5;
-        events.push(match number % 4 {
-            0 => packet(worker, 18, &[&name(number), b"", b"w"]),
-            _ => packet(worker, 1, &[&name(number)]),
-        });
-        if number % 4 == 2 {
-            events.push(packet(9, 18, &[&name(number), b"", b"w"]));
-            events.push(packet(worker, 30, &[]));
-            events.push(packet(worker, 2, &[&name(number)]));
-        }
-    }
-    events.push(Event::Close(1));
-    Script { name: "names in reverse", last_serial: 0, events }
-}
-
-/// Names that start alike, names that print alike and names that print in another order than their own: places do not
-/// follow either order.
-fn names_alike() -> Script {
-    let mut events = open_all();
-    let names: [&[u8]; FUNCTIONS] = [
-        b"aa", b"a", b"a!", b"\xff", b"\x7f", b"~", b"\x20", b"!", b"a\x20", b"a\xff", b"a\x7f", b"a~", b"?", b"a?",
-        b"\n", b"\x01",
-    ];
-    for (place, name) in names.into_iter().enumerate() {
-        events.push(packet(place % 3, 1, &[name]));
-        events.push(packet(3, 1, &[name]));
-        events.push(packet(place, 22, &[name]));
-        events.extend((0..place % 4).map(|_| packet(0, 18, &[name, b"", b"w"])));
-    }
-    events.extend([packet(3, 9, &[]), packet(0, 9, &[]), packet(3, 2, &[b"a!"]), packet(2, 2, &[b"a!"])]);
-    Script { name: "names alike", last_serial: 0, events }
 }

@@ -1,5 +1,5 @@
 //! What the ordinary job server does with each event: the rules of document 01, and document 02's SET_CLIENT_ID
-//! (request 1) and exceptions (request 3), over the plain structs of `state`.
+//! (request 1), exceptions (request 3) and hub names (request 5), over the plain structs of `state`.
 //! Job places, function places and workload places are kept as document 01 says, since the table's bytes show them.
 #![forbid(unsafe_code)]
 
@@ -207,7 +207,7 @@ impl Server {
             } else {
                 job.listeners |= only(sender);
             }
-            out.send(sender, JOB_CREATED, &[handle::print(job.serial).bytes()]);
+            out.send(sender, JOB_CREATED, &[handle::print(self.hub.bytes(), job.serial).bytes()]);
             return Ok(());
         }
         let function = self.function_place(name).ok_or(TOO_MANY_FUNCTIONS)?;
@@ -232,7 +232,7 @@ impl Server {
         bytes[..workload.len()].copy_from_slice(workload);
         bytes[workload.len()..].fill(0);
 
-        out.send(sender, JOB_CREATED, &[handle::print(serial).bytes()]);
+        out.send(sender, JOB_CREATED, &[self.handle(serial).bytes()]);
         for sleeper in members(self.able(function)) {
             if self.connections[sleeper].asleep {
                 self.wake(sleeper, out);
@@ -249,7 +249,7 @@ impl Server {
         };
         let job = self.jobs[place].as_mut().expect("a job was found there");
         job.holder = Some(sender);
-        let handle = handle::print(job.serial);
+        let handle = handle::print(self.hub.bytes(), job.serial);
         let name = &self.functions[job.function].as_ref().expect("a job's function is known").name;
         let workload = &self.workloads[place * PLACE..][..job.size];
         if with_unique {

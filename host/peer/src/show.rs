@@ -3,6 +3,7 @@
 
 use crate::event::Event;
 use crate::handle;
+use crate::hub::Name;
 use crate::lines::lines;
 use crate::outbox::Outbox;
 use crate::packet::{self, Part, Side};
@@ -11,9 +12,13 @@ use crate::server::{Job, Server, CONNECTIONS, DONE};
 use crate::state::members;
 use crate::words::{packet_line, refusal};
 
-/// The whole output for a whole capture.
+/// The whole output for a whole capture, from the fresh table of the hub `lap`.
 pub fn show(input: &[u8]) -> String {
-    let mut server = Server::new();
+    show_from(Server::new(), input)
+}
+
+/// The same from this state; handles go by the name of its hub.
+pub fn show_from(mut server: Server, input: &[u8]) -> String {
     let mut out = Outbox::default();
     let mut output = String::new();
     for (index, line) in lines(input).enumerate() {
@@ -47,7 +52,7 @@ fn below(line: &[u8], server: &mut Server, out: &mut Outbox) -> Vec<String> {
     words.push(format!("asleep {}", list(asleep)));
     let after = serials(server);
     let gone = before.iter().filter(|serial| !after.contains(serial));
-    words.extend(gone.map(|&serial| format!("{} {}", ending(&event), handle_words(serial))));
+    words.extend(gone.map(|&serial| format!("{} {}", ending(&event), handle_words(server, serial))));
     words.extend(concerned(&event, number, &before, server, out));
     words
 }
@@ -78,43 +83,44 @@ fn said(event: &Event) -> String {
 fn concerned(event: &Event, number: u32, before: &[u32], server: &Server, out: &Outbox) -> Vec<String> {
     if let Event::Close(_) = event {
         let left = server.jobs.iter().flatten().filter(|_| number == DONE);
-        return left.map(job_words).collect();
+        return left.map(|job| job_words(server, job)).collect();
     }
     let words = |serial| match server.jobs.iter().flatten().find(|job| job.serial == serial) {
-        Some(job) => Some(job_words(job)),
+        Some(job) => Some(job_words(server, job)),
         None if before.contains(&serial) => None,
-        None => Some(format!("no job {}", handle_words(serial))),
+        None => Some(format!("no job {}", handle_words(server, serial))),
     };
-    serial(event, out).and_then(words).into_iter().collect()
+    serial(&server.hub, event, out).and_then(words).into_iter().collect()
 }
 
-/// The serial whose handle stands in the packet that came, or else in the first one that was sent.
-fn serial(event: &Event, out: &Outbox) -> Option<u32> {
+/// The serial whose handle stands in the packet that came, or else in the first one that was sent. A handle of another
+/// hub is none.
+fn serial(hub: &Name, event: &Event, out: &Outbox) -> Option<u32> {
     let asked = match event {
-        Event::Packet(_, packet) => serial_in(Side::Request, packet),
+        Event::Packet(_, packet) => serial_in(hub, Side::Request, packet),
         _ => None,
     };
-    asked.or_else(|| serial_in(Side::Response, out.addressed().next()?.get(1..)?))
+    asked.or_else(|| serial_in(hub, Side::Response, out.addressed().next()?.get(1..)?))
 }
 
 /// The serial of a packet's handle: where a type has a handle, it is the first argument.
-fn serial_in(side: Side, bytes: &[u8]) -> Option<u32> {
+fn serial_in(hub: &Name, side: Side, bytes: &[u8]) -> Option<u32> {
     let packet = packet::read(side, bytes).ok()?;
     match packet::shape(side, packet.kind)? {
-        [Part::Handle, ..] => handle::read(packet.arguments[0]),
+        [Part::Handle, ..] => handle::read(hub.bytes(), packet.arguments[0]),
         _ => None,
     }
 }
 
-fn job_words(job: &Job) -> String {
-    let handle = handle_words(job.serial);
+fn job_words(server: &Server, job: &Job) -> String {
+    let handle = handle_words(server, job.serial);
     let priority = ["low ", "", "high "][usize::from(job.priority)];
     let background = if job.background { "background " } else { "" };
     format!("job {handle} {priority}{background}holder {} listeners {}", list(job.holder), list(members(job.listeners)))
 }
 
-fn handle_words(serial: u32) -> String {
-    String::from_utf8_lossy(handle::print(serial).bytes()).into_owned()
+fn handle_words(server: &Server, serial: u32) -> String {
+    String::from_utf8_lossy(server.handle(serial).bytes()).into_owned()
 }
 
 /// Connections with one space between each two, or `none`.

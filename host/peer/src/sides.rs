@@ -3,12 +3,13 @@
 
 use crate::archive::Calls;
 use crate::histories::request;
+use crate::hub::LAP;
 use crate::layout::{OUTPUT, TABLE};
 use crate::outbox::Outbox;
 use crate::server::{Server, CONNECTIONS, PLACE, WORKLOADS};
 
 pub trait Side {
-    /// A fresh server with all connections open.
+    /// A fresh server of the hub `lap`, which an older archive has too, with all connections open.
     fn reset(&mut self);
     /// Runs a packet; gives the number and how many bytes were written.
     fn run(&mut self, connection: u32, packet: &[u8]) -> (u32, usize);
@@ -32,7 +33,7 @@ impl Archive {
 
 impl Side for Archive {
     fn reset(&mut self) {
-        self.calls.fresh(&mut self.table, &mut self.workloads);
+        self.calls.fresh(&mut self.table, &mut self.workloads, LAP);
         for connection in 0..CONNECTIONS {
             self.calls.open(&mut self.table, &mut self.workloads, &mut self.output, connection as u32);
         }

@@ -1,8 +1,10 @@
-//! What an ordinary job server remembers, with the limits of document 01 and the client ids of document 02, and how it
-//! is searched.
+//! What an ordinary job server remembers, with the limits of document 01 and the client ids and hub names of document
+//! 02, and how it is searched.
 #![forbid(unsafe_code)]
 
-use crate::handle;
+use crate::handle::{self, Handle};
+use crate::hub::{self, Name, LAP};
+use crate::server::BAD_LENT;
 use crate::text::Text;
 
 pub const CONNECTIONS: usize = 16;
@@ -79,6 +81,8 @@ impl Job {
 
 #[derive(Clone, PartialEq)]
 pub struct Server {
+    /// The hub's name, which stands in every handle and never changes.
+    pub hub: Name,
     /// The last serial given out; 0: none yet.
     pub last_serial: u32,
     pub connections: [Connection; CONNECTIONS],
@@ -94,9 +98,10 @@ impl Default for Server {
 }
 
 impl Server {
-    /// A server as a fresh table says it.
+    /// A server as a fresh table says it, for the hub of document 01's cases.
     pub fn new() -> Self {
         Server {
+            hub: Text::new(LAP),
             last_serial: 0,
             connections: [Connection::default(); CONNECTIONS],
             functions: [None; FUNCTIONS],
@@ -105,9 +110,23 @@ impl Server {
         }
     }
 
-    /// The unfinished job with this handle.
+    /// The same for the hub of this name; a bad name is refused by 1.
+    pub fn fresh(name: &[u8]) -> Result<Self, u32> {
+        if hub::is_name(name) {
+            Ok(Server { hub: Text::new(name), ..Server::new() })
+        } else {
+            Err(BAD_LENT)
+        }
+    }
+
+    /// The handle of the job with this serial.
+    pub fn handle(&self, serial: u32) -> Handle {
+        handle::print(self.hub.bytes(), serial)
+    }
+
+    /// The unfinished job with this handle. One of another hub is nobody's.
     pub fn find(&self, asked: &[u8]) -> Option<usize> {
-        let serial = handle::read(asked)?;
+        let serial = handle::read(self.hub.bytes(), asked)?;
         self.jobs.iter().position(|job| job.as_ref().is_some_and(|job| job.serial == serial))
     }
 

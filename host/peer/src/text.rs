@@ -1,4 +1,4 @@
-//! A text of at most N bytes, kept in place: function names, uniques, stored digits, handles and client ids.
+//! A text of at most N bytes, kept in place: function names, uniques, stored digits, handles, client ids and hub names.
 #![forbid(unsafe_code)]
 
 #[derive(Clone, Copy, PartialEq, Eq)]

@@ -1,8 +1,9 @@
-//! Many tables tried on the archive, each in place of the table of one state.
+//! Many tables tried on the archive, each in place of the table of one state; lines asked of it, and events described.
 #![forbid(unsafe_code)]
 
 use crate::counts::Counts;
 use crate::event::Event;
+use crate::hex;
 use crate::histories::History;
 use crate::image;
 use crate::lent::Host;
@@ -72,11 +73,25 @@ impl<'a> Trial<'a> {
             None => self.history.next(&server),
         };
         let number = event.run(&mut server, &mut self.out);
-        counts.add(&event, number, &self.out);
+        counts.add(&event, number, &self.out, &server);
         self.host
             .step(&event, &server, number, self.out.bytes())
             .map_err(|text| format!("no rule is broken\n{event}\n{text}"))?;
         self.host.set(&[], &self.server.workloads);
         Ok(())
     }
+}
+
+/// The archive must answer a line as the ordinary server does.
+pub fn ask(host: &mut Host, question: &Question, server: &Server, counts: &mut Counts) -> Result<(), String> {
+    let (number, text) = question.run(server);
+    counts.add_text(&question.line, number);
+    host.asked(question, number, &text)
+        .map_err(|found| format!("{question}\nright: number {number}, text \"{}\"\n{found}", text.escape_ascii()))
+}
+
+/// An event of a history, the right answer, and what came instead.
+pub fn described(index: usize, event: &Event, number: u32, out: &Outbox, text: &str) -> String {
+    let packets: Vec<String> = out.addressed().map(hex::write).collect();
+    format!("event {index}: {event}\nright: number {number}, packets {packets:?}\n{text}")
 }

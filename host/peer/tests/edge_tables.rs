@@ -40,8 +40,9 @@ fn the_events_about_a_table_join_its_jobs() {
             let mut server = base.server.clone();
             let event = event_about(&server, &mut random);
             let number = event.run(&mut server, &mut out);
-            // A full table refuses a submission that joins nothing, and the serials may be at their end.
-            assert!([0, 11, 12, 13].contains(&number), "{}: {number}, {event}", base.name);
+            // A full table refuses a submission that joins nothing, the serials may be at their end, and a worker
+            // packet may name a job that is not held, or another hub's.
+            assert!([0, 11, 12, 13, 14].contains(&number), "{}: {number}, {event}", base.name);
             let created = number == 0 && out.bytes().get(8) == Some(&8);
             joins += usize::from(created && server.last_serial == base.server.last_serial);
         }

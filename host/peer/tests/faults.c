@@ -1,73 +1,19 @@
 /*
  * Wrong archives for the program `compare` to find: the archive's own functions, renamed to core_*, and one fault on
- * top of them. The variable LAP_FAULT chooses it; 0 or none: no fault. host/tests/peer.sh builds and runs it.
+ * top of them. The variable LAP_FAULT chooses it; 0 or none: no fault. host/tests/peer.sh builds and runs it. The
+ * faults of hubs' names stand in hub_faults.c, all others here.
  */
 #include <stdlib.h>
 #include <string.h>
 
-#include "lap.h"
+#include "faults.h"
 
-enum fault {
-    CONNECTION_MODULO_256 = 1,
-    LENGTH_LEFT_ON_A_REFUSAL,
-    LENGTH_ONE_SHORT,
-    OUTPUT_WRITTEN_PAST_THE_LENGTH,
-    REFUSAL_12_AS_11,
-    REFUSAL_CHANGES_THE_TABLE,
-    TABLE_WRITTEN_PAST_THE_LAYOUT,
-    SLEEPER_KEPT_ASLEEP,
-    WORKLOAD_OF_AN_ENDED_JOB_KEPT,
-    FRESH_KEEPS_THE_LAST_WORKLOAD,
-    GRAB_STOPS_AT_THE_FIRST_HIGH_JOB,
-    GRAB_STOPS_AT_THE_FIRST_JOB,
-    RESET_CLEARS_THE_ID,
-    CLOSE_KEEPS_THE_ID,
-    REST_OF_A_LONGER_ID_KEPT,
-    ID_OF_A_CLOSED_CONNECTION_ALLOWED,
-    ALL_CARRIAGE_RETURNS_DROPPED,
-    NO_LINE_FEED_NEEDED,
-    UNKNOWN_LINE_BEFORE_THE_TABLE,
-    SPACE_AFTER_THE_COLON,
-    FUNCTIONS_ORDERED_AS_PRINTED,
-    TEXT_DEPENDS_ON_A_WORKLOAD,
-    /* The rest are faults of exceptions. */
-    LISTENERS_WITHOUT_THE_OPTION_NOT_TOLD,
-    FAILS_AFTER_ALL_COPIES,
-    COPY_AND_FAIL_TO_ONE_LISTENER,
-    FAIL_CARRIES_THE_EXCEPTION,
-    FAIL_TO_THOSE_THAT_DO_NOT_LISTEN,
-    NO_FAIL_TO_THE_HOLDER,
-    OPTION_OF_THE_HOLDER_COUNTS,
-    EMPTY_EXCEPTION_FAILS_NOBODY,
-    JOB_KEPT_WHERE_NOBODY_GOT_A_COPY
-};
+uint8_t old_table[LAP_TABLE_BYTES];
+uint8_t old_workloads[LAP_WORKLOADS_BYTES];
+uint8_t old_output[LAP_OUTPUT_BYTES];
+uint32_t old_length;
 
-#define LENT \
-    uint8_t *table, size_t table_len, uint8_t *workloads, size_t workloads_len, uint8_t *output, size_t output_len
-#define PASSED table, table_len, workloads, workloads_len, output, output_len
-#define LENT_TO_READ \
-    const uint8_t *table, size_t table_len, const uint8_t *workloads, size_t workloads_len, uint8_t *output, \
-        size_t output_len
-
-uint32_t core_fresh(uint8_t *table, size_t table_len, uint8_t *workloads, size_t workloads_len);
-uint32_t core_open(LENT, uint32_t connection, uint32_t *length);
-uint32_t core_close(LENT, uint32_t connection, uint32_t *length);
-uint32_t core_packet(LENT, uint32_t connection, const uint8_t *packet, size_t packet_len, uint32_t *length);
-uint32_t core_text(LENT_TO_READ, uint32_t connection, const uint8_t *line, size_t line_len, uint32_t *length);
-
-/* Where the table holds what the faults look at: docs/TABLE.md. */
-enum { SERIALS = 4, HOLDERS = 196, PRIORITIES = 260, FUNCTIONS = 324 };
-enum { ABLE = 3556, OPEN = 3748, ASLEEP = 3764, EXCEPTIONS = 3780, IDS = 3796 };
-enum { JOBS = 32, PLACE = 1024, HIGH = 2, ID = 64, SET_CLIENT_ID = 22 };
-_Static_assert(LAP_TABLE_BYTES == IDS + ID * LAP_CONNECTIONS, "the client ids stand last");
-
-/* Table, workloads, output and length as they were before the call. */
-static uint8_t old_table[LAP_TABLE_BYTES];
-static uint8_t old_workloads[LAP_WORKLOADS_BYTES];
-static uint8_t old_output[LAP_OUTPUT_BYTES];
-static uint32_t old_length;
-
-static int fault(void) {
+int fault(void) {
     const char *chosen = getenv("LAP_FAULT");
     return chosen ? atoi(chosen) : 0;
 }
@@ -142,8 +88,7 @@ static uint32_t stopping_grab(LENT, uint32_t connection, const uint8_t *packet, 
     return number;
 }
 
-/* The packet's type is this one; it has a whole header. */
-static int is_type(const uint8_t *packet, size_t packet_len, uint32_t type) {
+int is_type(const uint8_t *packet, size_t packet_len, uint32_t type) {
     return packet_len >= LAP_HEADER_BYTES && lap_type_of(packet) == type;
 }
 
@@ -154,7 +99,7 @@ static void spoil_id(uint8_t *table, uint32_t connection, const uint8_t *packet,
     if (fault() == RESET_CLEARS_THE_ID && is_type(packet, packet_len, LAP_TYPE_RESET_ABILITIES)) {
         memset(id, 0, ID);
     }
-    if (fault() == REST_OF_A_LONGER_ID_KEPT && is_type(packet, packet_len, SET_CLIENT_ID)) {
+    if (fault() == REST_OF_A_LONGER_ID_KEPT && is_type(packet, packet_len, LAP_TYPE_SET_CLIENT_ID)) {
         size_t length = packet_len - LAP_HEADER_BYTES;
         memcpy(id + length, old + length, ID - length);
     }
@@ -201,8 +146,7 @@ static int wrongly_told(const struct exception *exception, uint32_t connection) 
     return told;
 }
 
-/* One more packet in the output. */
-static void put_packet(uint8_t *output, uint32_t *length, int connection, int type, const uint8_t *data, size_t size) {
+void put_packet(uint8_t *output, uint32_t *length, int connection, int type, const uint8_t *data, size_t size) {
     const uint8_t header[1 + LAP_HEADER_BYTES] = {connection, 0, 'R', 'E', 'S', 0, 0, 0, type, 0, 0, size >> 8, size};
     memcpy(output + *length, header, sizeof header);
     memcpy(output + *length + sizeof header, data, size);
@@ -362,9 +306,12 @@ static uint32_t spoil(LENT, uint32_t number, uint32_t *length) {
     return number;
 }
 
-uint32_t lap_fresh(uint8_t *table, size_t table_len, uint8_t *workloads, size_t workloads_len) {
+uint32_t lap_fresh(KEPT, const uint8_t *name, size_t name_len) {
+    if (is_hub_fault()) {
+        return hub_fresh(table, table_len, workloads, workloads_len, name, name_len);
+    }
     uint8_t last = workloads_len < LAP_WORKLOADS_BYTES ? 0 : workloads[LAP_WORKLOADS_BYTES - 1];
-    uint32_t number = core_fresh(table, table_len, workloads, workloads_len);
+    uint32_t number = core_fresh(table, table_len, workloads, workloads_len, name, name_len);
     if (fault() == FRESH_KEEPS_THE_LAST_WORKLOAD && number == LAP_DONE) {
         workloads[LAP_WORKLOADS_BYTES - 1] = last;
     }
@@ -373,11 +320,17 @@ uint32_t lap_fresh(uint8_t *table, size_t table_len, uint8_t *workloads, size_t 
 
 uint32_t lap_open(LENT, uint32_t connection, uint32_t *length) {
     remember(PASSED, length);
+    if (is_hub_fault()) {
+        return hub_open(PASSED, connection, length);
+    }
     return spoil(PASSED, core_open(PASSED, connection_taken(connection), length), length);
 }
 
 uint32_t lap_close(LENT, uint32_t connection, uint32_t *length) {
     remember(PASSED, length);
+    if (is_hub_fault()) {
+        return hub_close(PASSED, connection, length);
+    }
     uint32_t number = spoil(PASSED, core_close(PASSED, connection_taken(connection), length), length);
     if (fault() == CLOSE_KEEPS_THE_ID && number == LAP_DONE) {
         memcpy(table + IDS + ID * connection, old_table + IDS + ID * connection, ID);
@@ -387,6 +340,9 @@ uint32_t lap_close(LENT, uint32_t connection, uint32_t *length) {
 
 uint32_t lap_packet(LENT, uint32_t connection, const uint8_t *packet, size_t packet_len, uint32_t *length) {
     remember(PASSED, length);
+    if (is_hub_fault()) {
+        return hub_packet(PASSED, connection, packet, packet_len, length);
+    }
     int stops = fault() == GRAB_STOPS_AT_THE_FIRST_HIGH_JOB || fault() == GRAB_STOPS_AT_THE_FIRST_JOB;
     if (stops && is_grab(PASSED, connection, packet, packet_len)) {
         return stopping_grab(PASSED, connection, packet, packet_len, length);

@@ -28,10 +28,12 @@ fn example() -> Server {
 fn the_offsets_of_the_table_page() {
     assert_eq!([LAST_SERIAL, SERIAL, SIZE, HOLDER], [0, 4, 132, 196]);
     assert_eq!([PRIORITY, BACKGROUND, FUNCTION, NAME], [260, 292, 324, 356]);
-    assert_eq!([UNIQUE, NUMERATOR, DENOMINATOR, ABLE], [868, 2_916, 3_236, 3_556]);
-    assert_eq!([LISTENERS, OPEN, ASLEEP, EXCEPTIONS], [3_620, 3_748, 3_764, 3_780]);
+    assert_eq!([UNIQUE, NUMERATOR, DENOMINATOR], [868, 2_916, 3_236]);
+    // Request 5: the hub's name before what grows with the number of connections.
+    assert_eq!([HUB, ABLE], [3_556, 3_572]);
+    assert_eq!([LISTENERS, OPEN, ASLEEP, EXCEPTIONS], [3_636, 3_764, 3_780, 3_796]);
     // Request 1: 16 client ids of 64 bytes behind the flags.
-    assert_eq!([IDS, TABLE], [3_796, 4_820]);
+    assert_eq!([IDS, TABLE], [3_812, 4_836]);
 }
 
 #[test]
@@ -45,9 +47,10 @@ fn the_example_of_the_table_page() {
         (356, b"reverse"),
         (2_916, b"0"),
         (3_236, b"0"),
-        (3_556, b"\x02"),
-        (3_620, b"\x01"),
-        (3_748, b"\x01\x01"),
+        (3_556, b"lap"),
+        (3_572, b"\x02"),
+        (3_636, b"\x01"),
+        (3_764, b"\x01\x01"),
     ] {
         bytes[at..at + part.len()].copy_from_slice(part);
     }
@@ -56,11 +59,14 @@ fn the_example_of_the_table_page() {
     done(&mut server, 1, 9, &[], &[response(1, 11, &[b"H:lap:1", b"reverse", b"test"])]);
     bytes[196] = 2;
     assert_eq!(image(&server), bytes);
-    assert_eq!(image(&Server::new()), vec![0; TABLE]);
-    // Connection 1 has an id now: bytes 3,860 to 3,864.
+    // Connection 1 has an id now: bytes 3,876 to 3,880.
     done(&mut server, 1, 22, &[b"press"], &[]);
-    bytes[3_860..3_865].copy_from_slice(b"press");
+    bytes[3_876..3_881].copy_from_slice(b"press");
     assert_eq!(image(&server), bytes);
+    // A fresh table is zero but for the name.
+    let mut fresh = vec![0; TABLE];
+    fresh[3_556..3_559].copy_from_slice(b"lap");
+    assert_eq!(image(&Server::new()), fresh);
 }
 
 #[test]
@@ -171,7 +177,7 @@ fn each_rule_is_broken_by_some_table() {
     breaks("every field with a meaning: numbers", &[(HOLDER, &[17])]);
     breaks("every field with a meaning: numbers", &[(FUNCTION, &[16])]);
     let ids = [IDS + 1, IDS + 127, IDS + 131, IDS + 191, IDS + 15 * 64 + 63];
-    for at in [NAME + 31, UNIQUE + 63, NUMERATOR + 9, DENOMINATOR + 9].into_iter().chain(ids) {
+    for at in [NAME + 31, UNIQUE + 63, NUMERATOR + 9, DENOMINATOR + 9, HUB + 4, HUB + 15].into_iter().chain(ids) {
         assert_eq!(breaks("every field with a meaning: zeros", &[(at, b"1")]).len(), 1, "{at}");
     }
     for at in [LISTENERS + 8, SIZE + 4, HOLDER + 4, PRIORITY + 2, BACKGROUND + 2, FUNCTION + 2] {
@@ -201,6 +207,9 @@ fn each_rule_is_broken_by_some_table() {
     breaks("no two jobs share", &shared);
     assert_eq!(breaks("no sleeper", &[(ASLEEP + 1, &[1])]).len(), 1);
     assert_eq!(breaks("no sleeper", &[(ABLE, &[6])]).len(), 1);
+    for name in [&b"\0\0\0"[..], b"Lap", b"la-", b"lap:", b"lap\xe1", b"abcdefghijklmnop"] {
+        assert_eq!(breaks("the hub's name", &[(HUB, name)]).len(), 1);
+    }
     // Every rule was met but the one that the places' lengths keep.
     for (name, _) in RULES {
         assert!(seen.contains(&name) || name == "names within sizes", "{name}");
@@ -210,8 +219,8 @@ fn each_rule_is_broken_by_some_table() {
 #[test]
 fn what_no_rule_forbids() {
     // Texts of a queued job, serials out of place order, serials at their end, the largest workload; a full id, two ids
-    // alike, any byte but zero, and no id.
-    let changes: [&[(usize, &[u8])]; 8] = [
+    // alike, any byte but zero, and no id; other names of the hub.
+    let changes: [&[(usize, &[u8])]; 11] = [
         &[(NUMERATOR, b"007"), (DENOMINATOR, b"1234567890")],
         &[(SERIAL, &[2]), (SERIAL + 4, &[1])],
         &[(LAST_SERIAL, &[255; 4]), (SERIAL, &[255; 4])],
@@ -220,6 +229,9 @@ fn what_no_rule_forbids() {
         &[(IDS + 64, b"id")],
         &[(IDS, b"\x01 \n\x7f\x80\xff")],
         &[(IDS + 128, &[0; 2])],
+        &[(HUB, b"lap1")],
+        &[(HUB, b"9\0\0")],
+        &[(HUB, b"abcdefghijklmno")],
     ];
     for changes in changes {
         let mut bytes = broad();
@@ -237,7 +249,7 @@ fn every_byte_of_the_ids() {
     let table = broad();
     let (mut good, mut bad) = (0, 0);
     for at in IDS..TABLE {
-        for value in damage::values(table[at]) {
+        for value in damage::values(at, table[at]) {
             let mut bytes = table.clone();
             bytes[at] = value;
             let (connection, place) = ((at - IDS) / 64, (at - IDS) % 64);

@@ -1,6 +1,7 @@
 //! The fixed histories do what they are named for.
 use peer::event::Event;
 use peer::handle;
+use peer::hub::LAP;
 use peer::image::image;
 use peer::layout::OUTPUT;
 use peer::outbox::Outbox;
@@ -13,7 +14,7 @@ use std::cmp::Reverse;
 fn run_with<T>(name: &str, look: fn(u32, &Outbox) -> T) -> (Vec<T>, Server) {
     let all = scripts::all();
     let script = all.iter().find(|script| script.name == name).unwrap();
-    let mut server = Server { last_serial: script.last_serial, ..Server::new() };
+    let mut server = script.start();
     let mut out = Outbox::default();
     let mut answers = Vec::new();
     for event in &script.events {
@@ -36,7 +37,7 @@ fn given(_: u32, out: &Outbox) -> Option<u32> {
     let packet = out.addressed().next()?;
     match packet[8] {
         10 => Some(0),
-        11 | 31 => handle::read(packet[13..].split(|&byte| byte == 0).next()?),
+        11 | 31 => handle::read(LAP, packet[13..].split(|&byte| byte == 0).next()?),
         _ => None,
     }
 }
@@ -150,7 +151,7 @@ fn exceptions_meet_every_mix_of_listeners() {
 fn states(name: &str) -> Vec<Server> {
     let all = scripts::all();
     let script = all.iter().find(|script| script.name == name).unwrap();
-    let mut server = Server { last_serial: script.last_serial, ..Server::new() };
+    let mut server = script.start();
     let mut out = Outbox::default();
     let mut after = |event: &Event| {
         event.run(&mut server, &mut out);

@@ -53,24 +53,27 @@ part-workload-end c =
     let p = c .before .before .before .before .before .before .before .before .pre in
     search (needs, workload-inside _ (p .0) _ _ (c .before .before .before .before .row-at .ensures) (p .3) (p .4))
 
+hub-of-requires : tie.Need-hub-of-requires
+hub-of-requires c κs = search needs
+
 send-assign-requires : tie.Need-send-assign-requires
 send-assign-requires c κs =
-    let s = c .before .before .before .before .before .before .before .before .before .before in
+    let s = c .before .before .before .before .before .before .before .before .before .before .before in
     let p = s .pre in
-    let row = c .before .before .before .before .before .before .row-at .ensures in
-    let f = assign-fits _ (p .0) _ _ row (p .3) (p .4) _ _ _ _ (p .2) (c .before .before .before .before .text .ensures) (c .before .before .before .text2 .ensures) refl in
-    let e = assign-is _ (p .0) _ _ row (p .3) (p .4) _ _ _ _ (p .2) (c .before .before .before .before .text .ensures) (c .before .before .before .text2 .ensures) refl (s .args .c) (s .args .uniq) in
-    (f .0, f .1, f .2, room-as _ _ _ e (p .5))
+    let row = c .before .before .before .before .before .before .before .row-at .ensures in
+    let f = assign-fits _ (p .0) _ _ row (p .3) (p .4) _ _ _ _ _ (p .2) (c .before .hub-of .ensures) (c .before .before .before .before .before .text .ensures) (c .before .before .before .before .text2 .ensures) refl in
+    let e = assign-is _ (p .0) _ _ row (p .3) (p .4) _ _ _ _ _ (p .2) (c .before .hub-of .ensures) (c .before .before .before .before .before .text .ensures) (c .before .before .before .before .text2 .ensures) refl (s .args .c) (s .args .uniq) in
+    (f .0, f .1, f .2, f .3, room-as _ _ _ e (p .5))
 
 same-length : tie.Need-same-length
 same-length c = search needs
 
 returns : tie.Need-returns
 returns c =
-    let s = c .before .before .before .before .before .before .before .before .before .before .before .before .before in
+    let s = c .before .before .before .before .before .before .before .before .before .before .before .before .before .before in
     let p = s .pre in
     laid-as _ _ _ _ _
-    (assign-is _ (p .0) _ _ (c .before .before .before .before .before .before .before .before .before .row-at .ensures) (p .3) (p .4) _ _ _ _ (p .2) (c .before .before .before .before .before .before .before .text .ensures) (c .before .before .before .before .before .before .text2 .ensures) refl (s .args .c) (s .args .uniq))
+    (assign-is _ (p .0) _ _ (c .before .before .before .before .before .before .before .before .before .before .row-at .ensures) (p .3) (p .4) _ _ _ _ _ (p .2) (c .before .before .before .before .hub-of .ensures) (c .before .before .before .before .before .before .before .before .text .ensures) (c .before .before .before .before .before .before .before .text2 .ensures) refl (s .args .c) (s .args .uniq))
     (c .before .before .send-assign .ensures)
 
 pub send-job-spec : {M : Type 1} → statement M
@@ -91,6 +94,7 @@ send-job-spec =
     sub-workload
     part-workload-start
     part-workload-end
+    hub-of-requires
     send-assign-requires
     same-length
     returns)

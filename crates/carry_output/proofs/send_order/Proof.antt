@@ -1,6 +1,7 @@
 -- `carry_output::send_order` meets its contract, by the cases of the order and the bytes of each. Assumes nothing.
 use Rattle.carry_packet.proofs.Answers.{no-job-sendable, zero-fits}
 use Rattle.carry_packet.proofs.Forwarding.{forward-long}
+use Rattle.carry_output.proofs.Jobs.{hub-good}
 use Rattle.carry_output.proofs.Orders.{room-as, laid-as, fit-as, same-as, nothing-laid, created-order, no-job-order, unknown-order, optioned-order, copies-order, told-order, echo-order, assign-order, status-order}
 use borrow.Author.Needs.{needs}
 use Rattle.carry_output.proofs.send_order.Statement.{statement}
@@ -12,9 +13,14 @@ enum-told c = search needs
 enum-known-order : tie.Need-enum-known-order
 enum-known-order c = search needs
 
+hub-of-requires : tie.Need-hub-of-requires
+hub-of-requires c κs = search needs
+
 send-created-requires : tie.Need-send-created-requires
 send-created-requires c κs =
-    room-as _ _ _ (created-order _ _ _ _ _ _ _ _ (c .before .before .order .given .1)) (c .before .before .before .before .before .before .before .before .before .pre .4)
+    let p = c .before .before .before .before .before .before .before .before .before .before .pre in
+    let h = c .hub-of .ensures in
+    (rw h (hub-good _ (p .0)), room-as _ _ _ (created-order _ _ _ _ _ _ _ _ h _ (c .before .before .before .order .given .1)) (p .4))
 
 enum-told-2 : tie.Need-enum-told-2
 enum-told-2 c = search needs
@@ -46,12 +52,16 @@ forward-all-requires c κs =
 enum-known-order-4 : tie.Need-enum-known-order-4
 enum-known-order-4 c = search needs
 
+hub-of-requires-2 : tie.Need-hub-of-requires-2
+hub-of-requires-2 c κs = search needs
+
 tell-all-requires : tie.Need-tell-all-requires
 tell-all-requires c κs =
-    let p = c .before .before .before .before .before .before .before .before .before .pre in
-    let e = c .before .before .order4 .given .1 in
+    let p = c .before .before .before .before .before .before .before .before .before .before .pre in
+    let h = c .before .hub-of2 .ensures in
+    let e = c .before .before .before .order4 .given .1 in
     let o = rw e at (p .3) in
-    (o, room-as _ _ _ (told-order _ _ _ _ _ _ _ _ _ _ (forward-long _ _ _ o) e) (p .4))
+    (rw h (hub-good _ (p .0)), o, room-as _ _ _ (told-order _ _ _ _ _ _ _ _ h _ _ _ (forward-long _ _ _ o) e) (p .4))
 
 enum-told-3 : tie.Need-enum-told-3
 enum-told-3 c = search needs
@@ -105,7 +115,7 @@ same-length c = search needs
 
 returns-2 : tie.Need-returns-2
 returns-2 c =
-    laid-as _ _ _ _ _ (created-order _ _ _ _ _ _ _ _ (c .before .before .before .before .before .order .given .1)) (c .before .before .send-created .ensures)
+    laid-as _ _ _ _ _ (created-order _ _ _ _ _ _ _ _ (c .before .before .before .hub-of .ensures) _ (c .before .before .before .before .before .before .order .given .1)) (c .before .before .send-created .ensures)
 
 same-length-2 : tie.Need-same-length-2
 same-length-2 c = search needs
@@ -135,9 +145,9 @@ same-length-5 c = search needs
 
 returns-6 : tie.Need-returns-6
 returns-6 c =
-    let e = c .before .before .before .before .before .order4 .given .1 in
-    let o = rw e at (c .before .before .before .before .before .before .before .before .before .before .before .before .pre .3) in
-    laid-as _ _ _ _ _ (told-order _ _ _ _ _ _ _ _ _ _ (forward-long _ _ _ o) e) (c .before .before .tell-all .ensures)
+    let e = c .before .before .before .before .before .before .order4 .given .1 in
+    let o = rw e at (c .before .before .before .before .before .before .before .before .before .before .before .before .before .pre .3) in
+    laid-as _ _ _ _ _ (told-order _ _ _ _ _ _ _ _ (c .before .before .before .before .hub-of2 .ensures) _ _ _ (forward-long _ _ _ o) e) (c .before .before .tell-all .ensures)
 
 same-length-6 : tie.Need-same-length-6
 same-length-6 c = search needs
@@ -175,6 +185,7 @@ send-order-spec =
     (tie.spec
     enum-told
     enum-known-order
+    hub-of-requires
     send-created-requires
     enum-told-2
     send-empty-requires
@@ -183,6 +194,7 @@ send-order-spec =
     enum-known-order-3
     forward-all-requires
     enum-known-order-4
+    hub-of-requires-2
     tell-all-requires
     enum-told-3
     forward-requires

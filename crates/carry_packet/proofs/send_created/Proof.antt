@@ -13,19 +13,22 @@ handle-of-requires : tie.Need-handle-of-requires
 handle-of-requires c κs = search needs
 
 array-share-prefix-text : tie.Need-array-share-prefix-text
-array-share-prefix-text c = printed-fits _ _ (c .before .before .handle-of .ensures)
+array-share-prefix-text c = printed-fits _ (c .before .before .before .before .before .pre .0) _ _ (c .before .before .handle-of .ensures)
 
 slice-aggregate-send : tie.Need-slice-aggregate-send
-slice-aggregate-send c = sym (length-take-le _ _ (printed-fits _ _ (c .before .before .before .handle-of .ensures)))
+slice-aggregate-send c = sym (length-take-le _ _ (printed-fits _ (c .before .before .before .before .before .before .pre .0) _ _ (c .before .before .before .handle-of .ensures)))
 
 send-requires : tie.Need-send-requires
-send-requires c κs = let e = c .before .before .before .handle-of .ensures in (omega (arith, printed-short _ _ e), room-as _ _ (created-message _ _ e _) _ _ (c .before .before .before .before .before .pre))
+send-requires c κs =
+    let s = c .before .before .before .before .before .before in
+    let e = c .before .before .before .handle-of .ensures in
+    (omega (arith, printed-short _ (s .pre .0) _ _ e), room-as _ _ (created-message _ (s .pre .0) _ _ e _) _ _ (s .pre .1))
 
 same-length : tie.Need-same-length
 same-length c = search needs
 
 returns : tie.Need-returns
-returns c = laid-as _ _ (created-message _ _ (c .before .before .before .before .before .before .handle-of .ensures) _) _ _ _ _ (c .before .before .send .ensures)
+returns c = laid-as _ _ (created-message _ (c .before .before .before .before .before .before .before .before .before .pre .0) _ _ (c .before .before .before .before .before .before .handle-of .ensures) _) _ _ _ _ (c .before .before .send .ensures)
 
 pub send-created-spec : {M : Type 1} → statement M
 send-created-spec =

@@ -16,25 +16,25 @@ handle-of-requires : tie.Need-handle-of-requires
 handle-of-requires c κs = search needs
 
 sub-send-all : tie.Need-sub-send-all
-sub-send-all c = forward-long _ _ _ (c .before .before .before .before .before .pre .0)
+sub-send-all c = forward-long _ _ _ (c .before .before .before .before .before .before .pre .1)
 
 part-send-all-start : tie.Need-part-send-all-start
-part-send-all-start c = forward-long _ _ _ (c .before .before .before .before .before .pre .0)
+part-send-all-start c = forward-long _ _ _ (c .before .before .before .before .before .before .pre .1)
 
 part-send-all-end : tie.Need-part-send-all-end
 part-send-all-end c = search needs
 
 array-share-prefix-text : tie.Need-array-share-prefix-text
-array-share-prefix-text c = printed-fits _ _ (c .before .before .before .handle-of .ensures)
+array-share-prefix-text c = printed-fits _ (c .before .before .before .before .before .before .before .pre .0) _ _ (c .before .before .before .handle-of .ensures)
 
 slice-aggregate-send-all : tie.Need-slice-aggregate-send-all
-slice-aggregate-send-all c = sym (length-take-le _ _ (printed-fits _ _ (c .before .before .before .before .handle-of .ensures)))
+slice-aggregate-send-all c = sym (length-take-le _ _ (printed-fits _ (c .before .before .before .before .before .before .before .before .pre .0) _ _ (c .before .before .before .before .handle-of .ensures)))
 
 send-all-requires : tie.Need-send-all-requires
 send-all-requires c κs =
-    let s = c .before .before .before .before .before .before .before in
+    let s = c .before .before .before .before .before .before .before .before in
     let e = c .before .before .before .before .handle-of .ensures in
-    rw (rest-part (now (s .args .packet)) 12, printed-data _ _ e) (omega (arith, forward-short _ _ _ (s .pre .0)), omega (arith, handle-short (s .args .serial)), s .pre .1)
+    rw (rest-part (now (s .args .packet)) 12, printed-data _ (s .pre .0) _ _ e) (omega (arith, forward-short _ _ _ (s .pre .1)), omega (arith, handle-short _ (s .pre .0) (s .args .serial)), s .pre .2)
 
 same-length : tie.Need-same-length
 same-length c = search needs
@@ -42,7 +42,7 @@ same-length c = search needs
 returns : tie.Need-returns
 returns c =
     let s = c .before .before .before .before .before .before .before in
-    rw (rest-part (now (s .before .before .before .args .packet)) 12, printed-data _ _ (s .handle-of .ensures)) at (c .before .before .send-all .ensures)
+    rw (rest-part (now (s .before .before .before .before .args .packet)) 12, printed-data _ (s .before .before .before .before .pre .0) _ _ (s .handle-of .ensures)) at (c .before .before .send-all .ensures)
 
 pub tell-all-spec : {M : Type 1} → statement M
 tell-all-spec =

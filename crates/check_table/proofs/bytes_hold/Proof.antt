@@ -5,6 +5,7 @@ use denote.Ref.{now}
 use Rattle.table_laws.specs.Tests.{arePadded}
 use Rattle.table_passes.proofs.Tests.{and-same, and-fails}
 use Rattle.check_ids.specs.Ids.{idRules}
+use Rattle.check_hub.specs.Hub.{hubRules}
 use Rattle.check_table.specs.Parts.{byteRules}
 use borrow.Author.Needs.{needs}
 use Rattle.server.specs.Sizes.{functionCount, jobCount, nameSize, uniqueSize}
@@ -27,24 +28,27 @@ uniques-padded-requires c κs = search needs
 ids-hold-requires : tie.Need-ids-hold-requires
 ids-hold-requires c κs = search needs
 
+hub-holds-requires : tie.Need-hub-holds-requires
+hub-holds-requires c κs = search needs
+
 returns : tie.Need-returns
 unfolding byteRules
-returns c = and-same (sym (c .before .before .before .before .before .if1 .taken) ∙ and-same (c .before .before .before .before .before .before .before .flags .ensures) (c .before .before .before .before .before .before .flags2 .ensures)) (and-same (sym (c .before .before .before .if2 .taken) ∙ c .before .before .before .before .names-padded .ensures) (and-same (sym (c .before .if3 .taken) ∙ c .before .before .uniques-padded .ensures) (c .ids-hold .ensures)))
+returns c = and-same (sym (c .before .before .before .before .before .before .if1 .taken) ∙ and-same (c .before .before .before .before .before .before .before .before .flags .ensures) (c .before .before .before .before .before .before .before .flags2 .ensures)) (and-same (sym (c .before .before .before .before .if2 .taken) ∙ c .before .before .before .before .before .names-padded .ensures) (and-same (sym (c .before .before .if3 .taken) ∙ c .before .before .before .uniques-padded .ensures) (and-same (c .before .ids-hold .ensures) (c .hub-holds .ensures))))
 
 returns-2 : tie.Need-returns-2
 unfolding byteRules
 returns-2 c = let b = now (c .before .before .before .before .before .before .before .before .args .table) in
-    and-same (sym (c .before .before .before .before .if1 .taken) ∙ and-same (c .before .before .before .before .before .before .flags .ensures) (c .before .before .before .before .before .flags2 .ensures)) (and-same (sym (c .before .before .if2 .taken) ∙ c .before .before .before .names-padded .ensures) (and-fails (idRules b) (sym (c .if3 .left) ∙ c .before .uniques-padded .ensures)))
+    and-same (sym (c .before .before .before .before .if1 .taken) ∙ and-same (c .before .before .before .before .before .before .flags .ensures) (c .before .before .before .before .before .flags2 .ensures)) (and-same (sym (c .before .before .if2 .taken) ∙ c .before .before .before .names-padded .ensures) (and-fails (idRules b && hubRules b) (sym (c .if3 .left) ∙ c .before .uniques-padded .ensures)))
 
 returns-3 : tie.Need-returns-3
 unfolding byteRules
 returns-3 c = let b = now (c .before .before .before .before .before .before .args .table) in
-    and-same (sym (c .before .before .if1 .taken) ∙ and-same (c .before .before .before .before .flags .ensures) (c .before .before .before .flags2 .ensures)) (and-fails (arePadded uniqueSize jobCount b uniquesAt && idRules b) (sym (c .if2 .left) ∙ c .before .names-padded .ensures))
+    and-same (sym (c .before .before .if1 .taken) ∙ and-same (c .before .before .before .before .flags .ensures) (c .before .before .before .flags2 .ensures)) (and-fails (arePadded uniqueSize jobCount b uniquesAt && (idRules b && hubRules b)) (sym (c .if2 .left) ∙ c .before .names-padded .ensures))
 
 returns-4 : tie.Need-returns-4
 unfolding byteRules
 returns-4 c = let b = now (c .before .before .before .before .args .table) in
-    and-fails (arePadded nameSize functionCount b namesAt && (arePadded uniqueSize jobCount b uniquesAt && idRules b)) (sym (c .if1 .left) ∙ and-same (c .before .before .flags .ensures) (c .before .flags2 .ensures))
+    and-fails (arePadded nameSize functionCount b namesAt && (arePadded uniqueSize jobCount b uniquesAt && (idRules b && hubRules b))) (sym (c .if1 .left) ∙ and-same (c .before .before .flags .ensures) (c .before .flags2 .ensures))
 
 pub bytes-hold-spec : {M : Type 1} → statement M
 bytes-hold-spec =
@@ -55,6 +59,7 @@ bytes-hold-spec =
     names-padded-requires
     uniques-padded-requires
     ids-hold-requires
+    hub-holds-requires
     returns
     returns-2
     returns-3

@@ -19,10 +19,10 @@ sent-first-requires : tie.Need-sent-first-requires
 sent-first-requires c κs = search needs
 
 returns : tie.Need-returns
-returns c = concerned-own _ _ _ (sym (c .before .own .given .1) ∙ c .before .before .before .job-named .ensures)
+returns c = concerned-own _ _ _ _ (sym (c .before .own .given .1) ∙ c .before .before .before .job-named .ensures)
 
 returns-2 : tie.Need-returns-2
-returns-2 c = concerned-sent _ _ (sym (c .before .enum-told .given .1) ∙ c .before .before .before .job-named .ensures) _ (c .sent-first .ensures)
+returns-2 c = concerned-sent _ _ _ (sym (c .before .enum-told .given .1) ∙ c .before .before .before .job-named .ensures) _ (c .sent-first .ensures)
 
 pub concerned-spec : {M : Type 1} → statement M
 concerned-spec =

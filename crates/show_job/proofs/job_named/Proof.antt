@@ -23,12 +23,12 @@ handle-in-requires : tie.Need-handle-in-requires
 handle-in-requires c κs = search needs
 
 returns : tie.Need-returns
-returns c = named-none (side (c .before .before .before .before .args .request)) _ _ (sym (c .enum-told .given .1) ∙ c .before .before .read-side .ensures)
+returns c = named-none _ (side (c .before .before .before .before .before .args .request)) _ _ (sym (c .enum-told .given .1) ∙ c .before .before .read-side .ensures)
 
 returns-2 : tie.Need-returns-2
 returns-2 c =
-    let b = c .before .before .before .before .before .before .before .args .request in
-    c .handle-in .ensures ∙ named-first (side b) _ _ _ (sym (c .before .before .before .read .given .1) ∙ c .before .before .before .before .before .read-side .ensures) _ (side-shape b _ _ (c .before .shape-of .ensures))
+    let b = c .before .before .before .before .before .before .before .before .args .request in
+    c .handle-in .ensures ∙ named-first _ (side b) _ _ _ (sym (c .before .before .before .read .given .1) ∙ c .before .before .before .before .before .read-side .ensures) _ (side-shape b _ _ (c .before .shape-of .ensures))
 
 pub job-named-spec : {M : Type 1} → statement M
 job-named-spec =

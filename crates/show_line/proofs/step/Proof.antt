@@ -2,7 +2,7 @@
 use mathlib.Core.Path.{sym}
 use lib.Seq.{length-take-le}
 use Rattle.capture.proofs.Telling.{sent-few, sent-inside, sent-packed}
-use Rattle.show_line.proofs.Lines.{short-text, table-long, line-shown}
+use Rattle.show_line.proofs.Lines.{short-text, table-left, line-shown}
 use borrow.Author.Needs.{needs}
 use Rattle.show_line.proofs.step.Statement.{statement}
 use Rattle.show_line.proofs.step.Tie as tie
@@ -28,7 +28,7 @@ slice-aggregate-put-line c = sym (length-take-le _ _ (sent-inside _ _ _ _ _ _ _ 
 put-line-requires : tie.Need-put-line-requires
 put-line-requires c κs =
     let q = c .before .before .before .before .before .before .before .before .before .before .answer-frame .ensures in
-    (c .before .before .before .before .before .before .before .before .before .before .before .before .before .before .before .before .before .read-frame .ensures .1, sent-packed _ _ _ _ _ _ _ _ _ q, table-long _ _ _ _ _ _ _ _ _ q, sent-few _ _ _ _ _ _ _ _ _ q, c .before .before .before .before .before .before .before .before .before .before .before .before .before .before .before .before .before .before .before .if1 .left)
+    (c .before .before .before .before .before .before .before .before .before .before .before .before .before .before .before .before .before .read-frame .ensures .1, sent-packed _ _ _ _ _ _ _ _ _ q, table-left _ _ _ _ _ _ _ _ _ q, sent-few _ _ _ _ _ _ _ _ _ q, c .before .before .before .before .before .before .before .before .before .before .before .before .before .before .before .before .before .before .before .if1 .left)
 
 same-length : tie.Need-same-length
 same-length c = search needs

@@ -14,15 +14,15 @@ use Rattle.show_table.proofs.put_gone.Statement.{statement}
 use Rattle.show_table.proofs.put_gone.Tie as tie
 
 abbrev Inv-loop : tie.InvT-loop
-Inv-loop out₀ at word after before place₀ q₀ out place q = (q ≤ jobCount) × (length out ≡ length out₀) × Laid (gone word before after) at out₀ q place out
+Inv-loop out₀ at hub word after before place₀ q₀ out place q = (q ≤ jobCount) × (length out ≡ length out₀) × Laid (gone hub word before after) at out₀ q place out
 
 abbrev μ-loop : tie.MeasureT-loop
-μ-loop out₀ at word after before place₀ q₀ out place q = 32 - q
+μ-loop out₀ at hub word after before place₀ q₀ out place q = 32 - q
 
 loop-holds : tie.Need-loop-holds Inv-loop μ-loop
 loop-holds c =
-    let s = c .before .before in
-    (omega arith, refl, start (gone (now (s .args .word)) (s .args .t4) (s .args .after)) (s .args .at) (now (s .args .out)))
+    let s = c .before .before .before in
+    (omega arith, refl, start (gone (now (s .args .hub)) (now (s .args .word)) (s .args .t5) (s .args .after)) (s .args .at) (now (s .args .out)))
 
 mul-put-gone-row : tie.Need-mul-put-gone-row Inv-loop μ-loop
 mul-put-gone-row c = search needs
@@ -33,9 +33,9 @@ array-copy-out-put-gone-row c = search needs
 put-gone-row-requires : tie.Need-put-gone-row-requires Inv-loop μ-loop
 unfolding goneText
 put-gone-row-requires c κs =
-    let s = c .before .before .before .before .before .before in
+    let s = c .before .before .before .before .before .before .before in
     let l = c .before .before .before .loop in
-    turn-room (gone (now (s .args .word)) (s .args .t4) (s .args .after)) (s .args .at) (now (s .args .out)) (l .q) (l .place) (l .out) (l .inv .2) _ refl 32 (omega arith) (s .pre)
+    (s .pre .0, turn-room (gone (now (s .args .hub)) (now (s .args .word)) (s .args .t5) (s .args .after)) (s .args .at) (now (s .args .out)) (l .q) (l .place) (l .out) (l .inv .2) _ refl 32 (omega arith) (s .pre .1))
 
 add-q : tie.Need-add-q Inv-loop μ-loop
 add-q c = search needs
@@ -45,9 +45,9 @@ loop-less c = search needs
 
 loop-again : tie.Need-loop-again Inv-loop μ-loop
 loop-again c =
-    let s = c .before .before .before .before .before .before .before .before .before in
+    let s = c .before .before .before .before .before .before .before .before .before .before in
     let l = c .before .before .before .before .before .before .loop in
-    (search needs, search needs, turn (gone (now (s .args .word)) (s .args .t4) (s .args .after)) (s .args .at) (now (s .args .out)) (l .q) (l .place) (l .out) (l .inv .2) _ refl _ _ (c .before .before .put-gone-row .ensures))
+    (search needs, search needs, turn (gone (now (s .args .hub)) (now (s .args .word)) (s .args .t5) (s .args .after)) (s .args .at) (now (s .args .out)) (l .q) (l .place) (l .out) (l .inv .2) _ refl _ _ (c .before .before .put-gone-row .ensures))
 
 same-length : tie.Need-same-length Inv-loop μ-loop
 same-length c = search needs
@@ -55,9 +55,9 @@ same-length c = search needs
 returns : tie.Need-returns Inv-loop μ-loop
 unfolding goneText
 returns c =
-    let s = c .before .before .before .before in
+    let s = c .before .before .before .before .before in
     let l = c .before .loop in
-    end (gone (now (s .args .word)) (s .args .t4) (s .args .after)) (s .args .at) (now (s .args .out)) (l .q) 32 (omega arith) _ _ (l .inv .2)
+    end (gone (now (s .args .hub)) (now (s .args .word)) (s .args .t5) (s .args .after)) (s .args .at) (now (s .args .out)) (l .q) 32 (omega arith) _ _ (l .inv .2)
 
 pub put-gone-spec : {M : Type 1} → statement M
 put-gone-spec =

@@ -14,8 +14,8 @@ is-live-requires c κs = search needs
 put-absent-requires : tie.Need-put-absent-requires
 unfolding goneOne
 put-absent-requires c κs =
-    let s = c .before .before .before .before .before in
-    room-as _ _ (if-so _ (absentText (now (s .args .word)) (s .args .row .serial) (s .args .after)) (sym (c .before .before .is-live .ensures) ∙ c .before .if1 .taken)) _ _ (s .pre)
+    let s = c .before .before .before .before .before .before in
+    (s .pre .0, room-as _ _ (if-so _ (absentText (now (s .args .hub)) (now (s .args .word)) (s .args .row .serial) (s .args .after)) (sym (c .before .before .is-live .ensures) ∙ c .before .if1 .taken)) _ _ (s .pre .1))
 
 same-length : tie.Need-same-length
 same-length c = search needs
@@ -23,14 +23,14 @@ same-length c = search needs
 returns : tie.Need-returns
 unfolding goneOne
 returns c =
-    let s = c .before .before .before .before .before .before .before .before in
-    laid-as _ _ (if-so _ (absentText (now (s .args .word)) (s .args .row .serial) (s .args .after)) (sym (c .before .before .before .before .before .is-live .ensures) ∙ c .before .before .before .before .if1 .taken)) _ _ _ _ (c .before .before .put-absent .ensures)
+    let s = c .before .before .before .before .before .before .before .before .before in
+    laid-as _ _ (if-so _ (absentText (now (s .args .hub)) (now (s .args .word)) (s .args .row .serial) (s .args .after)) (sym (c .before .before .before .before .before .is-live .ensures) ∙ c .before .before .before .before .if1 .taken)) _ _ _ _ (c .before .before .put-absent .ensures)
 
 returns-2 : tie.Need-returns-2
 unfolding goneOne
 returns-2 c =
-    let s = c .before .before .before .before in
-    laid-as _ _ (if-not _ (absentText (now (s .args .word)) (s .args .row .serial) (s .args .after)) (sym (c .before .is-live .ensures) ∙ c .if1 .left)) _ _ _ _ (laid-none _ _)
+    let s = c .before .before .before .before .before in
+    laid-as _ _ (if-not _ (absentText (now (s .args .hub)) (now (s .args .word)) (s .args .row .serial) (s .args .after)) (sym (c .before .is-live .ensures) ∙ c .if1 .left)) _ _ _ _ (laid-none _ _)
 
 pub put-gone-row-spec : {M : Type 1} → statement M
 put-gone-row-spec =

@@ -11,19 +11,19 @@ handle-of-requires : tie.Need-handle-of-requires
 handle-of-requires c κs = search needs
 
 array-share-prefix-text : tie.Need-array-share-prefix-text
-array-share-prefix-text c = printed-fits _ _ (c .before .before .handle-of .ensures)
+array-share-prefix-text c = printed-fits _ (c .before .before .before .before .before .pre .0) _ _ (c .before .before .handle-of .ensures)
 
 slice-aggregate-put : tie.Need-slice-aggregate-put
-slice-aggregate-put c = sym (length-take-le _ _ (printed-fits _ _ (c .before .before .before .handle-of .ensures)))
+slice-aggregate-put c = sym (length-take-le _ _ (printed-fits _ (c .before .before .before .before .before .before .pre .0) _ _ (c .before .before .before .handle-of .ensures)))
 
 put-requires : tie.Need-put-requires
-put-requires c κs = room-as _ _ (printed-front _ _ (c .before .before .before .handle-of .ensures)) _ _ (c .before .before .before .before .before .pre)
+put-requires c κs = room-as _ _ (printed-front _ (c .before .before .before .before .before .before .pre .0) _ _ (c .before .before .before .handle-of .ensures)) _ _ (c .before .before .before .before .before .before .pre .1)
 
 same-length : tie.Need-same-length
 same-length c = search needs
 
 returns : tie.Need-returns
-returns c = laid-as _ _ (printed-front _ _ (c .before .before .before .before .before .before .handle-of .ensures)) _ _ _ _ (c .before .before .put .ensures)
+returns c = laid-as _ _ (printed-front _ (c .before .before .before .before .before .before .before .before .before .pre .0) _ _ (c .before .before .before .before .before .before .handle-of .ensures)) _ _ _ _ (c .before .before .put .ensures)
 
 pub put-handle-spec : {M : Type 1} → statement M
 put-handle-spec =

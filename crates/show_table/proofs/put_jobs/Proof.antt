@@ -14,15 +14,15 @@ use Rattle.show_table.proofs.put_jobs.Statement.{statement}
 use Rattle.show_table.proofs.put_jobs.Tie as tie
 
 abbrev Inv-loop : tie.InvT-loop
-Inv-loop out₀ at rows place₀ p₀ out place p = (p ≤ jobCount) × (length out ≡ length out₀) × Laid (unfinished rows) at out₀ p place out
+Inv-loop out₀ at hub rows place₀ p₀ out place p = (p ≤ jobCount) × (length out ≡ length out₀) × Laid (unfinished hub rows) at out₀ p place out
 
 abbrev μ-loop : tie.MeasureT-loop
-μ-loop out₀ at rows place₀ p₀ out place p = 32 - p
+μ-loop out₀ at hub rows place₀ p₀ out place p = 32 - p
 
 loop-holds : tie.Need-loop-holds Inv-loop μ-loop
 loop-holds c =
-    let s = c .before in
-    (omega arith, refl, start (unfinished (s .args .t3)) (s .args .at) (now (s .args .out)))
+    let s = c .before .before in
+    (omega arith, refl, start (unfinished (now (s .args .hub)) (s .args .t4)) (s .args .at) (now (s .args .out)))
 
 mul-put-row : tie.Need-mul-put-row Inv-loop μ-loop
 mul-put-row c = search needs
@@ -33,9 +33,9 @@ array-copy-out-put-row c = search needs
 put-row-requires : tie.Need-put-row-requires Inv-loop μ-loop
 unfolding jobsText
 put-row-requires c κs =
-    let s = c .before .before .before .before .before in
+    let s = c .before .before .before .before .before .before in
     let l = c .before .before .before .loop in
-    turn-room (unfinished (s .args .t3)) (s .args .at) (now (s .args .out)) (l .p) (l .place) (l .out) (l .inv .2) _ refl 32 (omega arith) (s .pre)
+    (s .pre .0, turn-room (unfinished (now (s .args .hub)) (s .args .t4)) (s .args .at) (now (s .args .out)) (l .p) (l .place) (l .out) (l .inv .2) _ refl 32 (omega arith) (s .pre .1))
 
 add-p : tie.Need-add-p Inv-loop μ-loop
 add-p c = search needs
@@ -45,9 +45,9 @@ loop-less c = search needs
 
 loop-again : tie.Need-loop-again Inv-loop μ-loop
 loop-again c =
-    let s = c .before .before .before .before .before .before .before .before in
+    let s = c .before .before .before .before .before .before .before .before .before in
     let l = c .before .before .before .before .before .before .loop in
-    (search needs, search needs, turn (unfinished (s .args .t3)) (s .args .at) (now (s .args .out)) (l .p) (l .place) (l .out) (l .inv .2) _ refl _ _ (c .before .before .put-row .ensures))
+    (search needs, search needs, turn (unfinished (now (s .args .hub)) (s .args .t4)) (s .args .at) (now (s .args .out)) (l .p) (l .place) (l .out) (l .inv .2) _ refl _ _ (c .before .before .put-row .ensures))
 
 same-length : tie.Need-same-length Inv-loop μ-loop
 same-length c = search needs
@@ -55,9 +55,9 @@ same-length c = search needs
 returns : tie.Need-returns Inv-loop μ-loop
 unfolding jobsText
 returns c =
-    let s = c .before .before .before in
+    let s = c .before .before .before .before in
     let l = c .before .loop in
-    end (unfinished (s .args .t3)) (s .args .at) (now (s .args .out)) (l .p) 32 (omega arith) _ _ (l .inv .2)
+    end (unfinished (now (s .args .hub)) (s .args .t4)) (s .args .at) (now (s .args .out)) (l .p) 32 (omega arith) _ _ (l .inv .2)
 
 pub put-jobs-spec : {M : Type 1} → statement M
 put-jobs-spec =

@@ -1,5 +1,5 @@
-//! Compares the core's archive with the ordinary server over fixed, random and twin histories, damaged and made tables
-//! and short buffers: events, and lines for the text entry between them.
+//! Compares the core's archive with the ordinary server over fixed, random and twin histories on hubs of many names,
+//! damaged and made tables and short buffers: events, and lines for the text entry between them.
 //! usage: compare [--events N] [--seed S]. It stops at the first difference with a full description and exit status 1.
 //! Where too little was compared, or the options are wrong, the exit status is 2.
 #![forbid(unsafe_code)]
@@ -8,6 +8,7 @@ use peer::counts::Counts;
 use peer::damage;
 use peer::edge_tables::{self, Base};
 use peer::event::Event;
+use peer::fresh_tables;
 use peer::hex;
 use peer::histories::History;
 use peer::image;
@@ -19,17 +20,16 @@ use peer::questions::Question;
 use peer::random::Random;
 use peer::scripts::{self, Script};
 use peer::server::{Server, BAD_LENT, JOBS, WORKLOADS};
-use peer::trials::Trial;
-use peer::twins;
+use peer::trials::{ask, described, Trial};
+use peer::twin_trials;
 use std::process::ExitCode;
 
 const EVENTS_OF_A_HISTORY: u64 = 2_000;
 /// How many reached tables are damaged at every byte, and how often each has several fields damaged.
 const DAMAGED_TABLES: usize = 10;
 const FIELD_DAMAGES: usize = 6_000;
-/// How many random twin histories there are, and their events.
+/// How many random twin histories there are.
 const TWINS: u64 = 10;
-const EVENTS_OF_A_TWIN: usize = 600;
 /// How many events are tried on each state that tables are made from.
 const EVENTS_OF_A_BASE: usize = 100;
 
@@ -55,6 +55,11 @@ fn main() -> ExitCode {
             println!("no exception reached listeners with the option and without it: {counts}");
             ExitCode::from(2)
         }
+        // Without such handles request 5.
+        Ok(()) if counts.foreign.contains(&0) => {
+            println!("no worker packet or no status named a job as another hub would: {counts}");
+            ExitCode::from(2)
+        }
         Ok(()) => {
             println!("same: {counts}");
             ExitCode::SUCCESS
@@ -67,7 +72,7 @@ fn main() -> ExitCode {
 }
 
 fn compare(events: u64, first_seed: u64, counts: &mut Counts) -> Result<(), String> {
-    fresh_tables(first_seed, counts)?;
+    fresh_tables::compare(first_seed, counts)?;
     for script in scripts::all() {
         fixed_history(&script, counts)?;
     }
@@ -84,10 +89,10 @@ fn compare(events: u64, first_seed: u64, counts: &mut Counts) -> Result<(), Stri
         seed += 1;
     }
     for script in scripts::all() {
-        twin_script(&script, counts)?;
+        twin_trials::script(&script, counts)?;
     }
     for seed in first_seed..first_seed + TWINS {
-        twin_histories(seed, counts)?;
+        twin_trials::history(seed, counts)?;
     }
     for reached in &reached {
         short_buffers(reached, counts)?;
@@ -97,17 +102,12 @@ fn compare(events: u64, first_seed: u64, counts: &mut Counts) -> Result<(), Stri
     Ok(())
 }
 
-/// Tables made over any bytes, in buffers that are long enough or too short.
-fn fresh_tables(seed: u64, counts: &mut Counts) -> Result<(), String> {
-    let mut random = Random::new(seed);
-    for table in [0, 1, TABLE - 1, TABLE, TABLE + 1, 8_192] {
-        for workloads in [0, 1, WORKLOADS - 1, WORKLOADS, WORKLOADS + 1] {
-            let mut host = Host::with_lengths(table, workloads, 0);
-            host.fresh(&mut random)
-                .map_err(|text| format!("fresh, table of {table}, workloads of {workloads} bytes\n{text}"))?;
-            counts.fresh += 1;
-        }
-    }
+/// The archive makes a fresh table of the server's hub, which becomes the server's: the start may differ from a fresh
+/// table in the last serial and in the workloads.
+fn start(host: &mut Host, server: &Server, random: &mut Random) -> Result<(), String> {
+    let made = host.fresh(server.hub.bytes(), random).map_err(|text| format!("fresh\n{text}"))?;
+    assert!(made, "a history's buffers are long enough, and its hub has a good name");
+    host.set(&image::image(server), &server.workloads);
     Ok(())
 }
 
@@ -117,26 +117,25 @@ fn fixed_history(script: &Script, counts: &mut Counts) -> Result<(), String> {
     let mut out = Outbox::default();
     let mut random = Random::new(script.events.len() as u64);
     for mut host in [Host::with_lengths(TABLE, WORKLOADS, OUTPUT), Host::with_lengths(8_192, 40_000, 20_000)] {
-        let mut server = Server::new();
-        server.last_serial = script.last_serial;
-        host.set(&image::image(&server), &server.workloads);
+        let mut server = script.start();
+        start(&mut host, &server, &mut random).map_err(|text| format!("{}\n{text}", script.title()))?;
         for (index, event) in script.events.iter().enumerate() {
             let number = event.run(&mut server, &mut out);
             host.step(event, &server, number, out.bytes())
-                .map_err(|text| format!("script '{}', {}", script.name, describe(index, event, number, &out, &text)))?;
+                .map_err(|text| format!("{}, {}", script.title(), described(index, event, number, &out, &text)))?;
             counts.fixed += 1;
-            counts.add(event, number, &out);
+            counts.add(event, number, &out, &server);
             let asker = server.connections.iter().rposition(|connection| connection.open).unwrap_or(0);
             let mut questions = Question::commands(asker as u32).to_vec();
             questions.push(Question::random(&server, &mut random));
             for question in questions {
                 ask(&mut host, &question, &server, counts)
-                    .map_err(|text| format!("script '{}', after event {index}: {event}\n{text}", script.name))?;
+                    .map_err(|text| format!("{}, after event {index}: {event}\n{text}", script.title()))?;
             }
         }
         for question in (0..=16).flat_map(Question::fixed) {
             ask(&mut host, &question, &server, counts)
-                .map_err(|text| format!("script '{}', after all events\n{text}", script.name))?;
+                .map_err(|text| format!("{}, after all events\n{text}", script.title()))?;
         }
     }
     Ok(())
@@ -147,9 +146,7 @@ fn history(seed: u64, events: u64, counts: &mut Counts) -> Result<Reached, Strin
     let mut history = History::new(seed);
     let mut server = history.start();
     let mut host = Host::new(&mut Random::new(seed));
-    host.fresh(&mut Random::new(seed)).map_err(|text| format!("seed {seed}, fresh\n{text}"))?;
-    // The start may differ from a fresh table in the last serial and in the workloads.
-    host.set(&image::image(&server), &server.workloads);
+    start(&mut host, &server, &mut Random::new(seed)).map_err(|text| format!("seed {seed}\n{text}"))?;
     let mut out = Outbox::default();
     let mut random = Random::new(seed ^ 0x7e);
     let mut rich = Reached { seed, index: 0, server: server.clone() };
@@ -157,9 +154,9 @@ fn history(seed: u64, events: u64, counts: &mut Counts) -> Result<Reached, Strin
         let event = history.next(&server);
         let number = event.run(&mut server, &mut out);
         host.step(&event, &server, number, out.bytes())
-            .map_err(|text| format!("seed {seed}, {}", describe(index as usize, &event, number, &out, &text)))?;
+            .map_err(|text| format!("seed {seed}, {}", described(index as usize, &event, number, &out, &text)))?;
         counts.events += 1;
-        counts.add(&event, number, &out);
+        counts.add(&event, number, &out, &server);
         let question = Question::random(&server, &mut random);
         ask(&mut host, &question, &server, counts)
             .map_err(|text| format!("seed {seed}, after event {index}: {event}\n{text}"))?;
@@ -168,76 +165,6 @@ fn history(seed: u64, events: u64, counts: &mut Counts) -> Result<Reached, Strin
         }
     }
     Ok(rich)
-}
-
-/// The archive must answer a line as the ordinary server does.
-fn ask(host: &mut Host, question: &Question, server: &Server, counts: &mut Counts) -> Result<(), String> {
-    let (number, text) = question.run(server);
-    counts.add_text(&question.line, number);
-    host.asked(question, number, &text)
-        .map_err(|found| format!("{question}\nright: number {number}, text \"{}\"\n{found}", text.escape_ascii()))
-}
-
-/// Two histories that differ in opaque bytes alone, each in buffers of its own: every text must be the same in both.
-struct Twins {
-    random: Random,
-    servers: [Server; 2],
-    hosts: [Host; 2],
-    out: Outbox,
-}
-
-impl Twins {
-    /// The second history starts from other workloads.
-    fn new(start: Server, seed: u64) -> Self {
-        let mut random = Random::new(seed);
-        let mut servers = [start.clone(), start];
-        servers[1].workloads.fill_with(|| random.byte());
-        let mut hosts = [Host::new(&mut random), Host::new(&mut random)];
-        for (host, server) in hosts.iter_mut().zip(&servers) {
-            host.set(&image::image(server), &server.workloads);
-        }
-        Twins { random, servers, hosts, out: Outbox::default() }
-    }
-
-    /// The event in the first history and its twin in the second, each compared; then one line is asked in both.
-    fn step(&mut self, index: usize, event: &Event, counts: &mut Counts) -> Result<(), String> {
-        let events = [event.clone(), twins::twin(event, &mut self.random)];
-        for ((event, host), server) in events.iter().zip(&mut self.hosts).zip(&mut self.servers) {
-            let number = event.run(server, &mut self.out);
-            host.step(event, server, number, self.out.bytes())
-                .map_err(|text| describe(index, event, number, &self.out, &text))?;
-            counts.twins += 1;
-            counts.add(event, number, &self.out);
-        }
-        // What is right for one history is right for the other.
-        let question = Question::random(&self.servers[0], &mut self.random);
-        for host in &mut self.hosts {
-            ask(host, &question, &self.servers[0], counts)
-                .map_err(|text| format!("after event {index}: {event}\n{text}"))?;
-        }
-        Ok(())
-    }
-}
-
-/// Random twin histories.
-fn twin_histories(seed: u64, counts: &mut Counts) -> Result<(), String> {
-    let mut history = History::new(seed ^ 0x79);
-    let mut twins = Twins::new(history.start(), seed ^ 0x79);
-    for index in 0..EVENTS_OF_A_TWIN {
-        let event = history.next(&twins.servers[0]);
-        twins.step(index, &event, counts).map_err(|text| format!("twin seed {seed}, {text}"))?;
-    }
-    Ok(())
-}
-
-/// A fixed history and its twin.
-fn twin_script(script: &Script, counts: &mut Counts) -> Result<(), String> {
-    let start = Server { last_serial: script.last_serial, ..Server::new() };
-    let mut twins = Twins::new(start, script.events.len() as u64);
-    for (index, event) in script.events.iter().enumerate() {
-        twins.step(index, event, counts).map_err(|text| format!("twin script '{}', {text}", script.name))?;
-    }
-    Ok(())
 }
 
 /// How much a state has to damage: many jobs, some held, some queued, functions, sleepers, options and client ids.
@@ -267,15 +194,16 @@ fn made_tables(base: &Base, counts: &mut Counts) -> Result<(), String> {
     Ok(())
 }
 
-/// Each byte of a reached table set to several values.
+/// Each byte of a reached table set to several values; in the hub's name the event that follows is about handles.
 fn damaged_bytes(reached: &Reached, counts: &mut Counts) -> Result<(), String> {
     let mut trial = Trial::new(&reached.server, reached.seed ^ 0xda);
     let table = trial.table().to_vec();
     for at in 0..TABLE {
-        for value in damage::values(table[at]) {
+        let choose = damage::is_in_hub(at).then_some(edge_tables::event_about as fn(&Server, &mut Random) -> Event);
+        for value in damage::values(at, table[at]) {
             let mut bytes = table.clone();
             bytes[at] = value;
-            let obeys = trial.compare(&bytes, None, counts).map_err(|text| {
+            let obeys = trial.compare(&bytes, choose, counts).map_err(|text| {
                 format!("{}, byte {at} set to {value:02x} from {:02x}\n{text}", reached.name(), table[at])
             })?;
             counts.damaged.add(obeys);
@@ -331,7 +259,7 @@ fn short_buffers(reached: &Reached, counts: &mut Counts) -> Result<(), String> {
                 let answer = if short == 0 {
                     let mut server = reached.server.clone();
                     let number = event.run(&mut server, &mut out);
-                    counts.add(&event, number, &out);
+                    counts.add(&event, number, &out, &server);
                     host.step(&event, &server, number, out.bytes())
                 } else {
                     counts.numbers[BAD_LENT as usize] += 1;
@@ -349,9 +277,4 @@ impl Reached {
     fn name(&self) -> String {
         format!("seed {}, the table before event {}", self.seed, self.index)
     }
-}
-
-fn describe(index: usize, event: &Event, number: u32, out: &Outbox, text: &str) -> String {
-    let packets: Vec<String> = out.addressed().map(hex::write).collect();
-    format!("event {index}: {event}\nright: number {number}, packets {packets:?}\n{text}")
 }

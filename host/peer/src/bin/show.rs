@@ -1,6 +1,7 @@
 //! The program of docs/SHOW.md over the ordinary server: standard input to standard output.
+//! usage: show [HUB]. The hub is `lap` where no other one is named.
 #![forbid(unsafe_code)]
 
-fn main() -> std::io::Result<()> {
-    peer::lines::filter(peer::show::show)
+fn main() -> std::process::ExitCode {
+    peer::lines::filter("show", peer::show::show_from)
 }

@@ -1,17 +1,20 @@
 //! Tables made on purpose for a check of the table rules that takes short ways: one that tells names and uniques apart
-//! by keys, reads digits, sizes and client ids many at a time, or compares serials in an order of its own.
+//! by keys, reads digits, sizes, client ids and the hub's name many at a time, or compares serials in an order of its
+//! own.
 #![forbid(unsafe_code)]
 
 mod fields;
+mod hubs;
 mod ids;
 mod keys;
 
 use crate::event::Event;
-use crate::handle;
 use crate::histories::request;
+use crate::hub::names;
 use crate::layout::*;
 use crate::random::Random;
-use crate::server::{Server, CONNECTIONS, DONE};
+use crate::server::{Job, Server, CONNECTIONS, DONE};
+use crate::text::Text;
 
 /// A state of the ordinary server, and tables that differ from its image in a few fields.
 pub struct Base {
@@ -57,13 +60,17 @@ pub fn all() -> Vec<Base> {
     let mut bases = keys::all();
     bases.extend(fields::all());
     bases.extend(ids::all());
+    bases.extend(hubs::all());
     bases
 }
 
-/// An event of an open connection, of which there is one at least, that names what the state holds: a function, a
-/// function and a unique, a handle, or a client id.
+/// An event of an open connection that names what the state holds: a function, a function and a unique, a handle, or a
+/// client id. Where no connection is open, one opens.
 pub fn event_about(server: &Server, random: &mut Random) -> Event {
     let open: Vec<u32> = (0..CONNECTIONS as u32).filter(|&c| server.connections[c as usize].open).collect();
+    if open.is_empty() {
+        return Event::Open(random.below(CONNECTIONS) as u32);
+    }
     let connection = *random.pick(&open);
     let jobs: Vec<_> = server.jobs.iter().flatten().collect();
     let names: Vec<_> = server.functions.iter().flatten().map(|known| known.name).collect();
@@ -79,14 +86,28 @@ pub fn event_about(server: &Server, random: &mut Random) -> Event {
         return Event::Packet(connection, request(kind, arguments));
     }
     let job = *random.pick(&jobs);
+    if random.chance(40) {
+        return event_with_handle(server, connection, job, random);
+    }
     // Mostly the function of the job, so that the submission joins it.
     let own = server.functions[job.function].map_or(name, |known| known.name);
     let name = if random.chance(70) { own } else { name };
-    let packet = match random.below(4) {
-        0 => request(15, &[handle::print(job.serial).bytes()]),
-        _ => request(*random.pick(&[7, 18]), &[name.bytes(), job.unique.bytes(), b"w"]),
-    };
-    Event::Packet(connection, packet)
+    Event::Packet(connection, request(*random.pick(&[7, 18]), &[name.bytes(), job.unique.bytes(), b"w"]))
+}
+
+/// The job's status is asked for, or its holder sends a worker packet. The handle is the job's own, or one that another
+/// hub would give it.
+fn event_with_handle(server: &Server, asker: u32, job: &Job, random: &mut Random) -> Event {
+    let own = server.handle(job.serial);
+    let near = names::near_handle(server.hub.bytes(), job.serial, random);
+    let handle = if random.chance(50) { own.bytes() } else { &near };
+    let holder = job.holder.map_or(asker, |holder| holder as u32);
+    match random.below(8) {
+        0..=3 => Event::Packet(asker, request(15, &[handle])),
+        4 => Event::Packet(holder, request(12, &[handle, b"1", b"23"])),
+        5 => Event::Packet(holder, request(14, &[handle])),
+        _ => Event::Packet(holder, request(*random.pick(&[13, 25, 28, 29]), &[handle, b"data"])),
+    }
 }
 
 // ---- Short ways to write the tables.

@@ -2,7 +2,7 @@
 #![forbid(unsafe_code)]
 
 use super::{abilities, awaited, request, History, Mood, NOT_SERVED, SERVED, SUBMISSIONS};
-use crate::handle;
+use crate::hub::names;
 use crate::packet::Side;
 use crate::server::{Job, Server, CONNECTIONS};
 
@@ -10,47 +10,27 @@ impl History {
     /// A packet of a served type; its arguments are mostly right.
     pub(super) fn valid(&mut self, server: &Server, connection: u32, kind: u32) -> Vec<u8> {
         match kind {
-            1 => {
-                let function = self.learned(server);
-                request(1, &[&function])
-            }
-            2 => {
-                let function = self.given_up(server, connection);
-                request(2, &[&function])
-            }
+            1 => request(1, &[&self.learned(server)]),
+            2 => request(2, &[&self.given_up(server, connection)]),
             kind if SUBMISSIONS.contains(&kind) => {
                 let (function, unique) = self.submitted(server);
                 let workload = self.opaque(1_022usize.saturating_sub(function.len() + unique.len()));
                 request(kind, &[&function, &unique, &workload])
             }
-            12 => {
-                let handle = self.handle(server, connection);
-                let numerator = self.digits();
-                let denominator = self.digits();
-                request(12, &[&handle, &numerator, &denominator])
-            }
-            kind @ (14 | 15) => {
-                let handle = self.handle(server, connection);
-                request(kind, &[&handle])
-            }
+            12 => request(12, &[&self.handle(server, connection), &self.digits(), &self.digits()]),
+            14 => request(14, &[&self.handle(server, connection)]),
+            15 => request(15, &[&self.asked(server, connection)]),
             kind @ (13 | 25 | 28 | 29) => {
                 let handle = self.handle(server, connection);
                 let data = self.opaque(1_023usize.saturating_sub(handle.len()));
                 request(kind, &[&handle, &data])
             }
-            16 => {
-                let data = self.opaque(1_024);
-                request(16, &[&data])
-            }
-            22 => {
-                let id = self.id();
-                request(22, &[&id])
-            }
+            16 => request(16, &[&self.opaque(1_024)]),
+            22 => request(22, &[&self.id()]),
             26 => {
                 const RIGHT: &[u8] = b"exceptions";
                 let options = [RIGHT, RIGHT, RIGHT, RIGHT, b"exception", b"exceptions2", b"", b"Exceptions"];
-                let option = *self.random.pick(&options);
-                request(26, &[option])
+                request(26, &[*self.random.pick(&options)])
             }
             kind => request(kind, &[]),
         }
@@ -178,7 +158,7 @@ impl History {
     }
 
     /// Mostly a handle of a job that the connection holds, if there is one, while jobs fail one that several wait for;
-    /// else other handles, old ones, and texts that are nearly one.
+    /// else other handles, old ones, those of other hubs, and texts that are nearly one.
     fn handle(&mut self, server: &Server, connection: u32) -> Vec<u8> {
         let jobs: Vec<_> = server.jobs.iter().flatten().collect();
         let holds = |job: &&Job| job.holder == Some(connection as usize);
@@ -187,23 +167,45 @@ impl History {
             held = awaited(server).filter(holds).collect();
         }
         let some_serial = if jobs.is_empty() { 1 } else { self.random.pick(&jobs).serial };
-        match self.random.below(100) {
-            0..=69 if !held.is_empty() => handle::print(self.random.pick(&held).serial).bytes().to_vec(),
-            70..=71 => server.last_serial.saturating_add(1).to_string().into_bytes(),
-            72..=75 => handle::print(server.last_serial.saturating_sub(self.random.below(40) as u32)).bytes().to_vec(),
-            76 => format!("H:lap:0{some_serial}").into_bytes(),
-            77 => format!("H:lap:{}", u64::from(some_serial) + (1 << 32)).into_bytes(),
-            78 => format!("H:lap:+{some_serial}").into_bytes(),
-            79 => format!("h:lap:{some_serial}").into_bytes(),
-            80 => format!("H:lap:{some_serial} ").into_bytes(),
-            81 => b"H:lap:".to_vec(),
-            82 => b"H:lap:0".to_vec(),
-            83 => vec![],
-            84 => vec![b'H'; 63],
-            85 => vec![b'H'; 64],
-            86 => format!("H:lap:{:057}", some_serial).into_bytes(),
-            87 => vec![self.random.byte(); self.random.below(70)],
-            _ => handle::print(some_serial).bytes().to_vec(),
+        let held_serial = if held.is_empty() { some_serial } else { self.random.pick(&held).serial };
+        let serial = match self.random.below(100) {
+            0..=65 => held_serial,
+            // As another hub would name the job: whoever looks at the serial alone takes it.
+            66..=71 => return names::near_handle(server.hub.bytes(), held_serial, &mut self.random),
+            72..=75 => server.last_serial.saturating_sub(self.random.below(40) as u32),
+            76..=88 => return self.nearly_handle(server, some_serial),
+            _ => some_serial,
+        };
+        server.handle(serial).bytes().to_vec()
+    }
+
+    /// The handle in a status: as above, but more often as another hub would name a job, since statuses are rare.
+    fn asked(&mut self, server: &Server, connection: u32) -> Vec<u8> {
+        let jobs: Vec<_> = server.jobs.iter().flatten().collect();
+        if jobs.is_empty() || self.random.chance(60) {
+            return self.handle(server, connection);
+        }
+        let serial = self.random.pick(&jobs).serial;
+        names::near_handle(server.hub.bytes(), serial, &mut self.random)
+    }
+
+    /// A text that is nearly a handle of this hub, or far from one.
+    fn nearly_handle(&mut self, server: &Server, serial: u32) -> Vec<u8> {
+        let with = |digits: String| [b"H:", server.hub.bytes(), b":", digits.as_bytes()].concat();
+        match self.random.below(14) {
+            0 => with(format!("0{serial}")),
+            1 => with((u64::from(serial) + (1 << 32)).to_string()),
+            2 => with(format!("+{serial}")),
+            3 => with(serial.to_string()).to_ascii_lowercase(),
+            4 => with(format!("{serial} ")),
+            5 => with(String::new()),
+            6 => with("0".to_string()),
+            7 => vec![],
+            8 => vec![b'H'; 63],
+            9 => vec![b'H'; 64],
+            10 => with(format!("{serial:0width$}", width = 60 - server.hub.bytes().len())),
+            11 => vec![self.random.byte(); self.random.below(70)],
+            _ => server.last_serial.saturating_add(1).to_string().into_bytes(),
         }
     }
 
