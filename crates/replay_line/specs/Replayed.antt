@@ -24,6 +24,6 @@ textSize = 3 * outputSize connectionCount + 3
 unfoldable pub replayed : Bytes → Bytes → Bytes → Bytes → Bytes → Told
 replayed line t w o x = told textSize inDigits line t w o x
 
--- one line after the other on the lent bytes; `server/Replay: replayOf` is what a whole text must come to
+-- one line after the other on the lent bytes; `server/Replay: replayOf` is what a whole text of the hub `lap` must come to
 abbrev pub replayedText : List Bytes → Bytes → Bytes → Bytes → Bytes → Bytes
 replayedText lines t w o x = said textSize (λ k. inDigits) 1 lines t w o x

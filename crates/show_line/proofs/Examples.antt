@@ -1,5 +1,5 @@
 -- What `show` prints for a line, computed by the definitions: a submission, a result, a late one under a handle that no job has any
--- more, a close that drops a job, and a line that is no frame. The first is docs/SHOW.md's. Assumes nothing.
+-- more, one under another hub's handle, a close that drops a job, and a line that is no frame. The first is docs/SHOW.md's. Assumes nothing.
 use Prim.Native.Nat.{ℕ}
 use Prim.Native.String.{String}
 use mathlib.Core.Path.{_≡_, refl}
@@ -56,6 +56,13 @@ late-result : words 16 (text "0301005245510000000d0000000c483a6c61703a3100707070
     ≡ text "line 16 0301005245510000000d0000000c\n    1 -> WORK_COMPLETE handle H:lap:1 data 4 bytes\n    1 <- ERROR number 14 text handle\n    refused 14 handle\n    asleep none\n    no job H:lap:1\n"
 unfolding words
 late-result = refl
+
+-- H:cup:2 is no handle at the hub lap, and concerns no job of it
+foreign-result : words 16 (text "0301005245510000000d0000000c483a6375703a320070707070")
+    (spelled "0100524553000000130000000931340068616e646c65" ∷ []) 14 (oneJob 2 2 12) (oneJob 2 2 12)
+    ≡ text "line 16 0301005245510000000d0000000c\n    1 -> WORK_COMPLETE handle H:cup:2 data 4 bytes\n    1 <- ERROR number 14 text handle\n    refused 14 handle\n    asleep none\n"
+unfolding words
+foreign-result = refl
 
 result : words 7 (text "0301005245510000000d0000000c483a6c61703a310070707070")
     (spelled "00005245530000000d0000000c483a6c61703a310070707070" ∷ []) 0 (oneJob 1 2 1) (fresh connectionCount lap)
