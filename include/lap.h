@@ -76,11 +76,11 @@ enum lap_number {
 /* A number's reason in words, for a host's messages. */
 static inline const char *lap_number_text(uint32_t number) {
     static const char *const texts[] = {
-        "done", "a lent buffer is too short, or the table breaks a rule", "connection above 15", "connection not open",
-        "connection already open", "packet under 12 bytes", "not the magic of a request", "size above 1,024",
-        "packet length is not 12 + size", "type not served", "bad arguments", "16 functions are known already",
-        "32 jobs are unfinished", "serials used up", "not a job held by this connection", "unknown option",
-        "line is not a frame"
+        "done", "a lent buffer is too short, the table breaks a rule, or the name is no hub's", "connection above 15",
+        "connection not open", "connection already open", "packet under 12 bytes", "not the magic of a request",
+        "size above 1,024", "packet length is not 12 + size", "type not served", "bad arguments",
+        "16 functions are known already", "32 jobs are unfinished", "serials used up",
+        "not a job held by this connection", "unknown option", "line is not a frame"
     };
     return number < sizeof texts / sizeof texts[0] ? texts[number] : "no such number";
 }
