@@ -1,16 +1,17 @@
 -- The three demands, of the bytes that a host sees. A host's memory is any that is long enough and whose table breaks no rule
 -- (`Hub`): a fresh table is one, and whatever calls leave is one. Assumes nothing.
-use Prim.Native.Nat.{ℕ}
+use Prim.Native.Nat.{ℕ, _≤_}
 use mathlib.Core.Path.{_≡_}
 use mathlib.Core.Bool.{true, false, _||_}
 use mathlib.Core.List.{List}
-use lib.ListN.{take, drop, replicate}
+use lib.ListN.{length, take, drop, replicate}
 use Rattle.octets.specs.Bytes.{Bytes, every}
 use Rattle.handle.specs.Handle.{handle, isHubName}
 use Rattle.packet.specs.Packet.{read, requests}
+use Rattle.server.specs.Sizes.{workloadsSize}
 use Rattle.server.specs.Requests.{Event, sends, fromReading, requestIn}
 use Rattle.server.specs.Server.{Server, start}
-use Rattle.server.specs.Layout.{tableOf}
+use Rattle.server.specs.Layout.{tableOf, tableSize}
 use Rattle.server.specs.Call.{made, make, refusedBy, call}
 use Rattle.server_calls.specs.History.{Call, Memory}
 use Rattle.server_calls.proofs.Follows.{Running, tableWith, workloadsWith}
@@ -37,7 +38,7 @@ use Rattle.demands.proofs.Answering.{call-answered}
 use Rattle.demands.proofs.Numbers.{number-first}
 use Rattle.demands.proofs.Walking.{walk-hub}
 use Rattle.demands.proofs.Handles.{call-stands, call-makes, call-unheard, calls-gone}
-use Rattle.demands.proofs.Names.{make-refused, make-named, fresh-name, zeros-refused, calls-name, call-named, calls-foreign, calls-apart}
+use Rattle.demands.proofs.Names.{make-refused, make-long-named, make-done, fresh-name, zeros-refused, calls-name, call-named, work-named, calls-foreign, calls-apart}
 use Rattle.demands.proofs.Restart.{restart-hub, told-restart}
 use Rattle.demands.proofs.Options.{calls-option}
 use Rattle.demands.proofs.Results.{calls-heard, call-tells-each, call-ends, fresh-results}
@@ -197,12 +198,16 @@ text-blind = texts-alike
 
 -- ---- the hub's name: 02, ask 5
 
--- making a table under any name on any bytes: it is made, and then the name is a hub's; or it is refused by 1, and nothing is written
+-- making a table under any name on any bytes: it is made exactly if both buffers are long enough and the name is a hub's
+pub fresh-done : (n : ℕ) (name t w : Bytes) → tableSize n ≤ length t → workloadsSize ≤ length w → isHubName name ≡ true → make n name t w .number ≡ 0
+fresh-done = make-done
+
+pub fresh-good : (n : ℕ) (name t w : Bytes) → make n name t w .number ≡ 0 → (tableSize n ≤ length t) × (workloadsSize ≤ length w) × (isHubName name ≡ true)
+fresh-good = make-long-named
+
+-- otherwise it is refused by 1, and nothing is written
 pub fresh-refused : (n : ℕ) (name t w : Bytes) → ¬ (make n name t w .number ≡ 0) → make n name t w ≡ made 1 t w
 fresh-refused = make-refused
-
-pub fresh-good : (n : ℕ) (name t w : Bytes) → make n name t w .number ≡ 0 → isHubName name ≡ true
-fresh-good = make-named
 
 -- a fresh table has the name that it was made with
 pub fresh-named : (n : ℕ) (name : Bytes) → isHubName name ≡ true → (t w : Bytes) → Room n t w → tableIn n (freshMemory n name t w) .hub ≡ name
@@ -220,6 +225,11 @@ module _ (n : ℕ) (m : Memory) (hub : Hub n m) where
   -- it stands in every handle that a packet of types 8, 11 or 31 gives
   pub handle-named : (h : Bytes) (x : Call) → Long n x → given h (told (callOn n m x)) ≡ true → (serial : ℕ) × (h ≡ handle (tableIn n m .hub) serial)
   handle-named = call-named n m hub
+
+  -- and in that which a worker packet names, if it is done: so in all that it sends, whose handle is this one (`results-go`)
+  pub results-named : (x : Call) → Long n x → (d : ℕ) (b h : Bytes) → x .event ≡ sends d b → readingTells h (read requests b) ≡ true → callOn n m x .number ≡ 0
+      → (serial : ℕ) × (h ≡ handle (tableIn n m .hub) serial)
+  results-named = work-named n m hub
 
   -- a handle that names another hub, whatever its serial, is nobody's, after any calls: no call gives it out, a worker packet that names it is
   -- refused by 14, and its status is unknown

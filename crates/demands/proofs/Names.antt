@@ -1,10 +1,11 @@
 -- The name of the hub, over calls on a host's memory: no call changes it, every handle that is given has it, and a handle with another hub's
 -- name is nobody's. 02, ask 5. Assumes nothing.
-use Prim.Native.Nat.{ℕ, zero, suc}
+use Prim.Native.Nat.{ℕ, zero, suc, _≤_}
 use mathlib.Core.Path.{_≡_, refl, ap, sym, _∙_}
 use mathlib.Core.Bool.{Bool, true, false, not, cond, _||_}
 use mathlib.Core.List.{List, []}
 use native.Mathlib.Omega.{arith}
+use borrow.Author.Tests.{le-ltb, ltb-false}
 use lib.ListN.{length, take, drop, replicate}
 use lib.Dec.{ltb}
 use Rattle.octets.specs.Bytes.{Bytes, firstZero}
@@ -15,7 +16,8 @@ use Rattle.handle.proofs.Hubs.{one-hub}
 use Rattle.lists.proofs.Rows.{clash, never}
 use Rattle.server.specs.Sizes.{hubSize, workloadsSize}
 use Rattle.server.specs.Table.{Table, fresh, jobAt}
-use Rattle.server.specs.Requests.{Event}
+use Rattle.packet.specs.Packet.{read, requests}
+use Rattle.server.specs.Requests.{Event, sends}
 use Rattle.server.specs.Rules.{obeys}
 use Rattle.server.specs.Server.{Server, start, after}
 use Rattle.server.specs.Layout.{textAt, tableOf, bytesOf, tableSize, hubAt, isImage}
@@ -26,11 +28,12 @@ use Rattle.server_calls.specs.History.{Call, Memory, events}
 use Rattle.server_calls.proofs.Follows.{Running}
 use Rattle.server_calls.proofs.Histories.{LongOutputs}
 use Rattle.demands.specs.Messages.{told, messagesOf}
-use Rattle.demands.specs.Handles.{given, stands, Spent}
+use Rattle.demands.specs.Handles.{given, readingTells, stands, Spent}
 use Rattle.demands.specs.Hub.{Hub, Room, Long, callOn, afterCalls, tableIn, serverOf, freshMemory}
 use Rattle.demands.proofs.Given.{stands-at, Known, standing, newest, given-known}
 use Rattle.demands.proofs.Hubs.{fresh-server, hub-runs, call-tells, calls-hub}
 use Rattle.demands.proofs.Handles.{table-after, nobodys}
+use Rattle.demands.proofs.Results.{call-held-stands}
 
 -- ---- making a table
 
@@ -46,16 +49,23 @@ module _ (n : ℕ) (name t w : Bytes) where
       by-number (ltb (length t) (tableSize n) || (ltb (length w) workloadsSize || not (isHubName name)))
       (made 0 (put 0 (bytesOf (fresh n name)) t) (put 0 (replicate workloadsSize 0) w)) refl f
 
-  named-by : (a b c : Bool) (x : Made) → cond (a || (b || not c)) (made 1 t w) x .number ≡ 0 → c ≡ true
-  named-by true b c x z = absurd (omega arith)
-  named-by false true c x z = absurd (omega arith)
-  named-by false false true x z = refl
-  named-by false false false x z = absurd (omega arith)
+  made-by : (a b c : Bool) (x : Made) → cond (a || (b || not c)) (made 1 t w) x .number ≡ 0 → (a ≡ false) × (b ≡ false) × (c ≡ true)
+  made-by true b c x z = absurd (omega arith)
+  made-by false true c x z = absurd (omega arith)
+  made-by false false true x z = (refl, refl, refl)
+  made-by false false false x z = absurd (omega arith)
 
-  -- what is made has a hub's name
-  pub make-named : make n name t w .number ≡ 0 → isHubName name ≡ true
+  -- what is made has long enough buffers and a hub's name
+  pub make-long-named : make n name t w .number ≡ 0 → (tableSize n ≤ length t) × (workloadsSize ≤ length w) × (isHubName name ≡ true)
   unfolding make
-  make-named z = named-by (ltb (length t) (tableSize n)) (ltb (length w) workloadsSize) (isHubName name) _ z
+  make-long-named z =
+      let (a, b, c) = made-by (ltb (length t) (tableSize n)) (ltb (length w) workloadsSize) (isHubName name) _ z in
+      (ltb-false (length t) (tableSize n) a, ltb-false (length w) workloadsSize b, c)
+
+  -- and what has both is made
+  pub make-done : tableSize n ≤ length t → workloadsSize ≤ length w → isHubName name ≡ true → make n name t w .number ≡ 0
+  unfolding make
+  make-done lt lw good = rw (le-ltb (length t) (tableSize n) lt, le-ltb (length w) workloadsSize lw, good)
 
 -- a fresh table has the name that it was made with
 pub fresh-name : (n : ℕ) (name : Bytes) → isHubName name ≡ true → (t w : Bytes) → Room n t w → tableIn n (freshMemory n name t w) .hub ≡ name
@@ -121,6 +131,13 @@ module _ (n : ℕ) (m : Memory) (hub : Hub n m) where
       by : {i : ℕ} → Known (serverOf n m) i h → (serial : ℕ) × (h ≡ handle (tableIn n m .hub) serial)
       by (standing a) = (jobAt (serverOf n m .table) (a .place) .row .serial, a .is)
       by (newest room last q) = (suc (serverOf n m .table .last), q)
+
+  -- and so does the handle that a worker packet names, if it is done
+  pub work-named : (x : Call) → Long n x → (d : ℕ) (b h : Bytes) → x .event ≡ sends d b → readingTells h (read requests b) ≡ true → callOn n m x .number ≡ 0
+      → (serial : ℕ) × (h ≡ handle (tableIn n m .hub) serial)
+  work-named x l d b h e w z =
+      let a = stands-at h (tableIn n m) (call-held-stands n m hub x l d b h e w z) in
+      (jobAt (tableIn n m) (a .place) .row .serial, a .is)
 
 -- ---- handles of other hubs
 
