@@ -25,6 +25,7 @@ LEMMAS = [
     ("check_table/proofs/Sound.antt", "next_small"),
     ("server_laws/proofs/Functions.antt", "names_apart"),
     ("hex/proofs/*.antt", "digit_value"),
+    ("packet_laws/proofs/Values.antt", "values-of"),
 ]
 
 # Names of Rattle's own that stand in these spellings.
@@ -33,6 +34,8 @@ KEPT = set()
 TOKEN = re.compile(r"[^\s(){}\[\].;,@\"«»`|]+")
 CAMEL = re.compile(r"[a-z][a-z0-9]*(?:[A-Z][A-Za-z0-9]*)+(?:[-_'₀-₉A-Za-z0-9]*)$")
 DECLARED = re.compile(r"^(?:(?:abbrev|unfoldable|pub|data|record|ruleset|deriving) )*([^\s:(){}]+)(?:\s+[({][^:]*:[^)}]*[)}])*\s*:(?:\s|$)")
+NESTED = re.compile(r"(?<![\w.'-])([A-Za-z][^\s(){}\[\].;,@\"«»`|≡→]*-[^\s(){}\[\].;,@\"«»`|≡→]*) :(?= )")
+BOUND = re.compile(r"(?<![.\w'-])([A-Za-z][\w']*(?:-[\w'₀-₉]+)+)(?![\w'-])")
 INNER = re.compile(r"^\s+(?:pub )?([^\s:(){}]+(?: [^\s:(){}]+)*) :\s")
 
 
@@ -59,6 +62,8 @@ def declared_in(text, made):
     """The names that a file declares, and those of them that are types."""
     names, types, block = set(), set(), False
     items = re.split(r"\n(?=\S)", text)
+    if not made:
+        names.update(NESTED.findall(re.sub(r"^\s*--.*$", "", text, flags=re.M)))
     for item in items:
         first = item.split("\n")[0]
         if first.startswith(("use ", "--", "pub use", "pub mod", "mod ", "infix")):
@@ -97,8 +102,18 @@ def plan():
         for t in TOKEN.findall(read(path)):
             if t not in table and CAMEL.match(t) and t not in KEPT:
                 table[t] = snake(t)
+        if not path.endswith("Proof.antt"):
+            text = re.sub(r"^\s*--.*$", "", read(path), flags=re.M)
+            imported = {n for m in re.finditer(r"^(?:ghost |pub )*use [^{\n]*\{([^}]*)\}", text, re.M) for n in re.split(r"[ ,]+", m[1])}
+            for t in BOUND.findall(text):
+                if t not in imported and t not in table:
+                    table[t] = snake(t)
+    taken = set()
+    for path in antt_files():
+        here = set(TOKEN.findall(re.sub(r"^\s*--.*$", "", read(path), flags=re.M)))
+        taken |= {n for n in here if "-" in n and n in table and not path.endswith("Proof.antt") and table[n] in here}
     for n in list(table):
-        if "-" in n and any(m != n and "-" not in m and table[m] == table[n] for m in TOGETHER.get(table[n], [])):
+        if n in taken or "-" in n and any(m != n and "-" not in m and table[m] == table[n] for m in TOGETHER.get(table[n], [])):
             table[n] += "_lem"
     return {a: b for a, b in table.items() if a != b}
 
@@ -157,7 +172,7 @@ def main():
     lemmas = collections.defaultdict(dict)
     for files, name in LEMMAS:
         for path in glob.glob("crates/" + files):
-            lemmas[path][name] = name + "_lem"
+            lemmas[path][name] = snake(name) + "_lem"
     crates = set(re.findall(r"^(\w+):", read("crates.txt"), re.M))
     for path in antt_files():
         own = {a: b for a, b in (table | lemmas[path]).items() if a not in foreign(read(path), crates)}
@@ -169,7 +184,7 @@ def main():
     for path in ["README.md"] + sorted(glob.glob("docs/*.md")):
         write(path, re.sub(r"`hex`", "`hexadecimal`", rename_crate(in_spans(read(path), table), "hex", "hexadecimal")), check)
     write("crates.txt", re.sub(r"(?<=[ \n])hex(?=[ :\n])", "hexadecimal", read("crates.txt")), check)
-    if not check:
+    if not check and os.path.isdir("crates/hex"):
         os.rename("crates/hex", "crates/hexadecimal")
     with open("/tmp/port-names.tsv", "w", encoding="utf-8") as f:
         f.writelines(f"{a}\t{b}\n" for a, b in sorted(table.items()))
