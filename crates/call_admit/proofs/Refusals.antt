@@ -11,7 +11,7 @@ use Rattle.server.specs.Sizes.{connection_count, workloads_size, output_size}
 use Rattle.server.specs.Table.{closed}
 use Rattle.server.specs.Layout.{connection_in, table_of, opened_at, table_size}
 use Rattle.server.specs.Call.{too_short, is_sound}
-use Rattle.table_laws.proofs.Columns.{places-at}
+use Rattle.table_laws.proofs.Columns.{places_at}
 use Rattle.lists.proofs.Rows.{clash}
 use Rattle.server_calls.proofs.Refusals.{Taken, taken}
 use Rattle.call_admit.specs.Admission.{state_refusal, admission}
@@ -27,27 +27,27 @@ module _ (t w o : Bytes) where
   abbrev pub unusable : Bool
   unusable = too_short connection_count t w o || not (is_sound connection_count t)
 
-  pub short-table : length t < table_size connection_count → false ≡ not unusable
+  pub short_table : length t < table_size connection_count → false ≡ not unusable
   unfolding too_short
-  short-table h = rw (lt-ltb (length t) (table_size connection_count) h)
+  short_table h = rw (lt-ltb (length t) (table_size connection_count) h)
 
-  pub short-workloads : table_size connection_count ≤ length t → length w < workloads_size → false ≡ not unusable
+  pub short_workloads : table_size connection_count ≤ length t → length w < workloads_size → false ≡ not unusable
   unfolding too_short
-  short-workloads g h = rw (le-ltb (length t) (table_size connection_count) g, lt-ltb (length w) workloads_size h)
+  short_workloads g h = rw (le-ltb (length t) (table_size connection_count) g, lt-ltb (length w) workloads_size h)
 
-  pub short-output : table_size connection_count ≤ length t → workloads_size ≤ length w → length o < output_size connection_count → false ≡ not unusable
+  pub short_output : table_size connection_count ≤ length t → workloads_size ≤ length w → length o < output_size connection_count → false ≡ not unusable
   unfolding too_short
-  short-output g h l = rw (le-ltb (length t) (table_size connection_count) g, le-ltb (length w) workloads_size h, lt-ltb (length o) (output_size connection_count) l)
+  short_output g h l = rw (le-ltb (length t) (table_size connection_count) g, le-ltb (length w) workloads_size h, lt-ltb (length o) (output_size connection_count) l)
 
-  pub long-enough : (s : Bool) → table_size connection_count ≤ length t → workloads_size ≤ length w → output_size connection_count ≤ length o → s ≡ is_sound connection_count t → s ≡ not unusable
+  pub long_enough : (s : Bool) → table_size connection_count ≤ length t → workloads_size ≤ length w → output_size connection_count ≤ length o → s ≡ is_sound connection_count t → s ≡ not unusable
   unfolding too_short
-  long-enough s g h l e = rw (le-ltb (length t) (table_size connection_count) g, le-ltb (length w) workloads_size h, le-ltb (length o) (output_size connection_count) l) (e ∙ twice (is_sound connection_count t))
+  long_enough s g h l e = rw (le-ltb (length t) (table_size connection_count) g, le-ltb (length w) workloads_size h, le-ltb (length o) (output_size connection_count) l) (e ∙ twice (is_sound connection_count t))
 
 -- ---- the connection's state
 
 pub open_at : (t : Bytes) (c : ℕ) → c < connection_count → eqb (get_or t (opened_at connection_count + c) 0) 1 ≡ (get_or (table_of connection_count t).connections c closed).opened
 unfolding table_of
-open_at t c h = sym (ap (λ (x : Connection). x.opened) (places-at (connection_in connection_count t) closed connection_count c h))
+open_at t c h = sym (ap (λ (x : Connection). x.opened) (places_at (connection_in connection_count t) closed connection_count c h))
 
 pub both_open : (a b : Bool) → a && b ≡ true → 4 ≡ state_refusal a b
 unfolding state_refusal
@@ -78,15 +78,15 @@ pub usable_bytes : (t w o : Bytes) (u : Bool) → u ≡ not (unusable t w o) →
 usable_bytes t w o u e f = taken connection_count t w o (tested t w o u false e f)
 
 module _ (to_open : Bool) (c : ℕ) (t w o : Bytes) (u : Bool) (e : u ≡ not (unusable t w o)) where
-  pub refused-1 : not u ≡ true → 1 ≡ admission to_open c t w o
+  pub refused_1 : not u ≡ true → 1 ≡ admission to_open c t w o
   unfolding admission
-  refused-1 f = rw (tested t w o u true e f)
+  refused_1 f = rw (tested t w o u true e f)
 
-  pub refused-2 : not u ≡ false → connection_count ≤ c → 2 ≡ admission to_open c t w o
+  pub refused_2 : not u ≡ false → connection_count ≤ c → 2 ≡ admission to_open c t w o
   unfolding admission
-  refused-2 f h = rw (tested t w o u false e f, le-ltb c connection_count h)
+  refused_2 f h = rw (tested t w o u false e f, le-ltb c connection_count h)
 
-  pub refused-state : (r : ℕ) (s : Bool) → not u ≡ false → c < connection_count → s ≡ (get_or (table_of connection_count t).connections c closed).opened → r ≡ state_refusal s to_open
+  pub refused_state : (r : ℕ) (s : Bool) → not u ≡ false → c < connection_count → s ≡ (get_or (table_of connection_count t).connections c closed).opened → r ≡ state_refusal s to_open
       → r ≡ admission to_open c t w o
   unfolding admission
-  refused-state r s f h q g = rw (tested t w o u false e f, lt-ltb c connection_count h, ← q) g
+  refused_state r s f h q g = rw (tested t w o u false e f, lt-ltb c connection_count h, ← q) g

@@ -9,7 +9,7 @@ use Rattle.octets.specs.Bytes.{Bytes}
 use Rattle.octets.specs.Put.{put}
 use Rattle.lists.specs.Lists.{fit}
 use Rattle.handle.specs.Handle.{is_hub_name}
-use Rattle.handle.proofs.Hubs.{hub-most}
+use Rattle.handle.proofs.Hubs.{hub_most_lem}
 use Rattle.server.specs.Sizes.{connection_count, workloads_size, hub_size}
 use Rattle.server.specs.Layout.{table_size, hub_at}
 use Rattle.server.specs.Call.{make, made}
@@ -17,13 +17,13 @@ use Rattle.table_texts.specs.Places.{zeros}
 use Rattle.call_fresh.proofs.Zeros.{fresh_laid}
 
 module _ (hub t w : Bytes) where
-  pub short-table : length t < table_size connection_count → made 1 t w ≡ make connection_count hub t w
+  pub short_table : length t < table_size connection_count → made 1 t w ≡ make connection_count hub t w
   unfolding make
-  short-table h = rw (lt-ltb (length t) (table_size connection_count) h)
+  short_table h = rw (lt-ltb (length t) (table_size connection_count) h)
 
-  pub short-workloads : table_size connection_count ≤ length t → length w < workloads_size → made 1 t w ≡ make connection_count hub t w
+  pub short_workloads : table_size connection_count ≤ length t → length w < workloads_size → made 1 t w ≡ make connection_count hub t w
   unfolding make
-  short-workloads g h = rw (le-ltb (length t) (table_size connection_count) g, lt-ltb (length w) workloads_size h)
+  short_workloads g h = rw (le-ltb (length t) (table_size connection_count) g, lt-ltb (length w) workloads_size h)
 
   module _ (b : Bool) (e : b ≡ is_hub_name hub) where
     pub no_name : table_size connection_count ≤ length t → workloads_size ≤ length w → not b ≡ true → made 1 t w ≡ make connection_count hub t w
@@ -35,10 +35,10 @@ module _ (hub t w : Bytes) where
       good = sym e ∙ not-false b n
 
       pub name_short : length hub ≤ hub_size
-      name_short = omega (arith, hub-most hub good)
+      name_short = omega (arith, hub_most_lem hub good)
 
-      pub made-fresh : (x y z : Bytes) → table_size connection_count ≤ length t → workloads_size ≤ length w
+      pub made_fresh : (x y z : Bytes) → table_size connection_count ≤ length t → workloads_size ≤ length w
           → x ≡ put 0 (zeros (table_size connection_count)) t → y ≡ put hub_at (fit hub_size hub) x → z ≡ put 0 (zeros workloads_size) w → made 0 y z ≡ make connection_count hub t w
       unfolding make zeros
-      made-fresh x y z g h ex ey ez =
+      made_fresh x y z g h ex ey ez =
           rw (le-ltb (length t) (table_size connection_count) g, le-ltb (length w) workloads_size h, good, ez, ey ∙ ap (put hub_at (fit hub_size hub)) ex ∙ fresh_laid connection_count hub t)

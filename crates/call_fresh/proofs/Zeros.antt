@@ -12,7 +12,7 @@ use Rattle.lists.specs.Lists.{fit}
 use Rattle.server.specs.Sizes.{function_count, job_count, name_size, unique_size, number_size, id_size, hub_size}
 use Rattle.server.specs.Table.{Table, closed, no_function, no_job, fresh}
 use Rattle.server.specs.Layout.{little, column, set_size, table_size, row_bytes, bytes_of, serials_at, names_at, hub_at}
-use Rattle.table_laws.proofs.Puts.{put-hub}
+use Rattle.table_laws.proofs.Puts.{put_hub}
 use Rattle.lists.proofs.Lists.{fit_none}
 use Rattle.table_texts.specs.Places.{zeros}
 
@@ -90,4 +90,4 @@ nameless_zeros n = empty_zeros n function_count job_count (names_at - serials_at
 pub fresh_laid : (n : ℕ) (hub b : Bytes) → put hub_at (fit hub_size hub) (put 0 (zeros (table_size n)) b) ≡ put 0 (bytes_of (fresh n hub)) b
 unfolding fresh
 fresh_laid n hub b =
-    ap (λ (s : Bytes). put hub_at (fit hub_size hub) (put 0 s b)) (sym (nameless_zeros n)) ∙ put-hub (fresh n []) (record { functions = refl; jobs = refl }) b hub
+    ap (λ (s : Bytes). put hub_at (fit hub_size hub) (put 0 s b)) (sym (nameless_zeros n)) ∙ put_hub (fresh n []) (record { functions = refl; jobs = refl }) b hub

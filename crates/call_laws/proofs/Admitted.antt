@@ -17,8 +17,8 @@ use Rattle.server.specs.Layout.{table_of}
 use Rattle.server.specs.Call.{server_in, too_short, is_sound, refused_by, performed, call, left}
 use Rattle.server.specs.Refusals.{is_told}
 use Rattle.server_laws.proofs.Outcome.{Stands}
-use Rattle.server_calls.proofs.Refusals.{Taken, taken, one-if}
-use Rattle.carry_event.proofs.Steps.{silent-laid}
+use Rattle.server_calls.proofs.Refusals.{Taken, taken, one_if}
+use Rattle.carry_event.proofs.Steps.{silent_laid}
 use Rattle.call_admit.specs.Admission.{state_refusal, admission}
 use Rattle.call_laws.proofs.Conclusion.{connections_long, refusal_performed}
 
@@ -37,24 +37,24 @@ pub data Asks : Bool → Event → ℕ → Type 0 where
   asks_packet : (c : ℕ) (b : Bytes) → Asks false (sends c b) c
 
 module _ (t : Table) (d : Decision) where
-  if-open : (inside is_open : Bool) → ¬ (cond (not inside) 2 (state_refusal is_open false) ≡ 0) → only_if_open inside is_open t d ≡ silence (cond (not inside) 2 (state_refusal is_open false)) t
+  if_open : (inside is_open : Bool) → ¬ (cond (not inside) 2 (state_refusal is_open false) ≡ 0) → only_if_open inside is_open t d ≡ silence (cond (not inside) 2 (state_refusal is_open false)) t
   unfolding state_refusal only_if_open
-  if-open false is_open z = refl
-  if-open true true z = absurd (z refl)
-  if-open true false z = refl
+  if_open false is_open z = refl
+  if_open true true z = absurd (z refl)
+  if_open true false z = refl
 
-  if-closed : (inside is_open : Bool) → ¬ (cond (not inside) 2 (state_refusal is_open true) ≡ 0) → only_if_closed inside is_open t d ≡ silence (cond (not inside) 2 (state_refusal is_open true)) t
+  if_closed : (inside is_open : Bool) → ¬ (cond (not inside) 2 (state_refusal is_open true) ≡ 0) → only_if_closed inside is_open t d ≡ silence (cond (not inside) 2 (state_refusal is_open true)) t
   unfolding state_refusal only_if_closed
-  if-closed false is_open z = refl
-  if-closed true true z = refl
-  if-closed true false z = absurd (z refl)
+  if_closed false is_open z = refl
+  if_closed true true z = refl
+  if_closed true false z = absurd (z refl)
 
 at_once : {way : Bool} {e : Event} {c : ℕ} → Asks way e c → (s : Server)
     → let n = cond (not (is_connection s.table c)) 2 (state_refusal (connection_at s.table c).opened way) in ¬ (n ≡ 0) → decided e s ≡ silence n s.table
 unfolding decided
-at_once (asks_open c) s z = if-closed s.table _ _ _ z
-at_once (asks_close c) s z = if-open s.table _ _ _ z
-at_once (asks_packet c b) s z = if-open s.table _ _ _ z
+at_once (asks_open c) s z = if_closed s.table _ _ _ z
+at_once (asks_close c) s z = if_open s.table _ _ _ z
+at_once (asks_packet c b) s z = if_open s.table _ _ _ z
 
 -- refusals 2 to 4 are not told
 state_silent : (is_open way inside : Bool) → is_told (cond (not inside) 2 (state_refusal is_open way)) ≡ false
@@ -90,26 +90,26 @@ module _ (opens : Bool) (c : ℕ) (t w o : Bytes) where
 
   -- ---- admitted
 
-  free-state : (s b : Bool) → state_refusal s b ≡ 0 → s ≡ not b
+  free_state : (s b : Bool) → state_refusal s b ≡ 0 → s ≡ not b
   unfolding state_refusal
-  free-state true true e = absurd (omega (arith, e))
-  free-state true false e = refl
-  free-state false true e = refl
-  free-state false false e = absurd (omega (arith, e))
+  free_state true true e = absurd (omega (arith, e))
+  free_state true false e = refl
+  free_state false true e = refl
+  free_state false false e = absurd (omega (arith, e))
 
-  inside-by : (b : Bool) → cond (not b) 2 (state_refusal is_open opens) ≡ 0 → (b ≡ true) × (is_open ≡ not opens)
-  inside-by true e = (refl, free-state is_open opens e)
-  inside-by false e = absurd (omega (arith, e))
+  inside_by : (b : Bool) → cond (not b) 2 (state_refusal is_open opens) ≡ 0 → (b ≡ true) × (is_open ≡ not opens)
+  inside_by true e = (refl, free_state is_open opens e)
+  inside_by false e = absurd (omega (arith, e))
 
-  admitted-by : (b : Bool) → too_short connection_count t w o || not (is_sound connection_count t) ≡ b → cond b 1 (cond (not (ltb c connection_count)) 2 (state_refusal is_open opens)) ≡ 0 → Admitted opens c t w o
-  admitted-by true h e = absurd (omega (arith, e))
-  admitted-by false h e =
-      let i = inside-by (ltb c connection_count) e in
+  admitted_by : (b : Bool) → too_short connection_count t w o || not (is_sound connection_count t) ≡ b → cond b 1 (cond (not (ltb c connection_count)) 2 (state_refusal is_open opens)) ≡ 0 → Admitted opens c t w o
+  admitted_by true h e = absurd (omega (arith, e))
+  admitted_by false h e =
+      let i = inside_by (ltb c connection_count) e in
       record { usable = h; bytes = taken connection_count t w o h; inside = ltb-true c connection_count i.0; state = i.1 }
 
-  pub is-admitted : (n : ℕ) → n ≡ admission opens c t w o → n ≡ 0 → Admitted opens c t w o
+  pub is_admitted : (n : ℕ) → n ≡ admission opens c t w o → n ≡ 0 → Admitted opens c t w o
   unfolding admission
-  is-admitted n e z = admitted-by (too_short connection_count t w o || not (is_sound connection_count t)) refl (sym e ∙ z)
+  is_admitted n e z = admitted_by (too_short connection_count t w o || not (is_sound connection_count t)) refl (sym e ∙ z)
 
   -- ---- refused
 
@@ -117,23 +117,23 @@ module _ (opens : Bool) (c : ℕ) (t w o : Bytes) where
     abbrev number : ℕ
     number = cond (not (ltb c connection_count)) 2 (state_refusal is_open opens)
 
-    decided-at-once : ¬ (number ≡ 0) → decided e (server_in connection_count t w) ≡ refuse c number (table_of connection_count t)
+    decided_at_once : ¬ (number ≡ 0) → decided e (server_in connection_count t w) ≡ refuse c number (table_of connection_count t)
     unfolding server_in
-    decided-at-once z =
+    decided_at_once z =
         let q : is_connection (table_of connection_count t) c ≡ ltb c connection_count = ap (ltb c) (connections_long t) in
         rw q at (at_once asks (server_in connection_count t w) (rw q z))
         ∙ silence_refuses c number (table_of connection_count t) (state_silent is_open opens (ltb c connection_count))
 
-    refused-by : (b : Bool) (n : ℕ) → too_short connection_count t w o || not (is_sound connection_count t) ≡ b → n ≡ cond b 1 number → ¬ (n ≡ 0) → left n 0 o t w ≡ call connection_count e t w o
+    refused_by_lem : (b : Bool) (n : ℕ) → too_short connection_count t w o || not (is_sound connection_count t) ≡ b → n ≡ cond b 1 number → ¬ (n ≡ 0) → left n 0 o t w ≡ call connection_count e t w o
     unfolding refused_by
-    refused-by true n h g z = ap (λ (m : ℕ). left m 0 o t w) g ∙ sym (one-if connection_count e t w o h)
-    refused-by false n h g z =
+    refused_by_lem true n h g z = ap (λ (m : ℕ). left m 0 o t w) g ∙ sym (one_if connection_count e t w o h)
+    refused_by_lem false n h g z =
         let y : ¬ (number ≡ 0) = λ q. z (g ∙ q) in
-        let l = silent-laid c number o (state_silent is_open opens (ltb c connection_count)) in
+        let l = silent_laid c number o (state_silent is_open opens (ltb c connection_count)) in
         (λ i. left (g i) (l.0 i) (l.1 i) t w)
-        ∙ refusal_performed e t w o (taken connection_count t w o h) c number y (decided-at-once y)
+        ∙ refusal_performed e t w o (taken connection_count t w o h) c number y (decided_at_once y)
         ∙ call_performed e t w o h
 
-    pub refused-call : (n : ℕ) → n ≡ admission opens c t w o → ¬ (n ≡ 0) → left n 0 o t w ≡ call connection_count e t w o
+    pub refused_call : (n : ℕ) → n ≡ admission opens c t w o → ¬ (n ≡ 0) → left n 0 o t w ≡ call connection_count e t w o
     unfolding admission
-    refused-call n g z = refused-by (too_short connection_count t w o || not (is_sound connection_count t)) n refl g z
+    refused_call n g z = refused_by_lem (too_short connection_count t w o || not (is_sound connection_count t)) n refl g z

@@ -24,9 +24,9 @@ use Rattle.server.specs.Server.{Server, render, rework, opaque_of, decided, next
 use Rattle.server.specs.Layout.{connection_in, table_of, bytes_of, is_image}
 use Rattle.server.specs.Call.{place_of, sent_bytes, server_in, is_sound, performed, left}
 use Rattle.server.specs.Refusals.{is_told, last_number}
-use Rattle.table_laws.proofs.Columns.{length-places}
+use Rattle.table_laws.proofs.Columns.{length_places}
 use Rattle.server_laws.proofs.Refusals.{refusal}
-use Rattle.server_calls.proofs.Refusals.{Taken, Refused, refused-by}
+use Rattle.server_calls.proofs.Refusals.{Taken, Refused, refused_by_lem}
 use Rattle.server_calls.proofs.EveryCall.{taken_running}
 use Rattle.server_calls.proofs.Output.{output_fits}
 use Rattle.plan.specs.declared.Plan.{Plan}
@@ -37,7 +37,7 @@ use Rattle.plan.specs.Parts.{changed, final_table, ordered}
 use Rattle.plan.specs.Steps.{stepped}
 use Rattle.plan_laws.proofs.Decides.{Words, Planned, declined, carries, carried}
 use Rattle.carry_packet.specs.Messages.{error_arguments, message}
-use Rattle.carry_packet.proofs.Rendered.{none-rendered, error-rendered}
+use Rattle.carry_packet.proofs.Rendered.{none_rendered, error_rendered}
 use Rattle.carry_workloads.specs.Reworked.{reworked_rows}
 use Rattle.carry_workloads.proofs.Rows.{rework_rows}
 use Rattle.carry_whole.specs.Fitting.{Fitting, Sized}
@@ -53,17 +53,17 @@ pub record Carried (w : Words) (c : ℕ) (t : Table) (p : Plan) (d : Decision) :
   pub settles : values_of (final_table (stepped p.step (values_of t)) (changed p.change w.first w.second w.third t)) ≡ settled_values (stepped p.step (values_of t))
 
 module _ (w : Words) (c : ℕ) (t : Table) where
-  pub number-most : {p : Plan} {d : Decision} → Planned w c t p d → p.number ≤ last_number
-  number-most (declined n l m) = m
-  number-most (carries v change order e) = zero-le
+  pub number_most : {p : Plan} {d : Decision} → Planned w c t p d → p.number ≤ last_number
+  number_most (declined n l m) = m
+  number_most (carries v change order e) = zero-le
 
-  when-done : {p : Plan} {d : Decision} → Planned w c t p d → p.number ≡ 0 → Carried w c t p d
-  when-done (declined n l m) z = absurd (omega arith)
-  when-done (carries v change order e) z = record { is = refl; settles = e }
+  when_done : {p : Plan} {d : Decision} → Planned w c t p d → p.number ≡ 0 → Carried w c t p d
+  when_done (declined n l m) z = absurd (omega arith)
+  when_done (carries v change order e) z = record { is = refl; settles = e }
 
-  when-refused : {p : Plan} {d : Decision} → Planned w c t p d → ¬ (p.number ≡ 0) → d ≡ refuse c p.number t
-  when-refused (declined n l m) z = refl
-  when-refused (carries v change order e) z = absurd (z refl)
+  when_refused : {p : Plan} {d : Decision} → Planned w c t p d → ¬ (p.number ≡ 0) → d ≡ refuse c p.number t
+  when_refused (declined n l m) z = refl
+  when_refused (carries v change order e) z = absurd (z refl)
 
 -- the packets of a refusal
 refusal_rendered : (e : Event) (s : Server) (c n : ℕ) → refusal_bytes c n ≡ sent_bytes (map (render e s) (cond (is_told n) (error c n ∷ []) []))
@@ -71,14 +71,14 @@ unfolding refusal_bytes
 refusal_rendered e s c n = go (is_told n)
   where
     go : (b : Bool) → cond b (message c 19 (join (error_arguments n))) [] ≡ sent_bytes (map (render e s) (cond b (error c n ∷ []) []))
-    go true = error-rendered e s c n
-    go false = sym (none-rendered e s)
+    go true = error_rendered e s c n
+    go false = sym (none_rendered e s)
 
 -- ---- on the lent bytes
 
 pub connections_long : (t : Bytes) → length (table_of connection_count t).connections ≡ connection_count
 unfolding table_of
-connections_long t = length-places (connection_in connection_count t) 0 connection_count
+connections_long t = length_places (connection_in connection_count t) 0 connection_count
 
 pub sound : {t w o : Bytes} → Taken connection_count t w o → is_sound connection_count t ≡ true
 unfolding is_sound
@@ -92,7 +92,7 @@ refusal_performed e t w o kept c n z d =
     let s : Server = server_in connection_count t w in
     let m : n ≡ (answer e s).number = sym (ap (λ (x : Decision). x.number) d) in
     let b : refusal_bytes c n ≡ sent_bytes (answer e s).sent = refusal_rendered e s c n ∙ ap (λ (x : Decision). sent_bytes (map (render e s) x.packets)) (sym d) in
-    let r : Refused e t w o (performed e s t w o) = refused-by connection_count e t w o kept (refusal e s (λ q. z (m ∙ q))) in
+    let r : Refused e t w o (performed e s t w o) = refused_by_lem connection_count e t w o kept (refusal e s (λ q. z (m ∙ q))) in
     λ i. record { number = m i; length' = length (b i); output = put 0 (b i) o; table = sym r.table i; workloads = sym r.workloads i }
 
 module _ (e : Event) (t w o : Bytes) (kept : Taken connection_count t w o) (plan : Plan) (c kind : ℕ) (p : Bytes) (ends : Ends) where
@@ -115,22 +115,22 @@ module _ (e : Event) (t w o : Bytes) (kept : Taken connection_count t w o) (plan
     pub hides : opaque_in p kind ends ≡ opaque_of e
 
   module _ (f : Follows) where
-    pub small-number : plan.number ≤ last_number
-    small-number = number-most words c (table_of connection_count t) f.plans
+    pub small_number : plan.number ≤ last_number
+    small_number = number_most words c (table_of connection_count t) f.plans
 
     -- ---- done
 
     module _ (z : plan.number ≡ 0) where
       done : Carried words c (table_of connection_count t) plan (decided e (server_in connection_count t w))
-      done = when-done words c (table_of connection_count t) f.plans z
+      done = when_done words c (table_of connection_count t) f.plans z
 
       number_is : 0 ≡ (answer e (server_in connection_count t w)).number
       unfolding answer server_in
       number_is = sym (ap (λ (d : Decision). d.number) done.is)
 
-      packets-are : packets_sent plan c kind p ends t w ≡ sent_bytes (answer e (server_in connection_count t w)).sent
+      packets_are : packets_sent plan c kind p ends t w ≡ sent_bytes (answer e (server_in connection_count t w)).sent
       unfolding answer_bytes answer server_in
-      packets-are =
+      packets_are =
           f.shows
           ∙ ap (λ (n : ℕ). sent_bytes (map (render e (server_in connection_count t w)) (ordered plan.order n c kind (argument_at p ends 0) (table_of connection_count t)
           ++ map noop (to_wake_in numbers'.able (dropped_rows numbers'.rows) numbers'.connections)))) (sym (connections_long t))
@@ -144,9 +144,9 @@ module _ (e : Event) (t w o : Bytes) (kept : Taken connection_count t w o) (plan
       unfolding values_of settled_values
       rows_are = sym (ap (λ (v : Values). v.rows) done.settles)
 
-      workloads-are : workloads_left plan c kind p ends t w ≡ (next e (server_in connection_count t w)).workloads
+      workloads_are : workloads_left plan c kind p ends t w ≡ (next e (server_in connection_count t w)).workloads
       unfolding next server_in
-      workloads-are =
+      workloads_are =
           ap (λ (rs : List JobRow). reworked_rows (rows_of (table_of connection_count t)) rs (opaque_in p kind ends) (map (place_of w) (numbers 0 job_count))) rows_are
           ∙ ap (λ (b : Bytes). reworked_rows (rows_of (table_of connection_count t)) (rows_of (table_left plan c kind p ends t w)) b (map (place_of w) (numbers 0 job_count))) f.hides
           ∙ sym (rework_rows (table_of connection_count t).jobs (table_left plan c kind p ends t w).jobs (opaque_of e) (map (place_of w) (numbers 0 job_count)))
@@ -161,38 +161,38 @@ module _ (e : Event) (t w o : Bytes) (kept : Taken connection_count t w o) (plan
             sized = sized;
             orderly = orderly;
             small = small;
-            room = omega (arith, ap length packets-are, output_fits connection_count (omega arith) e (server_in connection_count t w) (taken_running connection_count t w o kept), kept.long_output);
+            room = omega (arith, ap length packets_are, output_fits connection_count (omega arith) e (server_in connection_count t w) (taken_running connection_count t w o kept), kept.long_output);
           }
 
-      done-performed : left 0 (length (packets_sent plan c kind p ends t w)) (put 0 (packets_sent plan c kind p ends t w) o)
+      done_performed : left 0 (length (packets_sent plan c kind p ends t w)) (put 0 (packets_sent plan c kind p ends t w) o)
           (put 0 (bytes_of (table_left plan c kind p ends t w)) t) (put 0 (concat (workloads_left plan c kind p ends t w)) w)
           ≡ performed e (server_in connection_count t w) t w o
       unfolding performed
-      done-performed i =
+      done_performed i =
           record {
             number = number_is i;
-            length' = length (packets-are i);
-            output = put 0 (packets-are i) o;
+            length' = length (packets_are i);
+            output = put 0 (packets_are i) o;
             table = put 0 (bytes_of (table_is i)) t;
-            workloads = put 0 (concat (workloads-are i)) w;
+            workloads = put 0 (concat (workloads_are i)) w;
           }
 
     -- ---- refused
 
-    refused-performed : ¬ (plan.number ≡ 0)
+    refused_performed : ¬ (plan.number ≡ 0)
         → left plan.number (length (refusal_bytes c plan.number)) (put 0 (refusal_bytes c plan.number) o) t w ≡ performed e (server_in connection_count t w) t w o
-    refused-performed z = refusal_performed e t w o kept c plan.number z (when-refused words c (table_of connection_count t) f.plans z)
+    refused_performed z = refusal_performed e t w o kept c plan.number z (when_refused words c (table_of connection_count t) f.plans z)
 
     -- ---- either
 
-    pub concluded-performed : concluded plan c kind p ends t w o ≡ performed e (server_in connection_count t w) t w o
+    pub concluded_performed : concluded plan c kind p ends t w o ≡ performed e (server_in connection_count t w) t w o
     unfolding concluded
-    concluded-performed = go (eqb plan.number 0) refl
+    concluded_performed = go (eqb plan.number 0) refl
       where
         go : (b : Bool) → eqb plan.number 0 ≡ b
             → cond b (left 0 (length (packets_sent plan c kind p ends t w)) (put 0 (packets_sent plan c kind p ends t w) o)
             (put 0 (bytes_of (table_left plan c kind p ends t w)) t) (put 0 (concat (workloads_left plan c kind p ends t w)) w))
             (left plan.number (length (refusal_bytes c plan.number)) (put 0 (refusal_bytes c plan.number) o) t w)
             ≡ performed e (server_in connection_count t w) t w o
-        go true q = done-performed (eqb-true plan.number 0 q)
-        go false q = refused-performed (eqb-false plan.number 0 q)
+        go true q = done_performed (eqb-true plan.number 0 q)
+        go false q = refused_performed (eqb-false plan.number 0 q)

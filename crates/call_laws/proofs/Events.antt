@@ -17,8 +17,8 @@ use Rattle.packet.specs.Packet as P
 use Rattle.packet.specs.Opaque.{ends_opaque, masked, opaque, visible}
 use Rattle.packet.specs.Answers.{answer_of, argument_at, between}
 use Rattle.packet_laws.proofs.Answers.{read_answer}
-use Rattle.packet_laws.proofs.Packets.{Headed, header-good, read-got, requests_well}
-use Rattle.packet_laws.proofs.Blindness.{opaque-at, opaque-none, answer-masked}
+use Rattle.packet_laws.proofs.Packets.{Headed, header_good, read_got, requests_well}
+use Rattle.packet_laws.proofs.Blindness.{opaque_at, opaque_none, answer_masked}
 use Rattle.packet_laws.proofs.Places.{argument_read}
 use Rattle.packet_kinds.proofs.Shapes.{at_most_five}
 use Rattle.lists.proofs.Cases.{All, all_append}
@@ -30,7 +30,7 @@ use Rattle.server.specs.Layout.{table_of}
 use Rattle.server.specs.Call.{sent_bytes, server_in, call, left}
 use Rattle.server.specs.Refusals.{last_number}
 use Rattle.server_laws.proofs.Refusals.{bad_within_lem}
-use Rattle.server_laws.proofs.Outcome.{opening-decided, closing-decided, served-decided}
+use Rattle.server_laws.proofs.Outcome.{opening_decided, closing_decided, served_decided}
 use Rattle.plan.specs.declared.Plan.{Plan}
 use Rattle.plan.specs.declared.Values.{Values}
 use Rattle.plan.specs.Values.{values_of}
@@ -38,20 +38,20 @@ use Rattle.plan.specs.Settling.{dropped_rows}
 use Rattle.plan.specs.Steps.{stepped}
 use Rattle.plan.specs.Parts.{ordered}
 use Rattle.plan.specs.Plans.{plan_served, plan_opening, plan_closing}
-use Rattle.plan_laws.proofs.Decides.{Words, Planned, served-planned, opening-planned, closing-planned}
+use Rattle.plan_laws.proofs.Decides.{Words, Planned, served_planned, opening_planned, closing_planned}
 use Rattle.packet_laws.proofs.Blindness.{data_whole}
 use Rattle.carry_places.proofs.Laid.{Whole}
 use Rattle.carry_whole.specs.Fitting.{Fitting}
 use Rattle.carry_whole.proofs.Laid.{whole}
 use Rattle.carry_output.specs.Orderly.{Orderly}
 use Rattle.carry_output.specs.Ordered.{bytes_sent}
-use Rattle.carry_laws.proofs.Requests.{words_given, request-suits}
+use Rattle.carry_laws.proofs.Requests.{words_given, request_suits}
 use Rattle.carry_laws.proofs.Sizes.{sized}
-use Rattle.carry_laws.proofs.Places.{served-fitting, opening-fitting, closing-fitting}
-use Rattle.carry_laws.proofs.Orders.{served-orderly}
-use Rattle.plan_request.proofs.Asks.{asks, good-arguments}
+use Rattle.carry_laws.proofs.Places.{served_fitting, opening_fitting, closing_fitting}
+use Rattle.carry_laws.proofs.Orders.{served_orderly}
+use Rattle.plan_request.proofs.Asks.{asks, good_arguments}
 use Rattle.carry_event.specs.Concluded.{Ready, concluded, opaque_in, opaque_place, refusal_bytes}
-use Rattle.call_laws.proofs.Conclusion.{sound, Follows, small-number, ready, concluded-performed, refusal_performed}
+use Rattle.call_laws.proofs.Conclusion.{sound, Follows, small_number, ready, concluded_performed, refusal_performed}
 use Rattle.call_laws.proofs.Admitted.{Admitted, stands, call_performed}
 
 -- ---- the opaque argument of a request
@@ -65,22 +65,22 @@ module _ (p : Bytes) (ends : Ends) (kind : ℕ) (came : answer_of (read requests
   abbrev read_as : (as' : List Bytes) × (read requests p ≡ got kind as') × (ends ≡ ends_of 12 as')
   read_as = read_answer (read requests p) kind ends came
 
-  opaque-is : opaque_in p kind ends ≡ opaque requests p
+  opaque_is : opaque_in p kind ends ≡ opaque requests p
   unfolding opaque_in opaque_place
-  opaque-is = go (ends_opaque (rules_of (request_shape kind))) refl
+  opaque_is = go (ends_opaque (rules_of (request_shape kind))) refl
     where
       go : (b : Bool) → ends_opaque (rules_of (request_shape kind)) ≡ b → argument_at p ends (cond b (separators_of (request_shape kind)) 5) ≡ opaque requests p
       go true e =
           let l : separators_of (request_shape kind) < 5 = omega (arith, at_most_five (request_shape kind)) in
           ap (λ (x : Ends). argument_at p x (separators_of (request_shape kind))) read_as.2
           ∙ argument_read requests p kind read_as.0 read_as.1 (separators_of (request_shape kind)) l
-          ∙ opaque-at requests requests_well p kind read_as.0 read_as.1 e
-      go false e = beyond p ends ∙ sym (opaque-none requests requests_well p kind read_as.0 read_as.1 e)
+          ∙ opaque_at requests requests_well p kind read_as.0 read_as.1 e
+      go false e = beyond p ends ∙ sym (opaque_none requests requests_well p kind read_as.0 read_as.1 e)
 
-  opaque-small : length (opaque_in p kind ends) ≤ 1024
-  opaque-small =
-      let h : Headed requests.magic requests.most p = header-good _ _ p (read-got requests p kind read_as.0 read_as.1).headed in
-      rw opaque-is
+  opaque_small : length (opaque_in p kind ends) ≤ 1024
+  opaque_small =
+      let h : Headed requests.magic requests.most p = header_good _ _ p (read_got requests p kind read_as.0 read_as.1).headed in
+      rw opaque_is
       (omega (arith, ap length (data_whole requests p h.long), length-append (drop 12 (visible requests p)) (opaque requests p), length-drop 12 p, h.whole, h.limited))
 
 -- ---- a request
@@ -90,61 +90,61 @@ module _ (c : ℕ) (p : Bytes) (ends : Ends) (kind : ℕ) (t w o : Bytes) (h : A
   abbrev what : Request
   what = requested kind (argument_at p ends 0) (argument_at p ends 1) (argument_at p ends 2)
 
-  plan-is : plan ≡ plan_served c what (table_of connection_count t)
-  plan-is = is ∙ ap (λ (a : Request). plan_served c a (table_of connection_count t)) (asks p ends kind came)
+  plan_is : plan ≡ plan_served c what (table_of connection_count t)
+  plan_is = is ∙ ap (λ (a : Request). plan_served c a (table_of connection_count t)) (asks p ends kind came)
 
-  whole-table : Whole (table_of connection_count t)
-  whole-table = whole t (sound h.bytes)
+  whole_table : Whole (table_of connection_count t)
+  whole_table = whole t (sound h.bytes)
 
   follows : Follows (sends c p) t w o h.bytes plan c kind p ends
   unfolding bytes_sent opaque_of server_in
   follows =
       record {
-        plans = rw (served-decided (server_in connection_count t w) c p (stands h), plan-is, asks p ends kind came)
-            (served-planned _ c (table_of connection_count t) h.bytes.rules (request-suits kind _ _ _));
+        plans = rw (served_decided (server_in connection_count t w) c p (stands h), plan_is, asks p ends kind came)
+            (served_planned _ c (table_of connection_count t) h.bytes.rules (request_suits kind _ _ _));
         shows = refl;
-        hides = opaque-is p ends kind came;
+        hides = opaque_is p ends kind came;
       }
 
-  pub request-small : plan.number ≤ last_number
-  request-small = small-number _ t w o h.bytes plan c kind p ends follows
+  pub request_small : plan.number ≤ last_number
+  request_small = small_number _ t w o h.bytes plan c kind p ends follows
 
-  pub request-ready : plan.number ≡ 0 → Ready plan c kind p ends t w o
-  request-ready z =
+  pub request_ready : plan.number ≡ 0 → Ready plan c kind p ends t w o
+  request_ready z =
       ready _ t w o h.bytes plan c kind p ends follows z
-      (rw plan-is (served-fitting _ c (table_of connection_count t) whole-table h.inside (request-suits kind _ _ _) (good-arguments p ends kind came)))
-      (sized plan.step (table_of connection_count t) whole-table)
-      (rw plan-is (served-orderly c (table_of connection_count t) whole-table p ends kind came))
-      (opaque-small p ends kind came)
+      (rw plan_is (served_fitting _ c (table_of connection_count t) whole_table h.inside (request_suits kind _ _ _) (good_arguments p ends kind came)))
+      (sized plan.step (table_of connection_count t) whole_table)
+      (rw plan_is (served_orderly c (table_of connection_count t) whole_table p ends kind came))
+      (opaque_small p ends kind came)
 
-  pub request-call : concluded plan c kind p ends t w o ≡ call connection_count (sends c p) t w o
-  request-call = concluded-performed _ t w o h.bytes plan c kind p ends follows ∙ call_performed (sends c p) t w o h.usable
+  pub request_call : concluded plan c kind p ends t w o ≡ call connection_count (sends c p) t w o
+  request_call = concluded_performed _ t w o h.bytes plan c kind p ends follows ∙ call_performed (sends c p) t w o h.usable
 
 -- ---- a packet that is no request
 
 module _ (c n : ℕ) (p t w o : Bytes) (h : Admitted false c t w o) (came : answer_of (read requests p) ≡ RV.Refused n) where
-  bad-reading : (r : Reading) → answer_of r ≡ RV.Refused n → from_reading r ≡ bad n
+  bad_reading : (r : Reading) → answer_of r ≡ RV.Refused n → from_reading r ≡ bad n
   unfolding answer_of
-  bad-reading (P.refused m) e = ap bad (refused-same m n e)
+  bad_reading (P.refused m) e = ap bad (refused_same m n e)
     where
-      refused-same : (m k : ℕ) → RV.Refused m ≡ RV.Refused k → m ≡ k
-      refused-same m k q = cc
-  bad-reading (got kind as') e = let z : ◌≡◌ {A = ℕ} 0 1 = cc in absurd (omega arith)
+      refused_same : (m k : ℕ) → RV.Refused m ≡ RV.Refused k → m ≡ k
+      refused_same m k q = cc
+  bad_reading (got kind as') e = let z : ◌≡◌ {A = ℕ} 0 1 = cc in absurd (omega arith)
 
   asks_nothing : request_in p ≡ bad n
   unfolding request_in
-  asks_nothing = bad-reading (read requests (masked requests p)) (sym (answer-masked requests requests_well p) ∙ came)
+  asks_nothing = bad_reading (read requests (masked requests p)) (sym (answer_masked requests requests_well p) ∙ came)
 
-  pub unread-small : n ≤ last_number
-  unread-small = omega (arith, (bad_within_lem p n asks_nothing).1)
+  pub unread_small : n ≤ last_number
+  unread_small = omega (arith, (bad_within_lem p n asks_nothing).1)
 
-  unread-decided : decided (sends c p) (server_in connection_count t w) ≡ refuse c n (table_of connection_count t)
+  unread_decided : decided (sends c p) (server_in connection_count t w) ≡ refuse c n (table_of connection_count t)
   unfolding served server_in
-  unread-decided = served-decided (server_in connection_count t w) c p (stands h) ∙ ap (λ (a : Request). served c a (table_of connection_count t)) asks_nothing
+  unread_decided = served_decided (server_in connection_count t w) c p (stands h) ∙ ap (λ (a : Request). served c a (table_of connection_count t)) asks_nothing
 
-  pub unread-call : left n (length (refusal_bytes c n)) (put 0 (refusal_bytes c n) o) t w ≡ call connection_count (sends c p) t w o
-  unread-call =
-      refusal_performed (sends c p) t w o h.bytes c n (λ z. absurd (omega (arith, (bad_within_lem p n asks_nothing).0))) unread-decided
+  pub unread_call : left n (length (refusal_bytes c n)) (put 0 (refusal_bytes c n) o) t w ≡ call connection_count (sends c p) t w o
+  unread_call =
+      refusal_performed (sends c p) t w o h.bytes c n (λ z. absurd (omega (arith, (bad_within_lem p n asks_nothing).0))) unread_decided
       ∙ call_performed (sends c p) t w o h.usable
 
 -- ---- open and close
@@ -188,23 +188,23 @@ module _ (e : Event) (way : Bool) (c : ℕ) (t w o : Bytes) (h : Admitted way c 
   abbrev after : Values
   after = stepped plan.step (values_of (table_of connection_count t))
 
-  quiet-follows : Follows e t w o h.bytes plan c 0 [] no_ends
+  quiet_follows : Follows e t w o h.bytes plan c 0 [] no_ends
   unfolding bytes_sent
-  quiet-follows =
+  quiet_follows =
       record {
         plans = plans _;
         shows = ap sent_bytes (uncopied_same (sends c []) e (server_in connection_count t w) (all_append uncopied (noops_uncopied (to_wake_in after.able (dropped_rows after.rows) after.connections))));
         hides = sym (bare ∙ nothing_opaque);
       }
 
-  quiet-concludes : Concludes e plan c t w o no_ends
-  quiet-concludes =
+  quiet_concludes : Concludes e plan c t w o no_ends
+  quiet_concludes =
       record {
-        small = small-number e t w o h.bytes plan c 0 [] no_ends quiet-follows;
+        small = small_number e t w o h.bytes plan c 0 [] no_ends quiet_follows;
         carried = λ z.
-            ready e t w o h.bytes plan c 0 [] no_ends quiet-follows z fits (sized plan.step (table_of connection_count t) (whole t (sound h.bytes)))
+            ready e t w o h.bytes plan c 0 [] no_ends quiet_follows z fits (sized plan.step (table_of connection_count t) (whole t (sound h.bytes)))
             orderly (omega (arith, ap length nothing_opaque));
-        is = concluded-performed e t w o h.bytes plan c 0 [] no_ends quiet-follows ∙ call_performed e t w o h.usable;
+        is = concluded_performed e t w o h.bytes plan c 0 [] no_ends quiet_follows ∙ call_performed e t w o h.usable;
       }
 
 -- an open and a close order no packet
@@ -212,18 +212,18 @@ module _ (c : ℕ) (t w o : Bytes) (plan : Plan) (ends : Ends) (none : ends ≡ 
   abbrev no_words : Words
   no_words = words_given 0 (argument_at [] no_ends 0) (argument_at [] no_ends 1) (argument_at [] no_ends 2)
 
-  pub opening-concludes : Admitted true c t w o → plan ≡ plan_opening c → Concludes (opens c) plan c t w o ends
+  pub opening_concludes : Admitted true c t w o → plan ≡ plan_opening c → Concludes (opens c) plan c t w o ends
   unfolding opaque_of server_in ordered
-  opening-concludes h e =
+  opening_concludes h e =
       rw (none, e)
-      (quiet-concludes (opens c) true c t w o h (plan_opening c)
-      (λ v. rw (opening-decided (server_in connection_count t w) c (stands h)) (opening-planned v c (table_of connection_count t) h.bytes.rules)) refl All.none zero-le
-      (opening-fitting no_words c (table_of connection_count t) (whole t (sound h.bytes)) h.inside))
+      (quiet_concludes (opens c) true c t w o h (plan_opening c)
+      (λ v. rw (opening_decided (server_in connection_count t w) c (stands h)) (opening_planned v c (table_of connection_count t) h.bytes.rules)) refl All.none zero-le
+      (opening_fitting no_words c (table_of connection_count t) (whole t (sound h.bytes)) h.inside))
 
-  pub closing-concludes : Admitted false c t w o → plan ≡ plan_closing c → Concludes (closes c) plan c t w o ends
+  pub closing_concludes : Admitted false c t w o → plan ≡ plan_closing c → Concludes (closes c) plan c t w o ends
   unfolding opaque_of server_in ordered
-  closing-concludes h e =
+  closing_concludes h e =
       rw (none, e)
-      (quiet-concludes (closes c) false c t w o h (plan_closing c)
-      (λ v. rw (closing-decided (server_in connection_count t w) c (stands h)) (closing-planned v c (table_of connection_count t) h.bytes.rules)) refl All.none zero-le
-      (closing-fitting no_words c (table_of connection_count t) (whole t (sound h.bytes)) h.inside))
+      (quiet_concludes (closes c) false c t w o h (plan_closing c)
+      (λ v. rw (closing_decided (server_in connection_count t w) c (stands h)) (closing_planned v c (table_of connection_count t) h.bytes.rules)) refl All.none zero-le
+      (closing_fitting no_words c (table_of connection_count t) (whole t (sound h.bytes)) h.inside))

@@ -17,7 +17,7 @@ use Rattle.hexadecimal.specs.declared.Spelled as S
 use Rattle.hexadecimal.specs.declared.Spelled.TheVariants as SV
 use Rattle.hexadecimal.proofs.Writing.{hex_length}
 use Rattle.hexadecimal.proofs.RoundTrip.{hex_unhex}
-use Rattle.hexadecimal.proofs.Answers.{spelled-bytes, spelled-fits}
+use Rattle.hexadecimal.proofs.Answers.{spelled_bytes, spelled_fits}
 use Rattle.server.specs.Requests.{opens, closes, sends}
 use Rattle.server.specs.Replay.{framed, frame, longest_line}
 use Rattle.capture.specs.Frames.{frame_size}
@@ -48,13 +48,13 @@ long_kind k c [] e h = absurd (not-suc-le-zero h)
 long_kind k c (x ∷ r) e h = rw (ne_eqb k 3 e)
 
 module _ (b : Bytes) (n : ℕ) (h : 2 ≤ n) (l : n ≤ length b) where
-  pub packet-frame : get_or b 0 0 ≡ 3 → some (sends (get_or b 1 0) (take (n - 2) (drop 2 b))) ≡ framed (some (take n b))
-  packet-frame e = rw (two_first b n h l) (packet_kind (get_or b 0 0) (get_or b 1 0) (take (n - 2) (drop 2 b)) e)
+  pub packet_frame : get_or b 0 0 ≡ 3 → some (sends (get_or b 1 0) (take (n - 2) (drop 2 b))) ≡ framed (some (take n b))
+  packet_frame e = rw (two_first b n h l) (packet_kind (get_or b 0 0) (get_or b 1 0) (take (n - 2) (drop 2 b)) e)
 
   module _ (e : get_or b 0 0 ≡ 3 → ⊥) where
     -- "for 03 alone the packet's bytes"
-    pub long-frame : (n ≡ 2 → ⊥) → none ≡ framed (some (take n b))
-    long-frame q =
+    pub long_frame : (n ≡ 2 → ⊥) → none ≡ framed (some (take n b))
+    long_frame q =
         let m : length (take (n - 2) (drop 2 b)) ≡ n - 2 = length-take-le (n - 2) (drop 2 b) (omega (arith, length-drop 2 b)) in
         let p : 2 < n = by_cases n q h in
         rw (two_first b n h l) (long_kind (get_or b 0 0) (get_or b 1 0) (take (n - 2) (drop 2 b)) e (omega arith))
@@ -66,14 +66,14 @@ module _ (b : Bytes) (n : ℕ) (h : 2 ≤ n) (l : n ≤ length b) where
       bare : take n b ≡ get_or b 0 0 ∷ get_or b 1 0 ∷ []
       bare = two_first b n h l ∙ rw q
 
-      pub open-frame : get_or b 0 0 ≡ 1 → some (opens (get_or b 1 0)) ≡ framed (some (take n b))
-      open-frame k = rw (bare, k)
+      pub open_frame : get_or b 0 0 ≡ 1 → some (opens (get_or b 1 0)) ≡ framed (some (take n b))
+      open_frame k = rw (bare, k)
 
-      pub close-frame : get_or b 0 0 ≡ 2 → some (closes (get_or b 1 0)) ≡ framed (some (take n b))
-      close-frame k = rw (bare, k)
+      pub close_frame : get_or b 0 0 ≡ 2 → some (closes (get_or b 1 0)) ≡ framed (some (take n b))
+      close_frame k = rw (bare, k)
 
-      pub other-frame : (get_or b 0 0 ≡ 1 → ⊥) → (get_or b 0 0 ≡ 2 → ⊥) → none ≡ framed (some (take n b))
-      other-frame k m = rw (bare, ne_eqb (get_or b 0 0) 1 k, ne_eqb (get_or b 0 0) 2 m, ne_eqb (get_or b 0 0) 3 e)
+      pub other_frame : (get_or b 0 0 ≡ 1 → ⊥) → (get_or b 0 0 ≡ 2 → ⊥) → none ≡ framed (some (take n b))
+      other_frame k m = rw (bare, ne_eqb (get_or b 0 0) 1 k, ne_eqb (get_or b 0 0) 2 m, ne_eqb (get_or b 0 0) 3 e)
 
 -- ---- the digits of a line
 
@@ -95,32 +95,32 @@ cut_line n h line = go (leb (length line) n) refl
 module _ (line out o : Bytes) (r : S.Spelled) (e : record { answer = r; output = o } ≡ spelling line out) (h : length line ≤ longest_line) where
   module _ (q : r ≡ SV.Bad) (room : length out ≡ frame_size) where
     -- so few digits have room: reading them is bad only where they spell no bytes
-    unspelled-line : (u : Option Bytes) → unhex line ≡ u → unhex line ≡ none
+    unspelled_line : (u : Option Bytes) → unhex line ≡ u → unhex line ≡ none
     unfolding spelling
-    unspelled-line none p = p
-    unspelled-line (some b) p =
+    unspelled_line none p = p
+    unspelled_line (some b) p =
         let l : length b ≤ length out = omega (arith, ap length (hex_unhex line b p), hex_length b) in
         let a : r ≡ SV.Bytes (length b) = ap (λ (s : Spelling). s.answer) e ∙ rw (p, le-leb (length b) (length out) l) in
         let y : ◌≡◌ {A = ℕ} 0 1 = cc in
         absurd (omega arith)
 
-    pub bad-line : none ≡ frame line
+    pub bad_line : none ≡ frame line
     unfolding frame
-    bad-line = sym (rw (le-leb (length line) longest_line h, unspelled-line (unhex line) refl))
+    bad_line = sym (rw (le-leb (length line) longest_line h, unspelled_line (unhex line) refl))
 
   module _ (n : ℕ) (q : r ≡ SV.Bytes n) where
     known : record { answer = SV.Bytes n; output = o } ≡ spelling line out
     known = ap (λ (x : S.Spelled). record { answer = x; output = o }) (sym q) ∙ e
 
     pub line_fits : n ≤ length o
-    line_fits = spelled-fits line out o n known
+    line_fits = spelled_fits line out o n known
 
     -- two digits a byte
     pub line_short : n ≤ frame_size
     line_short =
         let l : length (take n o) ≡ n = length-take-le n o line_fits in
-        omega (arith, ap length (hex_unhex line (take n o) (spelled-bytes line out o n known)), hex_length (take n o))
+        omega (arith, ap length (hex_unhex line (take n o) (spelled_bytes line out o n known)), hex_length (take n o))
 
     pub line_frame : framed (some (take n o)) ≡ frame line
     unfolding frame
-    line_frame = sym (rw (le-leb (length line) longest_line h, spelled-bytes line out o n known))
+    line_frame = sym (rw (le-leb (length line) longest_line h, spelled_bytes line out o n known))

@@ -35,13 +35,13 @@ module _ (line : Bytes → Bytes) where
   lines_more p ps = refl
 
   -- lines that are at most k times their packets
-  pub lines-short : (k : ℕ) → ((p : Bytes) → 13 ≤ length p → length (line p) ≤ length p * k) → (ps : List Bytes) → Addressed ps → length (packet_lines line ps) ≤ length (concat ps) * k
+  pub lines_short : (k : ℕ) → ((p : Bytes) → 13 ≤ length p → length (line p) ≤ length p * k) → (ps : List Bytes) → Addressed ps → length (packet_lines line ps) ≤ length (concat ps) * k
   unfolding packet_lines
-  lines-short k h [] f = omega arith
-  lines-short k h (p ∷ ps) f =
+  lines_short k h [] f = omega arith
+  lines_short k h (p ∷ ps) f =
       let l : length (line p) ≤ length p * k = h p (omega (arith, f.0)) in
       let m : length (p ++ concat ps) * k ≡ length p * k + length (concat ps) * k = rw length-append (add-mul (length p) (length (concat ps)) k) in
-      omega (arith, length-append (line p) (packet_lines line ps), lines-short k h ps f.1, m)
+      omega (arith, length-append (line p) (packet_lines line ps), lines_short k h ps f.1, m)
 
   -- ---- the lines under way
 
@@ -63,24 +63,24 @@ module _ (line : Bytes → Bytes) where
       abbrev here : Bytes
       here = take (length b - i) (drop i b)
 
-      next-tail : drop i b ≡ next.packet ++ concat next.others
-      next-tail = u.tail ∙ ap concat next.is
+      next_tail : drop i b ≡ next.packet ++ concat next.others
+      next_tail = u.tail ∙ ap concat next.is
 
       next_here : here ≡ next.packet ++ concat next.others
-      next_here = rest_part b i ∙ next-tail
+      next_here = rest_part b i ∙ next_tail
 
-      next-length : packet_length here ≡ length next.packet
-      next-length = rw next_here (first_length next.packet (concat next.others) next.formed)
+      next_length : packet_length here ≡ length next.packet
+      next_length = rw next_here (first_length next.packet (concat next.others) next.formed)
 
-      tail-length : length here ≡ length next.packet + length (concat next.others)
-      tail-length = ap length next_here ∙ length-append next.packet (concat next.others)
+      tail_length : length here ≡ length next.packet + length (concat next.others)
+      tail_length = ap length next_here ∙ length-append next.packet (concat next.others)
 
-      whole-header : 13 ≤ length here
-      whole-header = omega (arith, tail-length, next.formed)
+      whole_header : 13 ≤ length here
+      whole_header = omega (arith, tail_length, next.formed)
 
       module _ (n : ℕ) (q : n ≡ packet_length here) where
         first_part : take n here ≡ next.packet
-        first_part = rw next_here (take_at next.packet (concat next.others) n (sym (q ∙ next-length)))
+        first_part = rw next_here (take_at next.packet (concat next.others) n (sym (q ∙ next_length)))
 
         under_more : (y : Bytes) (end : ℕ) → (end ≡ at + length (line (take n here))) × (y ≡ put at (line (take n here)) x) → Under start b x₀ y end (i + n)
         under_more y end e =
@@ -90,7 +90,7 @@ module _ (line : Bytes → Bytes) where
               rest = next.others;
               said = u.said ++ line next.packet;
               formed = next.addressed;
-              tail = sym (drop-drop n i b) ∙ ap (drop n) next-tail ∙ drop_at next.packet (concat next.others) n (sym (q ∙ next-length));
+              tail = sym (drop-drop n i b) ∙ ap (drop n) next_tail ∙ drop_at next.packet (concat next.others) n (sym (q ∙ next_length));
               laid = f ∙ put_put start u.said (line next.packet) x₀;
               place = omega (arith, e.0, ap length l, u.place, length-append u.said (line next.packet));
               lines = append_assoc u.said (line next.packet) (packet_lines line next.others) ∙ rw (← lines_more next.packet next.others, ← next.is) u.lines;
@@ -106,8 +106,8 @@ module _ (line : Bytes → Bytes) where
       unfolding packet_lines
       all_said = sym (append-nil u.said) ∙ rw (under_all u.rest u.formed u.tail) at u.lines
 
-      under-end : (at ≡ start + length (packet_lines line (packets_in b))) × (x ≡ put start (packet_lines line (packets_in b)) x₀)
-      under-end = (u.place ∙ ap (λ (s : Bytes). start + length s) all_said, u.laid ∙ ap (λ (s : Bytes). put start s x₀) all_said)
+      under_end : (at ≡ start + length (packet_lines line (packets_in b))) × (x ≡ put start (packet_lines line (packets_in b)) x₀)
+      under_end = (u.place ∙ ap (λ (s : Bytes). start + length s) all_said, u.laid ∙ ap (λ (s : Bytes). put start s x₀) all_said)
 
   -- ---- the loop
 
@@ -120,8 +120,8 @@ module _ (line : Bytes → Bytes) where
       pub same : length x ≡ length x₀
       under : Under start b x₀ x at i
 
-    pub turning-start : Packed b → start + length b * k ≤ length x₀ → Turning x₀ start 0
-    turning-start p h =
+    pub turning_start : Packed b → start + length b * k ≤ length x₀ → Turning x₀ start 0
+    turning_start p h =
         record {
           inside = omega arith;
           near = omega arith;
@@ -140,8 +140,8 @@ module _ (line : Bytes → Bytes) where
 
     module _ (x : Bytes) (at i : ℕ) (t : Turning x at i) where
       module _ (h : i < length b) where
-        pub header-whole : 13 ≤ length (take (length b - i) (drop i b))
-        header-whole = whole-header start b x₀ x at i t.under h
+        pub header_whole : 13 ≤ length (take (length b - i) (drop i b))
+        header_whole = whole_header start b x₀ x at i t.under h
 
         -- the next packet is the first n bytes of those from i on
         module _ (n : ℕ) (q : n ≡ packet_length (take (length b - i) (drop i b))) where
@@ -149,33 +149,33 @@ module _ (line : Bytes → Bytes) where
           packet = take n (take (length b - i) (drop i b))
 
           pub counted : n ≡ length packet
-          counted = q ∙ next-length start b x₀ x at i t.under h ∙ sym (ap length (first_part start b x₀ x at i t.under h n q))
+          counted = q ∙ next_length start b x₀ x at i t.under h ∙ sym (ap length (first_part start b x₀ x at i t.under h n q))
 
           pub reach : i + n ≤ length b
-          reach = omega (arith, tail-length start b x₀ x at i t.under h, next-length start b x₀ x at i t.under h, ap length (rest_part b i), length-drop i b)
+          reach = omega (arith, tail_length start b x₀ x at i t.under h, next_length start b x₀ x at i t.under h, ap length (rest_part b i), length-drop i b)
 
           pub positive : 13 ≤ n
-          positive = omega (arith, next-length start b x₀ x at i t.under h, (next start b x₀ x at i t.under h).formed)
+          positive = omega (arith, next_length start b x₀ x at i t.under h, (next start b x₀ x at i t.under h).formed)
 
-          near-more : at + length (line packet) ≤ start + (i + n) * k
-          near-more =
+          near_more : at + length (line packet) ≤ start + (i + n) * k
+          near_more =
               let l : length (line packet) ≤ n * k = rw (← counted) at (short packet (omega (arith, counted, positive))) in
               rw (add-mul i n k) (omega (arith, t.near))
 
-          pub turning-room : at + length (line packet) ≤ length x
-          turning-room =
+          pub turning_room : at + length (line packet) ≤ length x
+          turning_room =
               let m : (i + n) * k ≤ length b * k = mul-le-mul_right k reach in
-              omega (arith, near-more, m, t.room, t.same)
+              omega (arith, near_more, m, t.room, t.same)
 
-          pub turning-more : (y : Bytes) (end : ℕ) → (end ≡ at + length (line packet)) × (y ≡ put at (line packet) x) → Turning y end (i + n)
-          turning-more y end e =
+          pub turning_more : (y : Bytes) (end : ℕ) → (end ≡ at + length (line packet)) × (y ≡ put at (line packet) x) → Turning y end (i + n)
+          turning_more y end e =
               record {
                 inside = reach;
-                near = omega (arith, e.0, near-more);
+                near = omega (arith, e.0, near_more);
                 room = t.room;
                 same = ap length e.1 ∙ length_put at (line packet) x ∙ t.same;
                 under = under_more start b x₀ x at i t.under h n q y end e;
               }
 
-      pub turning-end : length b ≤ i → (at ≡ start + length (packet_lines line (packets_in b))) × (x ≡ put start (packet_lines line (packets_in b)) x₀)
-      turning-end h = under-end start b x₀ x at i t.under h
+      pub turning_end : length b ≤ i → (at ≡ start + length (packet_lines line (packets_in b))) × (x ≡ put start (packet_lines line (packets_in b)) x₀)
+      turning_end h = under_end start b x₀ x at i t.under h

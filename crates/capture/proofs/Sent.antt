@@ -47,13 +47,13 @@ record Answered (r : Result) (ps : List Bytes) : Type 0 where
   few : r.length' ≤ output_size connection_count
 
 module _ (t w o : Bytes) where
-  answered-refused : (n : ℕ) → Answered (refused_by n t w o) []
+  answered_refused : (n : ℕ) → Answered (refused_by n t w o) []
   unfolding refused_by
-  answered-refused n = record { formed = tt; whole = refl; inside = omega arith; few = omega arith }
+  answered_refused n = record { formed = tt; whole = refl; inside = omega arith; few = omega arith }
 
-  answered-performed : (e : Event) → too_short connection_count t w o || not (is_sound connection_count t) ≡ false → Answered (performed e (server_in connection_count t w) t w o) (map addressed (answer e (server_in connection_count t w)).sent)
+  answered_performed : (e : Event) → too_short connection_count t w o || not (is_sound connection_count t) ≡ false → Answered (performed e (server_in connection_count t w) t w o) (map addressed (answer e (server_in connection_count t w)).sent)
   unfolding performed sent_bytes
-  answered-performed e q =
+  answered_performed e q =
       let k = taken connection_count t w o q in
       let s = sent_bytes (answer e (server_in connection_count t w)).sent in
       let f : length s ≤ output_size connection_count = output_fits connection_count (omega arith) e (server_in connection_count t w) (taken_running connection_count t w o k) in
@@ -67,27 +67,27 @@ module _ (t w o : Bytes) where
 
   answered : (f : Option Event) → Answered (answered_to f t w o) (packets_to f t w o)
   unfolding answered_to packets_to call
-  answered none = answered-refused 16
+  answered none = answered_refused 16
   answered (some e) = go (too_short connection_count t w o || not (is_sound connection_count t)) refl
     where
       go : (b : Bool) → too_short connection_count t w o || not (is_sound connection_count t) ≡ b
           → Answered (cond b (refused_by 1 t w o) (performed e (server_in connection_count t w) t w o)) (cond b [] (map addressed (answer e (server_in connection_count t w)).sent))
-      go true q = answered-refused 1
-      go false q = answered-performed e q
+      go true q = answered_refused 1
+      go false q = answered_performed e q
 
   -- as a caller knows it: the length and the output that answering left
   module _ (f : Option Event) (r : Result) (q : r ≡ answered_to f t w o) where
     known : Answered r (packets_to f t w o)
     known = rw q (answered f)
 
-    pub output-inside : r.length' ≤ length r.output
-    output-inside = known.inside
+    pub output_inside : r.length' ≤ length r.output
+    output_inside = known.inside
 
-    pub output-few : r.length' ≤ output_size connection_count
-    output-few = known.few
+    pub output_few : r.length' ≤ output_size connection_count
+    output_few = known.few
 
-    pub output-packed : Packed (take r.length' r.output)
-    output-packed = record { packets = packets_to f t w o; formed = known.formed; whole = known.whole }
+    pub output_packed : Packed (take r.length' r.output)
+    output_packed = record { packets = packets_to f t w o; formed = known.formed; whole = known.whole }
 
-    pub output-packets : packets_in (take r.length' r.output) ≡ packets_to f t w o
-    output-packets = packets_in_lem _ (packets_to f t w o) known.formed known.whole
+    pub output_packets : packets_in (take r.length' r.output) ≡ packets_to f t w o
+    output_packets = packets_in_lem _ (packets_to f t w o) known.formed known.whole

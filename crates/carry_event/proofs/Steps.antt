@@ -55,36 +55,36 @@ module _ (c n : ℕ) where
   unfolding refusal_bytes
   silent h = rw h
 
-  pub silent-laid : (o : Bytes) → is_told n ≡ false → (0 ≡ length (refusal_bytes c n)) × (o ≡ put 0 (refusal_bytes c n) o)
-  silent-laid o h = rw (silent h) (refl, sym (put_none 0 o))
+  pub silent_laid : (o : Bytes) → is_told n ≡ false → (0 ≡ length (refusal_bytes c n)) × (o ≡ put 0 (refusal_bytes c n) o)
+  silent_laid o h = rw (silent h) (refl, sym (put_none 0 o))
 
   tells : is_told n ≡ true → message c 19 (join (error_arguments n)) ≡ refusal_bytes c n
   unfolding refusal_bytes
   tells h = rw h
 
-  pub error-laid : (o x : Bytes) (r : ℕ) → is_told n ≡ true → (r ≡ 0 + length (message c 19 (join (error_arguments n)))) × (x ≡ put 0 (message c 19 (join (error_arguments n))) o)
+  pub error_laid : (o x : Bytes) (r : ℕ) → is_told n ≡ true → (r ≡ 0 + length (message c 19 (join (error_arguments n)))) × (x ≡ put 0 (message c 19 (join (error_arguments n))) o)
       → (r ≡ length (refusal_bytes c n)) × (x ≡ put 0 (refusal_bytes c n) o)
-  error-laid o x r h l = (omega (arith, l.0, ap length (tells h)), l.1 ∙ ap (λ (s : Bytes). put 0 s o) (tells h))
+  error_laid o x r h l = (omega (arith, l.0, ap length (tells h)), l.1 ∙ ap (λ (s : Bytes). put 0 s o) (tells h))
 
   -- 25 bytes at the most
-  pub error-room : (k : ℕ) → output_size connection_count ≤ k → 0 + length (message c 19 (join (error_arguments n))) ≤ k
+  pub error_room : (k : ℕ) → output_size connection_count ≤ k → 0 + length (message c 19 (join (error_arguments n))) ≤ k
   unfolding message packet error_arguments join
-  error-room k h = simp length-append (omega (arith, short_at 9 refusal_texts n refl))
+  error_room k h = simp length-append (omega (arith, short_at 9 refusal_texts n refl))
 
 -- ---- the conclusion
 
 module _ (plan : Plan) (c kind : ℕ) (p : Bytes) (ends : Ends) (t w o : Bytes) where
-  pub refused-concluded : (r : ℕ) (x : Bytes) → ¬ (plan.number ≡ 0) → (r ≡ length (refusal_bytes c plan.number)) × (x ≡ put 0 (refusal_bytes c plan.number) o)
+  pub refused_concluded : (r : ℕ) (x : Bytes) → ¬ (plan.number ≡ 0) → (r ≡ length (refusal_bytes c plan.number)) × (x ≡ put 0 (refusal_bytes c plan.number) o)
       → left plan.number r x t w ≡ concluded plan c kind p ends t w o
   unfolding concluded
-  refused-concluded r x z l = rw (ne_eqb plan.number 0 z, l.0, l.1)
+  refused_concluded r x z l = rw (ne_eqb plan.number 0 z, l.0, l.1)
 
-  pub done-concluded : (r : ℕ) (x u v : Bytes) → plan.number ≡ 0
+  pub done_concluded : (r : ℕ) (x u v : Bytes) → plan.number ≡ 0
       → (r ≡ length (packets_sent plan c kind p ends t w)) × (x ≡ put 0 (packets_sent plan c kind p ends t w) o)
       × (u ≡ put 0 (bytes_of (table_left plan c kind p ends t w)) t) × (v ≡ put 0 (concat (workloads_left plan c kind p ends t w)) w)
       → left 0 r x u v ≡ concluded plan c kind p ends t w o
   unfolding concluded
-  done-concluded r x u v z l = rw (eq-eqb plan.number 0 z, l.0, l.1, l.2, l.3)
+  done_concluded r x u v z l = rw (eq-eqb plan.number 0 z, l.0, l.1, l.2, l.3)
 
 -- where nobody wakes no NOOP is laid
 pub none_woken : (at : ℕ) (o : Bytes) → (at ≡ at + length (messages (members connection_count 0) 6 [])) × (o ≡ put at (messages (members connection_count 0) 6 []) o)
@@ -108,14 +108,14 @@ module _ (plan : Plan) (t w p : Bytes) (c kind : ℕ) (ends : Ends) where
 
   module _ (lean : Lean plan.step before (changed plan.change (argument_at p ends 0) (argument_at p ends 1) (argument_at p ends 2) before)) where
     -- the connections that the ending wakes are those that the numbers wake
-    pub lean-wakes : (e : Ending) → e ≡ ending plan.step (values_of before) → members connection_count e.woken ≡ to_wake_in after.able (dropped_rows after.rows) after.connections
+    pub lean_wakes : (e : Ending) → e ≡ ending plan.step (values_of before) → members connection_count e.woken ≡ to_wake_in after.able (dropped_rows after.rows) after.connections
     unfolding table_of
-    lean-wakes e is = ap (λ (x : Ending). members connection_count x.woken) is ∙ sym lean.wakes
+    lean_wakes e is = ap (λ (x : Ending). members connection_count x.woken) is ∙ sym lean.wakes
 
     -- the rows after the step are those that are left
-    pub lean-workloads : (o : Bytes) → o ≡ opaque_in p kind ends
+    pub lean_workloads : (o : Bytes) → o ≡ opaque_in p kind ends
         → reworked_rows (values_of before).rows after.rows o (map (place_of w) (numbers 0 job_count)) ≡ workloads_left plan c kind p ends t w
     unfolding values_of
-    lean-workloads o f =
+    lean_workloads o f =
         ap (λ (l : List JobRow). reworked_rows (rows_of before) l o (map (place_of w) (numbers 0 job_count))) (sym lean.keeps)
         ∙ ap (λ (s : Bytes). reworked_rows (rows_of before) (dropped_rows after.rows) s (map (place_of w) (numbers 0 job_count))) f

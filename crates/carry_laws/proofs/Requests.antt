@@ -23,9 +23,9 @@ module _ (kind : ℕ) (x y z : Bytes) where
   unserved = for_bad 9 (omega arith) (omega arith)
 
   -- by the table of types
-  pub request-suits : Suits (words_given kind x y z) (requested kind x y z)
+  pub request_suits : Suits (words_given kind x y z) (requested kind x y z)
   unfolding requested
-  request-suits =
+  request_suits =
       each_at {P = Suits (words_given kind x y z)} (bad 9) unserved
       (All.more unserved (All.more for_can (All.more (for_cannot x) (All.more for_reset (All.more for_sleep  -- 0 to 4
       (All.more unserved (All.more unserved (All.more (for_submit _ _ _) (All.more unserved (All.more (for_grab _)  -- 5 to 9

@@ -19,11 +19,11 @@ use Rattle.carry_whole.specs.Fitting.{Sized}
 -- ---- numbers put anew
 
 module _ (v : Values) (s : Sized v) where
-  connection-sized : (c : ℕ) (x : Connection) → Sized (with_connection c x v)
-  connection-sized c x = record { connections = length-set v.connections c x ∙ s.connections; able = s.able; rows = s.rows }
+  connection_sized : (c : ℕ) (x : Connection) → Sized (with_connection c x v)
+  connection_sized c x = record { connections = length-set v.connections c x ∙ s.connections; able = s.able; rows = s.rows }
 
-  able-sized : (l : List ℕ) → length l ≡ length v.able → Sized (with_ables l v)
-  able-sized l e = record { connections = s.connections; able = e ∙ s.able; rows = s.rows }
+  able_sized : (l : List ℕ) → length l ≡ length v.able → Sized (with_ables l v)
+  able_sized l e = record { connections = s.connections; able = e ∙ s.able; rows = s.rows }
 
   row_sized : (p : ℕ) (r : JobRow) → Sized (put_row p r v)
   row_sized p r = record { connections = s.connections; able = s.able; rows = length-set v.rows p r ∙ s.rows }
@@ -35,11 +35,11 @@ unfolding stepped
 step_sized SV.Nothing v s = s
 step_sized (SV.Row p r) v s = row_sized v s p r
 step_sized (SV.End p) v s = row_sized v s p no_row
-step_sized (SV.Grab p r c x) v s = row_sized _ (connection-sized v s c x) p r
+step_sized (SV.Grab p r c x) v s = row_sized _ (connection_sized v s c x) p r
 step_sized (SV.New p r) v s = record { connections = s.connections; able = s.able; rows = length-set v.rows p r ∙ s.rows }
-step_sized (SV.Flags c x) v s = connection-sized v s c x
-step_sized (SV.Able q n) v s = able-sized v s _ (length-set v.able q n)
-step_sized (SV.Reset c) v s = able-sized v s _ (length-map v.able (λ (x : ℕ). remove x c))
+step_sized (SV.Flags c x) v s = connection_sized v s c x
+step_sized (SV.Able q n) v s = able_sized v s _ (length-set v.able q n)
+step_sized (SV.Reset c) v s = able_sized v s _ (length-map v.able (λ (x : ℕ). remove x c))
 step_sized (SV.Leave c) v s =
     record {
       connections = length-set v.connections c closed ∙ s.connections;

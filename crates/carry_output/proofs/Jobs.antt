@@ -21,11 +21,11 @@ use Rattle.server.specs.Table.{Function, Job, no_function, no_job, function_at, 
 use Rattle.server.specs.Rules.{text_within, stored_number, together, row_has_meaning, is_known}
 use Rattle.server.specs.Layout.{function_in, job_in, table_of, is_image}
 use Rattle.server.specs.Call.{is_sound, place_of, server_in}
-use Rattle.table_laws.proofs.Columns.{length-places, places-at}
+use Rattle.table_laws.proofs.Columns.{length_places, places_at}
 use Rattle.plan.specs.Values.{values_of}
 use Rattle.plan.specs.Parts as P
 use Rattle.lists.proofs.Rows.{clash, implies_use, all_at}
-use Rattle.server.proofs.Rows.{in-range}
+use Rattle.server.proofs.Rows.{in_range}
 use Rattle.server_laws.proofs.Sound.{Sound, job_named, row_means}
 use Rattle.server_laws.proofs.Obeyed.{obeyed}
 
@@ -69,76 +69,76 @@ module _ (b : Bytes) (sound : is_sound connection_count b ≡ true) (p : ℕ) (r
 
   thirty_two : length (table_of connection_count b).jobs ≡ 32
   unfolding table_of
-  thirty_two = length-places (job_in connection_count b) 0 32
+  thirty_two = length_places (job_in connection_count b) 0 32
 
   sixteen : length (table_of connection_count b).functions ≡ 16
   unfolding table_of
-  sixteen = length-places (function_in connection_count b) 0 16
+  sixteen = length_places (function_in connection_count b) 0 16
 
   there : p < length (table_of connection_count b).jobs
   there = rw thirty_two inside
 
-  pub row-there : row ≡ held.row
+  pub row_there : row ≡ held.row
   unfolding values_of
-  row-there = same_row ∙ get_or-map (λ (j : Job). j.row) (table_of connection_count b).jobs p no_job
+  row_there = same_row ∙ get_or-map (λ (j : Job). j.row) (table_of connection_count b).jobs p no_job
 
-  pub job-there : held ≡ job_in connection_count b p
+  pub job_there : held ≡ job_in connection_count b p
   unfolding table_of
-  job-there = places-at (job_in connection_count b) no_job 32 p inside
+  job_there = places_at (job_in connection_count b) no_job 32 p inside
 
   -- ---- its function
 
   means : row_has_meaning (table_of connection_count b) held ≡ true
   means = rw alive at (all_at (row_means (table_of connection_count b)) (table_of connection_count b).jobs p no_job kept.rows there)
 
-  pub function-inside : row.function < 16
-  function-inside =
-      rw row-there
+  pub function_inside : row.function < 16
+  function_inside =
+      rw row_there
       (subst (λ (n : ℕ). held.row.function < n) sixteen
-      (in-range (length (table_of connection_count b).functions) (length (table_of connection_count b).connections) held.row means).function)
+      (in_range (length (table_of connection_count b).functions) (length (table_of connection_count b).connections) held.row means).function)
 
-  abbrev its-function : Function
-  its-function = function_at (table_of connection_count b) held.row.function
+  abbrev its_function : Function
+  its_function = function_at (table_of connection_count b) held.row.function
 
-  pub function-there : function_at (table_of connection_count b) held.row.function ≡ function_in connection_count b row.function
+  pub function_there : function_at (table_of connection_count b) held.row.function ≡ function_in connection_count b row.function
   unfolding table_of
-  function-there = rw row-there (places-at (function_in connection_count b) no_function 16 held.row.function (rw row-there at function-inside))
+  function_there = rw row_there (places_at (function_in connection_count b) no_function 16 held.row.function (rw row_there at function_inside))
 
-  pub function-fits : fits L.function its-function.name ≡ true
-  function-fits =
-      let q : held.row.function < length (table_of connection_count b).functions = rw sixteen (rw row-there at function-inside) in
-      let w : text_within name_size its-function.name ≡ true = all_at (λ x. text_within name_size x.name) (table_of connection_count b).functions held.row.function no_function kept.names q in
-      let k : is_known its-function ≡ true = implies_use (live held.row) _ (all_at (job_named (table_of connection_count b)) (table_of connection_count b).jobs p no_job kept.jobs_known there) alive in
-      text_fits 1 32 its-function.name (some_name its-function.name k) w
+  pub function_fits : fits L.function its_function.name ≡ true
+  function_fits =
+      let q : held.row.function < length (table_of connection_count b).functions = rw sixteen (rw row_there at function_inside) in
+      let w : text_within name_size its_function.name ≡ true = all_at (λ x. text_within name_size x.name) (table_of connection_count b).functions held.row.function no_function kept.names q in
+      let k : is_known its_function ≡ true = implies_use (live held.row) _ (all_at (job_named (table_of connection_count b)) (table_of connection_count b).jobs p no_job kept.jobs_known there) alive in
+      text_fits 1 32 its_function.name (some_name its_function.name k) w
 
   -- ---- its texts
 
   texts : text_within unique_size held.unique && (stored_number held.numerator && stored_number held.denominator) ≡ true
   texts = implies_use (live held.row) _ (all_at _ (table_of connection_count b).jobs p no_job kept.texts there) alive
 
-  pub unique-fits : fits L.unique held.unique ≡ true
-  unique-fits = text_fits 0 64 held.unique (omega arith) (and_left (text_within unique_size held.unique) _ texts)
+  pub unique_fits : fits L.unique held.unique ≡ true
+  unique_fits = text_fits 0 64 held.unique (omega arith) (and_left (text_within unique_size held.unique) _ texts)
 
-  pub numerator-fits : fits L.number held.numerator ≡ true
+  pub numerator_fits : fits L.number held.numerator ≡ true
   unfolding fits
-  numerator-fits = and_left (stored_number held.numerator) _ (and_right (text_within unique_size held.unique) _ texts)
+  numerator_fits = and_left (stored_number held.numerator) _ (and_right (text_within unique_size held.unique) _ texts)
 
-  pub denominator-fits : fits L.number held.denominator ≡ true
+  pub denominator_fits : fits L.number held.denominator ≡ true
   unfolding fits
-  denominator-fits = and_right (stored_number held.numerator) _ (and_right (text_within unique_size held.unique) _ texts)
+  denominator_fits = and_right (stored_number held.numerator) _ (and_right (text_within unique_size held.unique) _ texts)
 
   -- ---- its workload
 
-  pub job-together : length its-function.name + length held.unique + held.row.size ≤ 1022
-  job-together = leb-true _ 1022 (all_at (λ j. leb (together (table_of connection_count b) j) 1022) (table_of connection_count b).jobs p no_job kept.sizes there)
+  pub job_together : length its_function.name + length held.unique + held.row.size ≤ 1022
+  job_together = leb-true _ 1022 (all_at (λ j. leb (together (table_of connection_count b) j) 1022) (table_of connection_count b).jobs p no_job kept.sizes there)
 
-  pub workload-inside : workload_size * p + row.size ≤ workloads_size
-  workload-inside = rw row-there (omega (arith, job-together, inside))
+  pub workload_inside : workload_size * p + row.size ≤ workloads_size
+  workload_inside = rw row_there (omega (arith, job_together, inside))
 
-  pub workload-there : (w : Bytes) → workloads_size ≤ length w → take row.size (drop (workload_size * p) w) ≡ fit held.row.size (get_or (server_in connection_count b w).workloads p [])
+  pub workload_there : (w : Bytes) → workloads_size ≤ length w → take row.size (drop (workload_size * p) w) ≡ fit held.row.size (get_or (server_in connection_count b w).workloads p [])
   unfolding server_in
-  workload-there w h =
+  workload_there w h =
       let s : ℕ = held.row.size in
-      let l : s ≤ 1024 = omega (arith, job-together) in
-      rw (row-there, places-at (place_of w) [] 32 p inside)
+      let l : s ≤ 1024 = omega (arith, job_together) in
+      rw (row_there, places_at (place_of w) [] 32 p inside)
       (sym (fit_front s (place_of w p) (rw length-take (omega (arith, length-drop (workload_size * p) w))) ∙ take_take s 1024 (drop (workload_size * p) w) l))

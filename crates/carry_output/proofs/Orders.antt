@@ -28,9 +28,9 @@ use Rattle.plan.specs.Parts.{ordered}
 use Rattle.plan.specs.Busy.{busy_set, to_wake_set}
 use Rattle.plan_settle.proofs.Sleepers.{to_wake_busy}
 use Rattle.carry_packet.specs.Messages.{message, handle_arguments, option_arguments, status_arguments}
-use Rattle.carry_packet.proofs.Rendered.{created-rendered, no-job-rendered, option-rendered, status-rendered, echo-rendered, none-rendered, appended-rendered}
+use Rattle.carry_packet.proofs.Rendered.{created_rendered, no_job_rendered, option_rendered, status_rendered, echo_rendered, none_rendered, appended_rendered}
 use Rattle.carry_several.specs.Several.{messages, told_messages}
-use Rattle.carry_several.proofs.Rendered.{noops-rendered, copies-rendered, all-told-rendered}
+use Rattle.carry_several.proofs.Rendered.{noops_rendered, copies_rendered, all_told_rendered}
 use Rattle.carry_output.specs.Ordered.{bytes_sent, order_bytes, answer_bytes}
 
 -- ---- what a function of `carry_packet` or `carry_several` lays, by another name
@@ -53,52 +53,52 @@ module _ (order : O'.Order) (c kind : ℕ) (h p t w : Bytes) where
   known : (x : O'.Order) → order ≡ x → order_bytes x c kind h p t w ≡ order_bytes order c kind h p t w
   known x e = ap (λ (o : O'.Order). order_bytes o c kind h p t w) (sym e)
 
-  nothing-order : order ≡ OV.Nothing → [] ≡ order_bytes order c kind h p t w
+  nothing_order : order ≡ OV.Nothing → [] ≡ order_bytes order c kind h p t w
   unfolding order_bytes bytes_sent ordered
-  nothing-order e = sym (none-rendered (sends c p) (server_in connection_count t w)) ∙ known OV.Nothing e
+  nothing_order e = sym (none_rendered (sends c p) (server_in connection_count t w)) ∙ known OV.Nothing e
 
   pub nothing_laid : order ≡ OV.Nothing → (o : Bytes) → (0 ≡ length (order_bytes order c kind h p t w)) × (o ≡ put 0 (order_bytes order c kind h p t w) o)
-  nothing_laid e o = (ap length (nothing-order e), sym (put_none 0 o) ∙ ap (λ (s : Bytes). put 0 s o) (nothing-order e))
+  nothing_laid e o = (ap length (nothing_order e), sym (put_none 0 o) ∙ ap (λ (s : Bytes). put 0 s o) (nothing_order e))
 
-  pub created-order : (hub : Bytes) → hub ≡ (table_of connection_count t).hub → (serial : ℕ) → order ≡ OV.Created serial → message c 8 (join (handle_arguments hub serial)) ≡ order_bytes order c kind h p t w
+  pub created_order : (hub : Bytes) → hub ≡ (table_of connection_count t).hub → (serial : ℕ) → order ≡ OV.Created serial → message c 8 (join (handle_arguments hub serial)) ≡ order_bytes order c kind h p t w
   unfolding order_bytes bytes_sent ordered
-  created-order hub is serial e = rw is (created-rendered (sends c p) (server_in connection_count t w) (table_of connection_count t).hub c serial ∙ known (OV.Created serial) e)
+  created_order hub is serial e = rw is (created_rendered (sends c p) (server_in connection_count t w) (table_of connection_count t).hub c serial ∙ known (OV.Created serial) e)
 
-  pub no-job-order : order ≡ OV.NoJob → message c 10 [] ≡ order_bytes order c kind h p t w
+  pub no_job_order : order ≡ OV.NoJob → message c 10 [] ≡ order_bytes order c kind h p t w
   unfolding order_bytes bytes_sent ordered
-  no-job-order e = no-job-rendered (sends c p) (server_in connection_count t w) c ∙ known OV.NoJob e
+  no_job_order e = no_job_rendered (sends c p) (server_in connection_count t w) c ∙ known OV.NoJob e
 
-  pub unknown-order : order ≡ OV.Unknown → message c 20 (join (status_arguments h false false (48 ∷ []) (48 ∷ []))) ≡ order_bytes order c kind h p t w
+  pub unknown_order : order ≡ OV.Unknown → message c 20 (join (status_arguments h false false (48 ∷ []) (48 ∷ []))) ≡ order_bytes order c kind h p t w
   unfolding order_bytes bytes_sent ordered
-  unknown-order e = status-rendered (sends c p) (server_in connection_count t w) c h (48 ∷ []) (48 ∷ []) false false ∙ known OV.Unknown e
+  unknown_order e = status_rendered (sends c p) (server_in connection_count t w) c h (48 ∷ []) (48 ∷ []) false false ∙ known OV.Unknown e
 
-  pub optioned-order : order ≡ OV.Optioned → message c 27 (join option_arguments) ≡ order_bytes order c kind h p t w
+  pub optioned_order : order ≡ OV.Optioned → message c 27 (join option_arguments) ≡ order_bytes order c kind h p t w
   unfolding order_bytes bytes_sent ordered same
-  optioned-order e = option-rendered (sends c p) (server_in connection_count t w) c exceptions_name refl ∙ known OV.Optioned e
+  optioned_order e = option_rendered (sends c p) (server_in connection_count t w) c exceptions_name refl ∙ known OV.Optioned e
 
   -- of a packet that has a header
-  pub copies-order : (to : ℕ) → 12 ≤ length p → order ≡ OV.Copies to → messages (members connection_count to) kind (drop 12 p) ≡ order_bytes order c kind h p t w
+  pub copies_order : (to : ℕ) → 12 ≤ length p → order ≡ OV.Copies to → messages (members connection_count to) kind (drop 12 p) ≡ order_bytes order c kind h p t w
   unfolding order_bytes bytes_sent ordered
-  copies-order to long e = copies-rendered c p (server_in connection_count t w) long kind (members connection_count to) ∙ known (OV.Copies to) e
+  copies_order to long e = copies_rendered c p (server_in connection_count t w) long kind (members connection_count to) ∙ known (OV.Copies to) e
 
-  pub told-order : (hub : Bytes) → hub ≡ (table_of connection_count t).hub → (to heard serial : ℕ) → 12 ≤ length p → order ≡ OV.Told to heard serial
+  pub told_order : (hub : Bytes) → hub ≡ (table_of connection_count t).hub → (to heard serial : ℕ) → 12 ≤ length p → order ≡ OV.Told to heard serial
       → told_messages (members connection_count to) heard kind (drop 12 p) (join (handle_arguments hub serial)) ≡ order_bytes order c kind h p t w
   unfolding order_bytes bytes_sent ordered
-  told-order hub is to heard serial long e =
-      rw is (all-told-rendered c p (server_in connection_count t w) long heard kind (table_of connection_count t).hub serial (members connection_count to) ∙ known (OV.Told to heard serial) e)
+  told_order hub is to heard serial long e =
+      rw is (all_told_rendered c p (server_in connection_count t w) long heard kind (table_of connection_count t).hub serial (members connection_count to) ∙ known (OV.Told to heard serial) e)
 
-  pub echo-order : 12 ≤ length p → order ≡ OV.Echo → message c 17 (drop 12 p) ≡ order_bytes order c kind h p t w
+  pub echo_order : 12 ≤ length p → order ≡ OV.Echo → message c 17 (drop 12 p) ≡ order_bytes order c kind h p t w
   unfolding order_bytes bytes_sent ordered
-  echo-order long e = echo-rendered c p (server_in connection_count t w) long ∙ known OV.Echo e
+  echo_order long e = echo_rendered c p (server_in connection_count t w) long ∙ known OV.Echo e
 
   -- an assignment and a status do not depend on the packet
-  pub assign-order : (uniq : Bool) (q : ℕ) → order ≡ OV.Assign uniq q → order_bytes (OV.Assign uniq q) c 0 [] [] t w ≡ order_bytes order c kind h p t w
+  pub assign_order : (uniq : Bool) (q : ℕ) → order ≡ OV.Assign uniq q → order_bytes (OV.Assign uniq q) c 0 [] [] t w ≡ order_bytes order c kind h p t w
   unfolding order_bytes bytes_sent ordered render
-  assign-order uniq q e = known (OV.Assign uniq q) e
+  assign_order uniq q e = known (OV.Assign uniq q) e
 
-  pub status-order : (q : ℕ) → order ≡ OV.Status q → order_bytes (OV.Status q) c 0 h [] t [] ≡ order_bytes order c kind h p t w
+  pub status_order : (q : ℕ) → order ≡ OV.Status q → order_bytes (OV.Status q) c 0 h [] t [] ≡ order_bytes order c kind h p t w
   unfolding order_bytes bytes_sent ordered render
-  status-order q e = known (OV.Status q) e
+  status_order q e = known (OV.Status q) e
 
   -- ---- the NOOPs after the order
 
@@ -108,27 +108,27 @@ module _ (order : O'.Order) (c kind : ℕ) (h p t w : Bytes) where
 
     parts : answer_bytes order v c kind h p t w ≡ order_bytes order c kind h p t w ++ noops
     unfolding order_bytes answer_bytes bytes_sent
-    parts = appended-rendered (sends c p) (server_in connection_count t w) (ordered order connection_count c kind h (table_of connection_count t)) _
+    parts = appended_rendered (sends c p) (server_in connection_count t w) (ordered order connection_count c kind h (table_of connection_count t)) _
 
-    pub order-room : (n : ℕ) → length (answer_bytes order v c kind h p t w) ≤ n → length (order_bytes order c kind h p t w) ≤ n
-    order-room n l = omega (arith, ap length parts, length-append (order_bytes order c kind h p t w) noops)
+    pub order_room : (n : ℕ) → length (answer_bytes order v c kind h p t w) ≤ n → length (order_bytes order c kind h p t w) ≤ n
+    order_room n l = omega (arith, ap length parts, length-append (order_bytes order c kind h p t w) noops)
 
     module _ (s : ℕ) (wakes : members connection_count s ≡ to_wake_in v.able (dropped_rows v.rows) v.connections) where
-      noops-are : messages (members connection_count s) 6 [] ≡ noops
+      noops_are : messages (members connection_count s) 6 [] ≡ noops
       unfolding bytes_sent
-      noops-are = noops-rendered (sends c p) (server_in connection_count t w) (members connection_count s) ∙ ap (λ (l : List ℕ). bytes_sent c p t w (map noop l)) wakes
+      noops_are = noops_rendered (sends c p) (server_in connection_count t w) (members connection_count s) ∙ ap (λ (l : List ℕ). bytes_sent c p t w (map noop l)) wakes
 
-      pub noop-room : (at : ℕ) (o m : Bytes) → at ≡ length (order_bytes order c kind h p t w) → m ≡ put 0 (order_bytes order c kind h p t w) o
+      pub noop_room : (at : ℕ) (o m : Bytes) → at ≡ length (order_bytes order c kind h p t w) → m ≡ put 0 (order_bytes order c kind h p t w) o
           → length (answer_bytes order v c kind h p t w) ≤ length o → at + length (messages (members connection_count s) 6 []) ≤ length m
-      noop-room at o m e laid l =
-          omega (arith, ap length parts, ap length noops-are, length-append (order_bytes order c kind h p t w) noops, ap length laid, length_put 0 (order_bytes order c kind h p t w) o)
+      noop_room at o m e laid l =
+          omega (arith, ap length parts, ap length noops_are, length-append (order_bytes order c kind h p t w) noops, ap length laid, length_put 0 (order_bytes order c kind h p t w) o)
 
       pub answered : (at r : ℕ) (o m x : Bytes) → at ≡ length (order_bytes order c kind h p t w) → m ≡ put 0 (order_bytes order c kind h p t w) o
           → (r ≡ at + length (messages (members connection_count s) 6 [])) × (x ≡ put at (messages (members connection_count s) 6 []) m)
           → (r ≡ length (answer_bytes order v c kind h p t w)) × (x ≡ put 0 (answer_bytes order v c kind h p t w) o)
       answered at r o m x e laid l = (
-        omega (arith, l.0, ap length parts, ap length noops-are, length-append (order_bytes order c kind h p t w) noops),
-        l.1 ∙ rw (← zero-add at, e, laid, noops-are, parts) (put_next 0 (order_bytes order c kind h p t w) noops o _ refl),
+        omega (arith, l.0, ap length parts, ap length noops_are, length-append (order_bytes order c kind h p t w) noops),
+        l.1 ∙ rw (← zero-add at, e, laid, noops_are, parts) (put_next 0 (order_bytes order c kind h p t w) noops o _ refl),
       )
 
 -- ---- who wakes

@@ -23,9 +23,9 @@ use Rattle.plan.specs.Values.{values_of}
 use Rattle.plan.specs.Parts as P
 use Rattle.plan.specs.Parts.{ordered}
 use Rattle.carry_packet.specs.Messages.{message, assign_arguments, status_arguments}
-use Rattle.carry_packet.proofs.Rendered.{assign-rendered, status-rendered}
+use Rattle.carry_packet.proofs.Rendered.{assign_rendered, status_rendered}
 use Rattle.carry_output.specs.Ordered.{bytes_sent, order_bytes}
-use Rattle.carry_output.proofs.Jobs.{hub_good, row-there, job-there, function-there, function-fits, unique-fits, numerator-fits, denominator-fits, job-together, workload-there}
+use Rattle.carry_output.proofs.Jobs.{hub_good, row_there, job_there, function_there, function_fits, unique_fits, numerator_fits, denominator_fits, job_together, workload_there}
 
 module _ (b : Bytes) (sound : is_sound connection_count b ≡ true) (p : ℕ) (row : JobRow) (same_row : row ≡ P.row_in (values_of (table_of connection_count b)) p)
     (inside : p < job_count) (alive : live (job_at (table_of connection_count b) p).row ≡ true) where
@@ -35,42 +35,42 @@ module _ (b : Bytes) (sound : is_sound connection_count b ≡ true) (p : ℕ) (r
   -- the texts and the workload as the code takes them from the bytes
   module _ (w hub f u x : Bytes) (lent : workloads_size ≤ length w) (eh : hub ≡ (table_of connection_count b).hub) (ef : f ≡ text_at name_size b (names_at + name_size * row.function)) (eu : u ≡ text_at unique_size b (uniques_at + unique_size * p))
       (ex : x ≡ take (workload_size * p + row.size - workload_size * p) (drop (workload_size * p) w)) where
-    its-name : f ≡ (function_at (table_of connection_count b) held.row.function).name
-    its-name = ef ∙ sym (ap (λ (y : Function). y.name) (function-there b sound p row same_row inside alive))
+    its_name : f ≡ (function_at (table_of connection_count b) held.row.function).name
+    its_name = ef ∙ sym (ap (λ (y : Function). y.name) (function_there b sound p row same_row inside alive))
 
-    its-unique : u ≡ held.unique
-    its-unique = eu ∙ sym (ap (λ (j : Job). j.unique) (job-there b sound p row same_row inside alive))
+    its_unique : u ≡ held.unique
+    its_unique = eu ∙ sym (ap (λ (j : Job). j.unique) (job_there b sound p row same_row inside alive))
 
-    its-workload : x ≡ fit held.row.size (get_or (server_in connection_count b w).workloads p [])
-    its-workload =
+    its_workload : x ≡ fit held.row.size (get_or (server_in connection_count b w).workloads p [])
+    its_workload =
         let e : workload_size * p + row.size - workload_size * p ≡ row.size = omega arith in
-        ex ∙ rw e (workload-there b sound p row same_row inside alive w lent)
+        ex ∙ rw e (workload_there b sound p row same_row inside alive w lent)
 
-    pub assign-fits : (is_hub_name hub ≡ true) × (fits L.function f ≡ true) × (fits L.unique u ≡ true) × (length f + length u + length x ≤ 1022)
-    assign-fits = (
+    pub assign_fits : (is_hub_name hub ≡ true) × (fits L.function f ≡ true) × (fits L.unique u ≡ true) × (length f + length u + length x ≤ 1022)
+    assign_fits = (
       rw eh (hub_good b sound),
-      rw its-name (function-fits b sound p row same_row inside alive),
-      rw its-unique (unique-fits b sound p row same_row inside alive),
-      rw (its-name, its-unique, its-workload, length_fit held.row.size (get_or (server_in connection_count b w).workloads p [])) (job-together b sound p row same_row inside alive),
+      rw its_name (function_fits b sound p row same_row inside alive),
+      rw its_unique (unique_fits b sound p row same_row inside alive),
+      rw (its_name, its_unique, its_workload, length_fit held.row.size (get_or (server_in connection_count b w).workloads p [])) (job_together b sound p row same_row inside alive),
     )
 
-    pub assign-is : (c : ℕ) (uniq : Bool) → message c (cond uniq 31 11) (join (assign_arguments hub uniq row.serial f u x)) ≡ order_bytes (OV.Assign uniq p) c 0 [] [] b w
+    pub assign_is : (c : ℕ) (uniq : Bool) → message c (cond uniq 31 11) (join (assign_arguments hub uniq row.serial f u x)) ≡ order_bytes (OV.Assign uniq p) c 0 [] [] b w
     unfolding order_bytes bytes_sent ordered server_in
-    assign-is c uniq =
-        assign-rendered (sends c []) (server_in connection_count b w) p row.serial hub f u x eh (ap (λ (r : JobRow). r.serial) (row-there b sound p row same_row inside alive)) its-name its-unique its-workload uniq c
+    assign_is c uniq =
+        assign_rendered (sends c []) (server_in connection_count b w) p row.serial hub f u x eh (ap (λ (r : JobRow). r.serial) (row_there b sound p row same_row inside alive)) its_name its_unique its_workload uniq c
 
   module _ (n d : Bytes) (en : n ≡ text_at number_size b (numerators_at + number_size * p)) (ed : d ≡ text_at number_size b (denominators_at + number_size * p)) where
-    its-numerator : n ≡ held.numerator
-    its-numerator = en ∙ sym (ap (λ (j : Job). j.numerator) (job-there b sound p row same_row inside alive))
+    its_numerator : n ≡ held.numerator
+    its_numerator = en ∙ sym (ap (λ (j : Job). j.numerator) (job_there b sound p row same_row inside alive))
 
-    its-denominator : d ≡ held.denominator
-    its-denominator = ed ∙ sym (ap (λ (j : Job). j.denominator) (job-there b sound p row same_row inside alive))
+    its_denominator : d ≡ held.denominator
+    its_denominator = ed ∙ sym (ap (λ (j : Job). j.denominator) (job_there b sound p row same_row inside alive))
 
     pub status_fits : (fits L.number n ≡ true) × (fits L.number d ≡ true)
-    status_fits = (rw its-numerator (numerator-fits b sound p row same_row inside alive), rw its-denominator (denominator-fits b sound p row same_row inside alive))
+    status_fits = (rw its_numerator (numerator_fits b sound p row same_row inside alive), rw its_denominator (denominator_fits b sound p row same_row inside alive))
 
     pub status_is : (c : ℕ) (h : Bytes) → message c 20 (join (status_arguments h true (not (eqb row.holder 0)) n d)) ≡ order_bytes (OV.Status p) c 0 h [] b []
     unfolding order_bytes bytes_sent ordered
     status_is c h =
-        rw (its-numerator, its-denominator, row-there b sound p row same_row inside alive)
-        (status-rendered (sends c []) (server_in connection_count b []) c h held.numerator held.denominator true (not (eqb held.row.holder 0)))
+        rw (its_numerator, its_denominator, row_there b sound p row same_row inside alive)
+        (status_rendered (sends c []) (server_in connection_count b []) c h held.numerator held.denominator true (not (eqb held.row.holder 0)))

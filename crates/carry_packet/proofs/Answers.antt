@@ -19,8 +19,8 @@ use Rattle.packet.specs.Layout.{response_shape, rules_of}
 use Rattle.packet.specs.Arguments.{digits, fits, fit_all, join}
 use Rattle.handle.specs.Handle.{handle, handle_most, is_hub_name, padded, printed}
 use Rattle.handle.specs.declared.Handle.{Handle}
-use Rattle.handle.proofs.Handles.{handle-bounded}
-use Rattle.handle.proofs.Printing.{printed-front}
+use Rattle.handle.proofs.Handles.{handle_bounded}
+use Rattle.handle.proofs.Printing.{printed_front}
 use Rattle.packet_kinds.proofs.Tests.{at_place}
 use Rattle.server.specs.Refusals.{refusal_texts, last_number, error_text, is_told}
 use Rattle.server.specs.Events.{flag}
@@ -76,41 +76,41 @@ told_at t n e = rw e (alike_same _ _ (passed _ (at_place shows refusal_texts [] 
 
 -- the digits and the text, as long as it says, are the refusal's
 module _ (to n : ℕ) (t : Bytes) (size : ℕ) (et : t ≡ padded 9 (error_text n)) (es : size ≡ first_zero t) where
-  pub error-message : message to 19 (join (((n / 10 + 48) ∷ (n % 10 + 48) ∷ []) ∷ take size t ∷ [])) ≡ message to 19 (join (error_arguments n))
+  pub error_message : message to 19 (join (((n / 10 + 48) ∷ (n % 10 + 48) ∷ []) ∷ take size t ∷ [])) ≡ message to 19 (join (error_arguments n))
   unfolding error_arguments readable
-  error-message =
+  error_message =
       let text = error_text n in
       let r : take (first_zero (padded 9 text)) (padded 9 text) ≡ text = same_is _ _ (texts_readable n) in
       rw (es, et, r)
 
-  pub error-room : (at m : ℕ) → size ≤ length t → at + length (message to 19 (join (error_arguments n))) ≤ m → at + 13 + (3 + size) ≤ m
-  error-room at m l h = message_room at to 19 _ (3 + size) m (two_long _ (take size t) ∙ rw (length-take-le size t l) (omega arith)) (room_as _ _ error-message at m h)
+  pub error_room : (at m : ℕ) → size ≤ length t → at + length (message to 19 (join (error_arguments n))) ≤ m → at + 13 + (3 + size) ≤ m
+  error_room at m l h = message_room at to 19 _ (3 + size) m (two_long _ (take size t) ∙ rw (length-take-le size t l) (omega arith)) (room_as _ _ error_message at m h)
 
 -- ---- handles: the front of the printed text, as long as it says
 
 pub handle_short : (hub : Bytes) → is_hub_name hub ≡ true → (n : ℕ) → length (join (handle_arguments hub n)) ≤ handle_most
 unfolding join handle_arguments
-handle_short hub good n = handle-bounded hub good n
+handle_short hub good n = handle_bounded hub good n
 
 module _ (hub : Bytes) (good : is_hub_name hub ≡ true) (w : Handle) (n : ℕ) (e : w ≡ printed (handle hub n)) where
-  pub printed-data : take w.length w.text ≡ join (handle_arguments hub n)
+  pub printed_data : take w.length w.text ≡ join (handle_arguments hub n)
   unfolding join handle_arguments
-  printed-data = printed-front hub good w n e
+  printed_data = printed_front hub good w n e
 
-  pub created-message : (to : ℕ) → message to 8 (take w.length w.text) ≡ message to 8 (join (handle_arguments hub n))
-  created-message to = ap (message to 8) printed-data
+  pub created_message : (to : ℕ) → message to 8 (take w.length w.text) ≡ message to 8 (join (handle_arguments hub n))
+  created_message to = ap (message to 8) printed_data
 
-  pub printed-short : length (take w.length w.text) ≤ handle_most
-  printed-short = rw (printed-front hub good w n e) (handle-bounded hub good n)
+  pub printed_short : length (take w.length w.text) ≤ handle_most
+  printed_short = rw (printed_front hub good w n e) (handle_bounded hub good n)
 
   module _ (to : ℕ) (uniq : Bool) (f u j : Bytes) where
-    pub assign-message : uniq ≡ false → message to 11 (join (take w.length w.text ∷ f ∷ j ∷ [])) ≡ message to (cond uniq 31 11) (join (assign_arguments hub uniq n f u j))
+    pub assign_message : uniq ≡ false → message to 11 (join (take w.length w.text ∷ f ∷ j ∷ [])) ≡ message to (cond uniq 31 11) (join (assign_arguments hub uniq n f u j))
     unfolding assign_arguments
-    assign-message z = rw (printed-front hub good w n e, z)
+    assign_message z = rw (printed_front hub good w n e, z)
 
-    pub uniq-message : uniq ≡ true → message to 31 (join (take w.length w.text ∷ f ∷ u ∷ j ∷ [])) ≡ message to (cond uniq 31 11) (join (assign_arguments hub uniq n f u j))
+    pub uniq_message : uniq ≡ true → message to 31 (join (take w.length w.text ∷ f ∷ u ∷ j ∷ [])) ≡ message to (cond uniq 31 11) (join (assign_arguments hub uniq n f u j))
     unfolding assign_arguments
-    uniq-message z = rw (printed-front hub good w n e, z)
+    uniq_message z = rw (printed_front hub good w n e, z)
 
 -- ---- 20 STATUS_RES
 

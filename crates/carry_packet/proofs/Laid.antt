@@ -49,10 +49,10 @@ module _ (a b : Bytes) (bs : List Bytes) where
   unfolding join
   join_first = append_assoc a (0 ∷ []) (join (b ∷ bs))
 
-  pub rest-laid : (p : ℕ) (o : Bytes) (q : ℕ) (u : Bytes) → (q ≡ p + length a + 1) × (u ≡ put p (ended a) o)
+  pub rest_laid : (p : ℕ) (o : Bytes) (q : ℕ) (u : Bytes) → (q ≡ p + length a + 1) × (u ≡ put p (ended a) o)
       → (r : ℕ) (v : Bytes) → (r ≡ q + length (join (b ∷ bs))) × (v ≡ put q (join (b ∷ bs)) u)
       → (r ≡ p + length (join (a ∷ b ∷ bs))) × (v ≡ put p (join (a ∷ b ∷ bs)) o)
-  rest-laid p o q u e r v f =
+  rest_laid p o q u e r v f =
       let l : q ≡ p + length (ended a) = omega (arith, length-append a (0 ∷ [])) in
       laid_as _ _ join_first p r v o (laid_then p (ended a) (join (b ∷ bs)) o q u (l, e.1) r v f)
 

@@ -31,55 +31,55 @@ module _ (e : Event) (s : Server) where
 
   -- ---- lists of packets
 
-  pub none-rendered : bytes_for [] ≡ []
+  pub none_rendered : bytes_for [] ≡ []
   unfolding sent_bytes
-  none-rendered = refl
+  none_rendered = refl
 
-  pub appended-rendered : (ss rs : List Send) → bytes_for (ss ++ rs) ≡ bytes_for ss ++ bytes_for rs
+  pub appended_rendered : (ss rs : List Send) → bytes_for (ss ++ rs) ≡ bytes_for ss ++ bytes_for rs
   unfolding sent_bytes
-  appended-rendered [] rs = refl
-  appended-rendered (x ∷ ss) rs = ap (λ (r : Bytes). addressed (render e s x) ++ r) (appended-rendered ss rs) ∙ sym (append_assoc (addressed (render e s x)) _ _)
+  appended_rendered [] rs = refl
+  appended_rendered (x ∷ ss) rs = ap (λ (r : Bytes). addressed (render e s x) ++ r) (appended_rendered ss rs) ∙ sym (append_assoc (addressed (render e s x)) _ _)
 
   -- ---- one packet
 
-  pub plain-rendered : (to kind : ℕ) (as' : List Bytes) → message to kind (join as') ≡ bytes_for (plain to kind as' ∷ [])
+  pub plain_rendered : (to kind : ℕ) (as' : List Bytes) → message to kind (join as') ≡ bytes_for (plain to kind as' ∷ [])
   unfolding sent_bytes render message
-  plain-rendered to kind as' = ap (message to kind) (sym (append-nil (join as'))) ∙ sym (append-nil _)
+  plain_rendered to kind as' = ap (message to kind) (sym (append-nil (join as'))) ∙ sym (append-nil _)
 
-  pub error-rendered : (c n : ℕ) → message c 19 (join (error_arguments n)) ≡ bytes_for (error c n ∷ [])
+  pub error_rendered : (c n : ℕ) → message c 19 (join (error_arguments n)) ≡ bytes_for (error c n ∷ [])
   unfolding error_arguments
-  error-rendered c n = plain-rendered c 19 _
+  error_rendered c n = plain_rendered c 19 _
 
-  pub created-rendered : (hub : Bytes) (c serial : ℕ) → message c 8 (join (handle_arguments hub serial)) ≡ bytes_for (created hub c serial ∷ [])
+  pub created_rendered : (hub : Bytes) (c serial : ℕ) → message c 8 (join (handle_arguments hub serial)) ≡ bytes_for (created hub c serial ∷ [])
   unfolding handle_arguments
-  created-rendered hub c serial = plain-rendered c 8 _
+  created_rendered hub c serial = plain_rendered c 8 _
 
-  pub no-job-rendered : (c : ℕ) → message c 10 [] ≡ bytes_for (plain c 10 [] ∷ [])
+  pub no_job_rendered : (c : ℕ) → message c 10 [] ≡ bytes_for (plain c 10 [] ∷ [])
   unfolding join
-  no-job-rendered c = plain-rendered c 10 []
+  no_job_rendered c = plain_rendered c 10 []
 
-  pub option-rendered : (c : ℕ) (name : Bytes) → same name exceptions_name ≡ true → message c 27 (join option_arguments) ≡ bytes_for (plain c 27 (name ∷ []) ∷ [])
+  pub option_rendered : (c : ℕ) (name : Bytes) → same name exceptions_name ≡ true → message c 27 (join option_arguments) ≡ bytes_for (plain c 27 (name ∷ []) ∷ [])
   unfolding option_arguments
-  option-rendered c name h = rw (same_is name exceptions_name h) (plain-rendered c 27 _)
+  option_rendered c name h = rw (same_is name exceptions_name h) (plain_rendered c 27 _)
 
-  pub status-rendered : (c : ℕ) (h n d : Bytes) (known running : Bool)
+  pub status_rendered : (c : ℕ) (h n d : Bytes) (known running : Bool)
       → message c 20 (join (status_arguments h known running n d)) ≡ bytes_for (plain c 20 (h ∷ flag known ∷ flag running ∷ n ∷ d ∷ []) ∷ [])
   unfolding status_arguments
-  status-rendered c h n d known running = plain-rendered c 20 _
+  status_rendered c h n d known running = plain_rendered c 20 _
 
   -- the job at place p as the table and the workloads before the event have it
   module _ (p serial : ℕ) (hub f u w : Bytes) (eh : hub ≡ s.table.hub) (es : serial ≡ (job_at s.table p).row.serial) (ef : f ≡ (function_at s.table (job_at s.table p).row.function).name)
       (eu : u ≡ (job_at s.table p).unique) (ew : w ≡ fit (job_at s.table p).row.size (get_or s.workloads p [])) where
-    pub assign-rendered : (uniq : Bool) (to : ℕ) → message to (cond uniq 31 11) (join (assign_arguments hub uniq serial f u w)) ≡ bytes_for (assign uniq to p ∷ [])
+    pub assign_rendered : (uniq : Bool) (to : ℕ) → message to (cond uniq 31 11) (join (assign_arguments hub uniq serial f u w)) ≡ bytes_for (assign uniq to p ∷ [])
     unfolding sent_bytes render assign_arguments message
-    assign-rendered uniq to = rw (eh, es, ef, eu, ew) (ap (message to (cond uniq 31 11)) (assign_data uniq _ _ _ _) ∙ sym (append-nil _))
+    assign_rendered uniq to = rw (eh, es, ef, eu, ew) (ap (message to (cond uniq 31 11)) (assign_data uniq _ _ _ _) ∙ sym (append-nil _))
 
 module _ (c : ℕ) (p : Bytes) (s : Server) (long : 12 ≤ length p) where
-  pub copy-rendered : (to kind : ℕ) → message to kind (drop 12 p) ≡ addressed (render (sends c p) s (copy to kind))
+  pub copy_rendered : (to kind : ℕ) → message to kind (drop 12 p) ≡ addressed (render (sends c p) s (copy to kind))
   unfolding render shown_by opaque_of message
-  copy-rendered to kind = ap (message to kind) (sym (data_whole requests p long))
+  copy_rendered to kind = ap (message to kind) (sym (data_whole requests p long))
 
   -- 01: an echo goes back to its sender
-  pub echo-rendered : message c 17 (drop 12 p) ≡ bytes_for (sends c p) s (copy c 17 ∷ [])
+  pub echo_rendered : message c 17 (drop 12 p) ≡ bytes_for (sends c p) s (copy c 17 ∷ [])
   unfolding sent_bytes
-  echo-rendered = copy-rendered c 17 ∙ sym (append-nil _)
+  echo_rendered = copy_rendered c 17 ∙ sym (append-nil _)

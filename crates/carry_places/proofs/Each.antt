@@ -13,7 +13,7 @@ use Rattle.lists.specs.Lists.{map_from}
 use Rattle.server.specs.Table.{Function, Job, Table, closed, no_function, no_job, connection_at, function_at, job_at, with_connections, with_functions, with_jobs, set_connection, set_function, set_job}
 use Rattle.server.specs.Layout.{bytes_of}
 use Rattle.carry_places.specs.Laying.{laid_each}
-use Rattle.carry_places.proofs.Laid.{Whole, whole-connections, whole-functions, whole-jobs}
+use Rattle.carry_places.proofs.Laid.{Whole, whole_connections, whole_functions, whole_jobs}
 
 -- ---- a loop
 
@@ -25,9 +25,9 @@ module _ (lay : ℕ → Bytes → Bytes) (n : ℕ) where
       let m : n - k ≡ suc (n - (k + 1)) = omega arith in
       e ∙ rw (m, q, add-one)
 
-  pub each-end : (k : ℕ) (x b : Bytes) → n ≤ k → x ≡ laid_each lay k (n - k) b → b ≡ x
+  pub each_end : (k : ℕ) (x b : Bytes) → n ≤ k → x ≡ laid_each lay k (n - k) b → b ≡ x
   unfolding laid_each
-  each-end k x b h e = let m : n - k ≡ 0 = omega arith in sym (e ∙ rw m)
+  each_end k x b h e = let m : n - k ≡ 0 = omega arith in sym (e ∙ rw m)
 
 -- where no place changes anything
 pub each_none : (lay : ℕ → Bytes → Bytes) → ((k : ℕ) (b : Bytes) → lay k b ≡ b) → (k n : ℕ) (b : Bytes) → laid_each lay k n b ≡ b
@@ -102,10 +102,10 @@ all_connections g n t e = connections_each g 0 n t ∙ ap (λ (cs : List Connect
 -- ---- they keep the table's size
 
 pub job_whole : (g : ℕ → Job → Job) (k : ℕ) (t : Table) → Whole t → Whole (each_job g k t)
-job_whole g k t w = whole-jobs t w _ (length-set t.jobs k _)
+job_whole g k t w = whole_jobs t w _ (length-set t.jobs k _)
 
 pub function_whole : (g : ℕ → Function → Function) (k : ℕ) (t : Table) → Whole t → Whole (each_function g k t)
-function_whole g k t w = whole-functions t w _ (length-set t.functions k _)
+function_whole g k t w = whole_functions t w _ (length-set t.functions k _)
 
 pub connection_whole : (g : ℕ → Connection → Connection) (k : ℕ) (t : Table) → Whole t → Whole (each_connection g k t)
-connection_whole g k t w = whole-connections t w _ (length-set t.connections k _)
+connection_whole g k t w = whole_connections t w _ (length-set t.connections k _)

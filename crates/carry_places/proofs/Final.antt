@@ -14,7 +14,7 @@ use Rattle.lists.specs.Lists.{map_from}
 use Rattle.server.specs.Sizes.{connection_count, function_count, job_count}
 use Rattle.server.specs.Table.{Function, Job, Table, closed, no_row, no_function, with_last_serial, with_connections, with_functions, with_jobs, with_able}
 use Rattle.server.specs.Layout.{little, bytes_of}
-use Rattle.lists.proofs.Rows.{length-mapFrom}
+use Rattle.lists.proofs.Rows.{length_map_from}
 use Rattle.table_laws.proofs.Puts.{put_last}
 use Rattle.plan.specs.declared.Values.{Values}
 use Rattle.plan.specs.Settling.{wanted_in, wanted_marks, settled_values}
@@ -22,7 +22,7 @@ use Rattle.plan.specs.Parts.{rowed, rowed_all, able_all, final_table}
 use Rattle.lists.proofs.Lists.{number_made}
 use Rattle.carry_places.specs.Laying.{laid_job, laid_function, laid_flags}
 use Rattle.carry_places.specs.Written.{laid_jobs, laid_functions, laid_connections, written}
-use Rattle.carry_places.proofs.Laid.{Whole, whole-last, whole-functions, whole-jobs, job-laid, function-laid, flags-laid}
+use Rattle.carry_places.proofs.Laid.{Whole, whole_last, whole_functions, whole_jobs, job_laid, function_laid, flags_laid}
 use Rattle.carry_places.proofs.Each.{each_job, each_function, each_connection, each_laid, all_jobs, all_functions, all_connections, job_whole, function_whole, connection_whole}
 
 -- ---- a list given place by place
@@ -97,40 +97,40 @@ module _ (v : Values) (s : Table) (w : Whole s) (b : Bytes) (u : Values) (eu : u
 
   w₀ : Whole t₀
   unfolding t₀
-  w₀ = whole-last s w u.last
+  w₀ = whole_last s w u.last
 
   w₁ : Whole t₁
   unfolding t₀ t₁
-  w₁ = whole-jobs t₀ w₀ _ (length-mapFrom (new_job u.rows) 0 s.jobs)
+  w₁ = whole_jobs t₀ w₀ _ (length_map_from (new_job u.rows) 0 s.jobs)
 
   w₂ : Whole t₂
   unfolding t₀ t₁ t₂
-  w₂ = whole-functions t₁ w₁ _ (length-mapFrom (new_function marks u.able) 0 s.functions)
+  w₂ = whole_functions t₁ w₁ _ (length_map_from (new_function marks u.able) 0 s.functions)
 
-  jobs-laid : laid_jobs u.rows (put 0 (bytes_of t₀) b) ≡ put 0 (bytes_of t₁) b
+  jobs_laid : laid_jobs u.rows (put 0 (bytes_of t₀) b) ≡ put 0 (bytes_of t₁) b
   unfolding new_job t₀ t₁
-  jobs-laid =
+  jobs_laid =
       each_laid (λ p. laid_job (get_or u.rows p no_row) p) (each_job (new_job u.rows)) job_count b
-      (λ p x y h. job-laid x y b (get_or u.rows p no_row) p h) (job_whole (new_job u.rows)) 0 job_count t₀ w₀ (omega arith)
+      (λ p x y h. job_laid x y b (get_or u.rows p no_row) p h) (job_whole (new_job u.rows)) 0 job_count t₀ w₀ (omega arith)
       ∙ ap (λ (x : Table). put 0 (bytes_of x) b) (all_jobs (new_job u.rows) job_count t₀ w.jobs)
 
-  functions-laid : laid_functions marks u.able (put 0 (bytes_of t₁) b) ≡ put 0 (bytes_of t₂) b
+  functions_laid : laid_functions marks u.able (put 0 (bytes_of t₁) b) ≡ put 0 (bytes_of t₂) b
   unfolding new_function t₀ t₁ t₂
-  functions-laid =
+  functions_laid =
       each_laid (λ q. laid_function (get_or marks q false) (get_or u.able q 0) q) (each_function (new_function marks u.able)) function_count b
-      (λ q x y h. function-laid x y b (get_or marks q false) (get_or u.able q 0) q h) (function_whole (new_function marks u.able)) 0 function_count t₁ w₁ (omega arith)
+      (λ q x y h. function_laid x y b (get_or marks q false) (get_or u.able q 0) q h) (function_whole (new_function marks u.able)) 0 function_count t₁ w₁ (omega arith)
       ∙ ap (λ (x : Table). put 0 (bytes_of x) b) (all_functions (new_function marks u.able) function_count t₁ w.functions)
 
-  connections-laid : laid_connections u.connections (put 0 (bytes_of t₂) b) ≡ put 0 (bytes_of t₃) b
+  connections_laid : laid_connections u.connections (put 0 (bytes_of t₂) b) ≡ put 0 (bytes_of t₃) b
   unfolding new_connection t₀ t₁ t₂ t₃
-  connections-laid =
+  connections_laid =
       each_laid (λ c. laid_flags c (get_or u.connections c closed)) (each_connection (new_connection u.connections)) connection_count b
-      (λ c x y h. flags-laid x y b c (get_or u.connections c closed) h) (connection_whole (new_connection u.connections)) 0 connection_count t₂ w₂ (omega arith)
+      (λ c x y h. flags_laid x y b c (get_or u.connections c closed) h) (connection_whole (new_connection u.connections)) 0 connection_count t₂ w₂ (omega arith)
       ∙ ap (λ (x : Table). put 0 (bytes_of x) b) (all_connections (new_connection u.connections) connection_count t₂ w.connections)
 
-  final-is : t₃ ≡ final_table v s
+  final_is : t₃ ≡ final_table v s
   unfolding final_table marks t₀ t₁ t₂ t₃
-  final-is =
+  final_is =
       ap (λ (js : List Job). with_connections (map_from (new_connection u.connections) 0 s.connections) (with_functions (map_from (new_function (wanted_marks u.able u.rows) u.able) 0 s.functions) (with_jobs js (with_last_serial u.last s))))
       (jobs_rowed u.rows u.rows 0 s.jobs (lr ∙ sym w.jobs) (rest_all no_row u.rows))
       ∙ ap₂ (λ (fs : List Function) (cs : List Connection). with_connections cs (with_functions fs (with_jobs (rowed_all u.rows s.jobs) (with_last_serial u.last s))))
@@ -138,11 +138,11 @@ module _ (v : Values) (s : Table) (w : Whole s) (b : Bytes) (u : Values) (eu : u
       (connections_given u.connections u.connections 0 s.connections (lc ∙ sym w.connections) (rest_all closed u.connections))
       ∙ ap (λ (x : Values). with_last_serial x.last (with_connections x.connections (with_functions (able_all x.able x.rows 0 x.able s.functions) (with_jobs (rowed_all x.rows s.jobs) s)))) eu
 
-  pub final-bytes : written u (put 0 (bytes_of s) b) ≡ put 0 (bytes_of (final_table v s)) b
+  pub final_bytes : written u (put 0 (bytes_of s) b) ≡ put 0 (bytes_of (final_table v s)) b
   unfolding written marks t₀
-  final-bytes =
+  final_bytes =
       ap (λ (x : Bytes). laid_connections u.connections (laid_functions (wanted_marks u.able u.rows) u.able (laid_jobs u.rows x))) (put_last s b u.last)
-      ∙ ap (λ (x : Bytes). laid_connections u.connections (laid_functions (wanted_marks u.able u.rows) u.able x)) jobs-laid
-      ∙ ap (laid_connections u.connections) functions-laid
-      ∙ connections-laid
-      ∙ ap (λ (x : Table). put 0 (bytes_of x) b) final-is
+      ∙ ap (λ (x : Bytes). laid_connections u.connections (laid_functions (wanted_marks u.able u.rows) u.able x)) jobs_laid
+      ∙ ap (laid_connections u.connections) functions_laid
+      ∙ connections_laid
+      ∙ ap (λ (x : Table). put 0 (bytes_of x) b) final_is

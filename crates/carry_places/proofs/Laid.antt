@@ -15,7 +15,7 @@ use Rattle.server.specs.declared.JobRow.{JobRow}
 use Rattle.server.specs.Sizes.{connection_count, function_count, job_count}
 use Rattle.server.specs.Table.{Function, Job, Table, no_job, no_function, function_at, job_at, set_connection, set_function, set_job, with_last_serial, with_connections, with_ids, with_functions, with_jobs, with_able, with_row, with_texts, live}
 use Rattle.server.specs.Layout.{little, flag_byte, bytes_of}
-use Rattle.table_laws.proofs.Puts.{Sized, put-job, put-row, put-numbers, put_function, put-able, put-connection}
+use Rattle.table_laws.proofs.Puts.{Sized, put_job, put_row_lem, put_numbers, put_function, put_able, put_connection}
 use Rattle.plan.specs.Parts.{rowed}
 use Rattle.carry_places.specs.Laying.{laid_row, laid_free, laid_job, laid_zeros, laid_forgotten, laid_function, laid_flags}
 
@@ -28,20 +28,20 @@ pub record Whole (t : Table) : Type 0 where
 
 -- with one part anew it is as long
 module _ (t : Table) (w : Whole t) where
-  pub whole-last : (s : ℕ) → Whole (with_last_serial s t)
-  whole-last s = record { connections = w.connections; ids = w.ids; functions = w.functions; jobs = w.jobs }
+  pub whole_last : (s : ℕ) → Whole (with_last_serial s t)
+  whole_last s = record { connections = w.connections; ids = w.ids; functions = w.functions; jobs = w.jobs }
 
-  pub whole-connections : (cs : List Connection) → length cs ≡ length t.connections → Whole (with_connections cs t)
-  whole-connections cs e = record { connections = e ∙ w.connections; ids = w.ids; functions = w.functions; jobs = w.jobs }
+  pub whole_connections : (cs : List Connection) → length cs ≡ length t.connections → Whole (with_connections cs t)
+  whole_connections cs e = record { connections = e ∙ w.connections; ids = w.ids; functions = w.functions; jobs = w.jobs }
 
-  pub whole-ids : (is : List Bytes) → length is ≡ length t.ids → Whole (with_ids is t)
-  whole-ids is e = record { connections = w.connections; ids = e ∙ w.ids; functions = w.functions; jobs = w.jobs }
+  pub whole_ids : (is : List Bytes) → length is ≡ length t.ids → Whole (with_ids is t)
+  whole_ids is e = record { connections = w.connections; ids = e ∙ w.ids; functions = w.functions; jobs = w.jobs }
 
-  pub whole-functions : (fs : List Function) → length fs ≡ length t.functions → Whole (with_functions fs t)
-  whole-functions fs e = record { connections = w.connections; ids = w.ids; functions = e ∙ w.functions; jobs = w.jobs }
+  pub whole_functions : (fs : List Function) → length fs ≡ length t.functions → Whole (with_functions fs t)
+  whole_functions fs e = record { connections = w.connections; ids = w.ids; functions = e ∙ w.functions; jobs = w.jobs }
 
-  pub whole-jobs : (js : List Job) → length js ≡ length t.jobs → Whole (with_jobs js t)
-  whole-jobs js e = record { connections = w.connections; ids = w.ids; functions = w.functions; jobs = e ∙ w.jobs }
+  pub whole_jobs : (js : List Job) → length js ≡ length t.jobs → Whole (with_jobs js t)
+  whole_jobs js e = record { connections = w.connections; ids = w.ids; functions = w.functions; jobs = e ∙ w.jobs }
 
 -- ---- one byte
 
@@ -61,35 +61,35 @@ module _ (t : Table) (w : Whole t) (b : Bytes) where
 
   pub row_laid : (p : ℕ) (r : JobRow) → p < job_count → laid_row p r (put 0 (bytes_of t) b) ≡ put 0 (bytes_of (set_job t p (with_row r (job_at t p)))) b
   unfolding laid_row
-  row_laid p r h = rw w.connections at (put-row t sized b p h r)
+  row_laid p r h = rw w.connections at (put_row_lem t sized b p h r)
 
-  pub free-laid : (p : ℕ) → p < job_count → laid_free p (put 0 (bytes_of t) b) ≡ put 0 (bytes_of (set_job t p no_job)) b
+  pub free_laid : (p : ℕ) → p < job_count → laid_free p (put 0 (bytes_of t) b) ≡ put 0 (bytes_of (set_job t p no_job)) b
   unfolding laid_row laid_free
-  free-laid p h = rw w.connections at (put-job t sized b p h no_job)
+  free_laid p h = rw w.connections at (put_job t sized b p h no_job)
 
-  pub job-laid : (r : JobRow) (p : ℕ) → p < job_count → laid_job r p (put 0 (bytes_of t) b) ≡ put 0 (bytes_of (set_job t p (rowed r (job_at t p)))) b
+  pub job_laid : (r : JobRow) (p : ℕ) → p < job_count → laid_job r p (put 0 (bytes_of t) b) ≡ put 0 (bytes_of (set_job t p (rowed r (job_at t p)))) b
   unfolding laid_job
-  job-laid r p h = go (live r)
+  job_laid r p h = go (live r)
     where
       go : (m : Bool) → cond m (laid_row p r (put 0 (bytes_of t) b)) (laid_free p (put 0 (bytes_of t) b)) ≡ put 0 (bytes_of (set_job t p (cond m (with_row r (job_at t p)) no_job))) b
       go true = row_laid p r h
-      go false = free-laid p h
+      go false = free_laid p h
 
-  pub zeros-laid : (m : Bool) (p : ℕ) → p < job_count
+  pub zeros_laid : (m : Bool) (p : ℕ) → p < job_count
       → laid_zeros m p (put 0 (bytes_of t) b) ≡ put 0 (bytes_of (set_job t p (cond m (with_texts (48 ∷ []) (48 ∷ []) (job_at t p)) (job_at t p)))) b
   unfolding laid_zeros
-  zeros-laid true p h = put-numbers t sized b p h (48 ∷ []) (48 ∷ [])
-  zeros-laid false p h = ap (λ (js : List Job). put 0 (bytes_of (with_jobs js t)) b) (sym (set_own t.jobs p no_job))
+  zeros_laid true p h = put_numbers t sized b p h (48 ∷ []) (48 ∷ [])
+  zeros_laid false p h = ap (λ (js : List Job). put 0 (bytes_of (with_jobs js t)) b) (sym (set_own t.jobs p no_job))
 
-  pub forgotten-laid : (q : ℕ) → q < function_count → laid_forgotten q (put 0 (bytes_of t) b) ≡ put 0 (bytes_of (set_function t q no_function)) b
+  pub forgotten_laid : (q : ℕ) → q < function_count → laid_forgotten q (put 0 (bytes_of t) b) ≡ put 0 (bytes_of (set_function t q no_function)) b
   unfolding laid_forgotten
-  forgotten-laid q h = rw w.connections at (put_function t sized b q h no_function)
+  forgotten_laid q h = rw w.connections at (put_function t sized b q h no_function)
 
-  pub function-laid : (m : Bool) (s q : ℕ) → q < function_count → laid_function m s q (put 0 (bytes_of t) b) ≡ put 0 (bytes_of (set_function t q (cond m (with_able s (function_at t q)) no_function))) b
+  pub function_laid : (m : Bool) (s q : ℕ) → q < function_count → laid_function m s q (put 0 (bytes_of t) b) ≡ put 0 (bytes_of (set_function t q (cond m (with_able s (function_at t q)) no_function))) b
   unfolding laid_function
-  function-laid true s q h = rw w.connections at (put-able t sized b q h s)
-  function-laid false s q h = forgotten-laid q h
+  function_laid true s q h = rw w.connections at (put_able t sized b q h s)
+  function_laid false s q h = forgotten_laid q h
 
-  pub flags-laid : (c : ℕ) (x : Connection) → c < connection_count → laid_flags c x (put 0 (bytes_of t) b) ≡ put 0 (bytes_of (set_connection t c x)) b
+  pub flags_laid : (c : ℕ) (x : Connection) → c < connection_count → laid_flags c x (put 0 (bytes_of t) b) ≡ put 0 (bytes_of (set_connection t c x)) b
   unfolding laid_flags
-  flags-laid c x h = rw w.connections at (put-connection t sized b c (rw w.connections h) x)
+  flags_laid c x h = rw w.connections at (put_connection t sized b c (rw w.connections h) x)

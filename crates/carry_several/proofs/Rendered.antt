@@ -13,32 +13,32 @@ use Rattle.server.specs.Events.{copy, noop, failure}
 use Rattle.server.specs.Server.{Server, addressed, render}
 use Rattle.server.specs.Call.{sent_bytes}
 use Rattle.carry_packet.specs.Messages.{message, handle_arguments}
-use Rattle.carry_packet.proofs.Rendered.{bytes_for, copy-rendered}
+use Rattle.carry_packet.proofs.Rendered.{bytes_for, copy_rendered}
 use Rattle.carry_several.specs.Several.{messages, told_message, told_messages}
 
 module _ (e : Event) (s : Server) where
-  pub noops-rendered : (ls : List ℕ) → messages ls 6 [] ≡ bytes_for e s (map noop ls)
+  pub noops_rendered : (ls : List ℕ) → messages ls 6 [] ≡ bytes_for e s (map noop ls)
   unfolding messages sent_bytes render join message
-  noops-rendered [] = refl
-  noops-rendered (l ∷ ls) = ap (λ (r : Bytes). message l 6 [] ++ r) (noops-rendered ls)
+  noops_rendered [] = refl
+  noops_rendered (l ∷ ls) = ap (λ (r : Bytes). message l 6 [] ++ r) (noops_rendered ls)
 
 module _ (c : ℕ) (p : Bytes) (s : Server) (long : 12 ≤ length p) where
-  pub copies-rendered : (kind : ℕ) (ls : List ℕ) → messages ls kind (drop 12 p) ≡ bytes_for (sends c p) s (map (λ l. copy l kind) ls)
+  pub copies_rendered : (kind : ℕ) (ls : List ℕ) → messages ls kind (drop 12 p) ≡ bytes_for (sends c p) s (map (λ l. copy l kind) ls)
   unfolding messages sent_bytes
-  copies-rendered kind [] = refl
-  copies-rendered kind (l ∷ ls) = ap (λ (r : Bytes). r ++ messages ls kind (drop 12 p)) (copy-rendered c p s long l kind) ∙ ap (λ (r : Bytes). addressed (render (sends c p) s (copy l kind)) ++ r) (copies-rendered kind ls)
+  copies_rendered kind [] = refl
+  copies_rendered kind (l ∷ ls) = ap (λ (r : Bytes). r ++ messages ls kind (drop 12 p)) (copy_rendered c p s long l kind) ∙ ap (λ (r : Bytes). addressed (render (sends c p) s (copy l kind)) ++ r) (copies_rendered kind ls)
 
   -- 02: to each the copy, or WORK_FAIL with the handle
-  told-rendered : (to heard kind : ℕ) (hub : Bytes) (serial : ℕ) → told_message heard kind (drop 12 p) (join (handle_arguments hub serial)) to ≡ addressed (render (sends c p) s (cond (has heard to) (copy to kind) (failure hub serial to)))
+  told_rendered : (to heard kind : ℕ) (hub : Bytes) (serial : ℕ) → told_message heard kind (drop 12 p) (join (handle_arguments hub serial)) to ≡ addressed (render (sends c p) s (cond (has heard to) (copy to kind) (failure hub serial to)))
   unfolding told_message render message handle_arguments
-  told-rendered to heard kind hub serial = by (has heard to)
+  told_rendered to heard kind hub serial = by (has heard to)
     where
       by : (b : Bool) → cond b (message to kind (drop 12 p)) (message to 14 (join (handle hub serial ∷ []))) ≡ addressed (render (sends c p) s (cond b (copy to kind) (failure hub serial to)))
-      by true = copy-rendered c p s long to kind
+      by true = copy_rendered c p s long to kind
       by false = ap (message to 14) (sym (append-nil _))
 
-  pub all-told-rendered : (heard kind : ℕ) (hub : Bytes) (serial : ℕ) (ls : List ℕ)
+  pub all_told_rendered : (heard kind : ℕ) (hub : Bytes) (serial : ℕ) (ls : List ℕ)
       → told_messages ls heard kind (drop 12 p) (join (handle_arguments hub serial)) ≡ bytes_for (sends c p) s (map (λ l. cond (has heard l) (copy l kind) (failure hub serial l)) ls)
   unfolding told_messages sent_bytes
-  all-told-rendered heard kind hub serial [] = refl
-  all-told-rendered heard kind hub serial (l ∷ ls) = ap₂ (λ (x y : Bytes). x ++ y) (told-rendered l heard kind hub serial) (all-told-rendered heard kind hub serial ls)
+  all_told_rendered heard kind hub serial [] = refl
+  all_told_rendered heard kind hub serial (l ∷ ls) = ap₂ (λ (x y : Bytes). x ++ y) (told_rendered l heard kind hub serial) (all_told_rendered heard kind hub serial ls)

@@ -33,10 +33,10 @@ module _ (s heard kind : ℕ) (d failed : Bytes) where
   abbrev pub below : ℕ → Bytes
   below n = told_messages (members n s) heard kind d failed
 
-  told-append : (ls ms : List ℕ) → told_messages (ls ++ ms) heard kind d failed ≡ told_messages ls heard kind d failed ++ told_messages ms heard kind d failed
+  told_append : (ls ms : List ℕ) → told_messages (ls ++ ms) heard kind d failed ≡ told_messages ls heard kind d failed ++ told_messages ms heard kind d failed
   unfolding told_messages
-  told-append [] ms = refl
-  told-append (l ∷ ls) ms = ap (λ (r : Bytes). told_message heard kind d failed l ++ r) (told-append ls ms) ∙ sym (append_assoc (told_message heard kind d failed l) _ _)
+  told_append [] ms = refl
+  told_append (l ∷ ls) ms = ap (λ (r : Bytes). told_message heard kind d failed l ++ r) (told_append ls ms) ∙ sym (append_assoc (told_message heard kind d failed l) _ _)
 
   one_more : (c : ℕ) (b : Bool) → told_messages (cond b (c ∷ []) []) heard kind d failed ≡ cond b (told_message heard kind d failed c) []
   unfolding told_messages
@@ -45,15 +45,15 @@ module _ (s heard kind : ℕ) (d failed : Bytes) where
 
   below_more : (c : ℕ) → below (suc c) ≡ below c ++ one c
   unfolding members message_if
-  below_more c = told-append (members c s) _ ∙ ap (λ (r : Bytes). below c ++ r) (one_more c (has s c))
+  below_more c = told_append (members c s) _ ∙ ap (λ (r : Bytes). below c ++ r) (one_more c (has s c))
 
-  more-long : (c : ℕ) → length (below (suc c)) ≡ length (below c) + length (one c)
-  more-long c = ap length (below_more c) ∙ length-append (below c) (one c)
+  more_long : (c : ℕ) → length (below (suc c)) ≡ length (below c) + length (one c)
+  more_long c = ap length (below_more c) ∙ length-append (below c) (one c)
 
   -- more members, more bytes
-  below-grows : (c k : ℕ) → length (below c) ≤ length (below (c + k))
-  below-grows c zero = rw add-zero (omega arith)
-  below-grows c (suc k) = let q : c + suc k ≡ suc (c + k) = omega arith in rw (q, more-long (c + k)) (omega (arith, below-grows c k))
+  below_grows : (c k : ℕ) → length (below c) ≤ length (below (c + k))
+  below_grows c zero = rw add-zero (omega arith)
+  below_grows c (suc k) = let q : c + suc k ≡ suc (c + k) = omega arith in rw (q, more_long (c + k)) (omega (arith, below_grows c k))
 
   -- ---- none is left
 
@@ -62,74 +62,74 @@ module _ (s heard kind : ℕ) (d failed : Bytes) where
   unfolding has
   lacks c k e = rw (← shr-shr s c k, e, zero-div)
 
-  below-same : (c k : ℕ) → s / 2 ^ c ≡ 0 → below c ≡ below (c + k)
+  below_same : (c k : ℕ) → s / 2 ^ c ≡ 0 → below c ≡ below (c + k)
   unfolding message_if
-  below-same c zero e = rw add-zero
-  below-same c (suc k) e =
+  below_same c zero e = rw add-zero
+  below_same c (suc k) e =
       let q : c + suc k ≡ suc (c + k) = omega arith in
       let r : one (c + k) ≡ [] = rw (lacks c k e) in
-      below-same c k e ∙ rw (q, below_more (c + k), r) (sym (append-nil (below (c + k))))
+      below_same c k e ∙ rw (q, below_more (c + k), r) (sym (append-nil (below (c + k))))
 
   -- where it finds no more, all are behind
-  all-below : (c : ℕ) → c ≤ connection_count → (b : Bool) → b ≡ ltb c connection_count && ltb 0 (s / 2 ^ c) → b ≡ false → below c ≡ below connection_count
-  all-below c h b e n = by-test (ltb c connection_count) refl
+  all_below : (c : ℕ) → c ≤ connection_count → (b : Bool) → b ≡ ltb c connection_count && ltb 0 (s / 2 ^ c) → b ≡ false → below c ≡ below connection_count
+  all_below c h b e n = by_test (ltb c connection_count) refl
     where
-      by-test : (t : Bool) → ltb c connection_count ≡ t → below c ≡ below connection_count
-      by-test true t =
+      by_test : (t : Bool) → ltb c connection_count ≡ t → below c ≡ below connection_count
+      by_test true t =
           let z : ltb 0 (s / 2 ^ c) ≡ false = ap (λ (x : Bool). x && ltb 0 (s / 2 ^ c)) (sym t) ∙ sym e ∙ n in
           let q : c + (connection_count - c) ≡ connection_count = omega arith in
-          rw q at (below-same c (connection_count - c) (omega (arith, ltb-false 0 (s / 2 ^ c) z)))
-      by-test false t = let q : c ≡ connection_count = omega (arith, ltb-false c connection_count t) in rw q
+          rw q at (below_same c (connection_count - c) (omega (arith, ltb-false 0 (s / 2 ^ c) z)))
+      by_test false t = let q : c ≡ connection_count = omega (arith, ltb-false c connection_count t) in rw q
 
   -- ---- one connection, in or not in the set
 
   module _ (c : ℕ) (b : Bool) (e : b ≡ has s c) where
-    pub stranger-place : not b ≡ true → (at : ℕ) → at ≡ at + length (one c)
+    pub stranger_place : not b ≡ true → (at : ℕ) → at ≡ at + length (one c)
     unfolding message_if
-    stranger-place h at = rw (← e, not-true b h) (omega arith)
+    stranger_place h at = rw (← e, not-true b h) (omega arith)
 
-    pub stranger-laid : not b ≡ true → (at : ℕ) (out : Bytes) → out ≡ put at (one c) out
+    pub stranger_laid : not b ≡ true → (at : ℕ) (out : Bytes) → out ≡ put at (one c) out
     unfolding message_if
-    stranger-laid h at out = rw (← e, not-true b h) (sym (put_none at out))
+    stranger_laid h at out = rw (← e, not-true b h) (sym (put_none at out))
 
-    pub heard-is : not b ≡ false → (a : Bool) → a ≡ has heard c → a ≡ true → one c ≡ message c kind d
+    pub heard_is : not b ≡ false → (a : Bool) → a ≡ has heard c → a ≡ true → one c ≡ message c kind d
     unfolding message_if told_message
-    heard-is h a g i = rw (← e, not-false b h, ← g, i)
+    heard_is h a g i = rw (← e, not-false b h, ← g, i)
 
-    pub failed-is : not b ≡ false → (a : Bool) → a ≡ has heard c → a ≡ false → one c ≡ message c 14 failed
+    pub failed_is : not b ≡ false → (a : Bool) → a ≡ has heard c → a ≡ false → one c ≡ message c 14 failed
     unfolding message_if told_message
-    failed-is h a g i = rw (← e, not-false b h, ← g, i)
+    failed_is h a g i = rw (← e, not-false b h, ← g, i)
 
   -- ---- the loop
 
   module _ (at : ℕ) (out : Bytes) where
-    pub start-place : at ≡ at + length (below 0)
+    pub start_place : at ≡ at + length (below 0)
     unfolding members told_messages
-    start-place = omega arith
+    start_place = omega arith
 
-    pub start-laid : out ≡ put at (below 0) out
+    pub start_laid : out ≡ put at (below 0) out
     unfolding members told_messages
-    start-laid = sym (put_none at out)
+    start_laid = sym (put_none at out)
 
     module _ (c place : ℕ) (ep : place ≡ at + length (below c)) where
-      pub turn-room : (o : Bytes) → c < connection_count → length o ≡ length out → at + length (below connection_count) ≤ length out → place + length (one c) ≤ length o
-      turn-room o h l room =
+      pub turn_room : (o : Bytes) → c < connection_count → length o ≡ length out → at + length (below connection_count) ≤ length out → place + length (one c) ≤ length o
+      turn_room o h l room =
           let q : suc c + (connection_count - suc c) ≡ connection_count = omega arith in
-          let g : length (below (suc c)) ≤ length (below connection_count) = rw q at (below-grows (suc c) (connection_count - suc c)) in
-          omega (arith, more-long c, g)
+          let g : length (below (suc c)) ≤ length (below connection_count) = rw q at (below_grows (suc c) (connection_count - suc c)) in
+          omega (arith, more_long c, g)
 
-      pub turn-place : (r : ℕ) → r ≡ place + length (one c) → r ≡ at + length (below (c + 1))
-      turn-place r e = rw (add-one c) (omega (arith, more-long c))
+      pub turn_place : (r : ℕ) → r ≡ place + length (one c) → r ≡ at + length (below (c + 1))
+      turn_place r e = rw (add-one c) (omega (arith, more_long c))
 
-      pub turn-laid : (o p : Bytes) → o ≡ put at (below c) out → p ≡ put place (one c) o → p ≡ put at (below (c + 1)) out
-      turn-laid o p eo e = rw (e, eo, ep, add-one c, below_more c) (put_put at (below c) (one c) out)
+      pub turn_laid : (o p : Bytes) → o ≡ put at (below c) out → p ≡ put place (one c) o → p ≡ put at (below (c + 1)) out
+      turn_laid o p eo e = rw (e, eo, ep, add-one c, below_more c) (put_put at (below c) (one c) out)
 
     module _ (c : ℕ) (h : c ≤ connection_count) (b : Bool) (e : b ≡ ltb c connection_count && ltb 0 (s / 2 ^ c)) (n : b ≡ false) where
-      pub end-place : (r : ℕ) → r ≡ at + length (below c) → r ≡ at + length (below connection_count)
-      end-place r p = p ∙ ap (λ (x : Bytes). at + length x) (all-below c h b e n)
+      pub end_place : (r : ℕ) → r ≡ at + length (below c) → r ≡ at + length (below connection_count)
+      end_place r p = p ∙ ap (λ (x : Bytes). at + length x) (all_below c h b e n)
 
-      pub end-laid : (o : Bytes) → o ≡ put at (below c) out → o ≡ put at (below connection_count) out
-      end-laid o p = p ∙ ap (λ (x : Bytes). put at x out) (all-below c h b e n)
+      pub end_laid : (o : Bytes) → o ≡ put at (below c) out → o ≡ put at (below connection_count) out
+      end_laid o p = p ∙ ap (λ (x : Bytes). put at x out) (all_below c h b e n)
 
 -- ---- all hear it
 

@@ -14,7 +14,7 @@ use Rattle.server.specs.Sizes.{connection_count, function_count}
 use Rattle.server.specs.Table.{Function, Job, function_at}
 use Rattle.server.specs.Layout.{text_at, function_in, table_of}
 use Rattle.server.specs.Rules.{uniques_apart}
-use Rattle.table_passes.proofs.Rows.{function-at, no-function}
+use Rattle.table_passes.proofs.Rows.{function_at_lem, no_function_lem}
 
 -- ---- lengths
 
@@ -29,10 +29,10 @@ text_within_lem s k b at e =
 
 -- the length of a function's name; past the last function there is none
 pub name_length : (b s : Bytes) (q : ℕ) → s ≡ (function_in connection_count b q).name → q < function_count → length s ≡ length (function_at (table_of connection_count b) q).name
-name_length b s q e h = ap length e ∙ ap (λ (x : Function). length x.name) (sym (function-at connection_count b q h))
+name_length b s q e h = ap length e ∙ ap (λ (x : Function). length x.name) (sym (function_at_lem connection_count b q h))
 
 pub no_name : (b : Bytes) (q : ℕ) → 16 ≤ q → 0 ≡ length (function_at (table_of connection_count b) q).name
-no_name b q h = ap (λ (x : Function). length x.name) (sym (no-function connection_count b q h))
+no_name b q h = ap (λ (x : Function). length x.name) (sym (no_function_lem connection_count b q h))
 
 -- ---- tests of texts
 
@@ -70,14 +70,14 @@ compare false false true true e h = refl
 compare false false false true e h = refl
 
 module _ (j k : Job) (s t : ℕ) (i : s ≡ j.row.serial) (l : t ≡ k.row.serial) where
-  pub uniques-skip : eqb s 0 || (eqb t 0 || not (eqb j.row.function k.row.function)) ≡ true → true ≡ uniques_apart j k
-  uniques-skip h =
+  pub uniques_skip : eqb s 0 || (eqb t 0 || not (eqb j.row.function k.row.function)) ≡ true → true ≡ uniques_apart j k
+  uniques_skip h =
       skip (eqb j.row.serial 0) (eqb k.row.serial 0) (not (same j.unique [])) (eqb j.row.function k.row.function) (same j.unique k.unique)
       (rw (i, l) at h)
 
-  pub uniques-compared : eqb s 0 || (eqb t 0 || not (eqb j.row.function k.row.function)) ≡ false
+  pub uniques_compared : eqb s 0 || (eqb t 0 || not (eqb j.row.function k.row.function)) ≡ false
       → (u v w : Bytes) (e : Bool) → u ≡ j.unique → v ≡ j.unique → w ≡ k.unique → e ≡ same v w → eqb (length u) 0 || not e ≡ uniques_apart j k
-  uniques-compared h u v w e f g m q =
+  uniques_compared h u v w e f g m q =
       apart_texts u v w j.unique k.unique e f g m q
       ∙ compare (eqb j.row.serial 0) (eqb k.row.serial 0) (same j.unique []) (eqb j.row.function k.row.function) (same j.unique k.unique)
       (rw (i, l) at h)

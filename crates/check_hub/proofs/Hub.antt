@@ -39,20 +39,20 @@ padded_behind k b at h =
     ap (λ (i : ℕ). every is_zero (drop i (part k b at))) (sym (length_text k b at)) ∙ ap (every is_zero) behind ∙ every_each is_zero (k - z) b (at + z) (omega arith)
 
 module _ (b : Bytes) (long : table_size connection_count ≤ length b) (name : Bytes) (is : name ≡ (table_of connection_count b).hub) where
-  is-text : name ≡ text_at hub_size b hub_at
+  is_text : name ≡ text_at hub_size b hub_at
   unfolding table_of
-  is-text = is
+  is_text = is
 
-  pub name-inside : length name ≤ hub_size
-  name-inside = omega (arith, ap length is-text, text_inside hub_size b hub_at (omega arith))
+  pub name_inside : length name ≤ hub_size
+  name_inside = omega (arith, ap length is_text, text_inside hub_size b hub_at (omega arith))
 
   slack : (z : Bool) → z ≡ all (zero_at b (hub_at + length name)) (numbers 0 (hub_size - length name)) → z ≡ is_padded hub_size b hub_at
-  slack z e = e ∙ sym (padded_behind hub_size b hub_at (omega arith) ∙ ap (λ (s : Bytes). all (zero_at b (hub_at + length s)) (numbers 0 (hub_size - length s))) (sym is-text))
+  slack z e = e ∙ sym (padded_behind hub_size b hub_at (omega arith) ∙ ap (λ (s : Bytes). all (zero_at b (hub_at + length s)) (numbers 0 (hub_size - length s))) (sym is_text))
 
-  pub slack-bad : (z : Bool) → z ≡ all (zero_at b (hub_at + length name)) (numbers 0 (hub_size - length name)) → z ≡ false → false ≡ hub_rules b
+  pub slack_bad : (z : Bool) → z ≡ all (zero_at b (hub_at + length name)) (numbers 0 (hub_size - length name)) → z ≡ false → false ≡ hub_rules b
   unfolding hub_rules
-  slack-bad z e q = rw (sym (slack z e) ∙ q)
+  slack_bad z e q = rw (sym (slack z e) ∙ q)
 
-  pub name-decides : (z r : Bool) → z ≡ all (zero_at b (hub_at + length name)) (numbers 0 (hub_size - length name)) → z ≡ true → r ≡ is_hub_name name → r ≡ hub_rules b
+  pub name_decides : (z r : Bool) → z ≡ all (zero_at b (hub_at + length name)) (numbers 0 (hub_size - length name)) → z ≡ true → r ≡ is_hub_name name → r ≡ hub_rules b
   unfolding hub_rules
-  name-decides z r e q f = rw (sym (slack z e) ∙ q) (f ∙ ap is_hub_name is)
+  name_decides z r e q f = rw (sym (slack z e) ∙ q) (f ∙ ap is_hub_name is)

@@ -18,7 +18,7 @@ use Rattle.server.specs.Layout.{text_at}
 use Rattle.table_laws.specs.Tests.{part, is_zero, is_flag, is_padded, are_flags, are_padded}
 use Rattle.table_laws.proofs.Same.{field_inside}
 use Rattle.lists.proofs.Rows.{below_at}
-use Rattle.table_passes.proofs.Tests.{or_none_lem, and_same, same-below, all_append, all_shift, runs}
+use Rattle.table_passes.proofs.Tests.{or_none_lem, and_same, same_below, all_append, all_shift, runs}
 use Rattle.check_image.specs.Padded.{zero_at, empty_at, after_end, is_followed, last_or_followed, last_of64, last_of32}
 
 -- ---- single bytes
@@ -124,8 +124,8 @@ pub padded_runs : (w m r : ℕ) (b : Bytes) (at : ℕ) → all (λ i. are_padded
 unfolding are_padded
 padded_runs w m r b at =
     sym (runs (λ i. is_padded w b (at + w * i)) m r
-    ∙ same-below (λ i. all (λ j. is_padded w b (at + w * (m * i + j))) (numbers 0 m)) (λ i. all (λ j. is_padded w b (at + w * m * i + w * j)) (numbers 0 m)) r
-    (λ i _. same-below (λ j. is_padded w b (at + w * (m * i + j))) (λ j. is_padded w b (at + w * m * i + w * j)) m (λ j _. ap (is_padded w b) (place i j))))
+    ∙ same_below (λ i. all (λ j. is_padded w b (at + w * (m * i + j))) (numbers 0 m)) (λ i. all (λ j. is_padded w b (at + w * m * i + w * j)) (numbers 0 m)) r
+    (λ i _. same_below (λ j. is_padded w b (at + w * (m * i + j))) (λ j. is_padded w b (at + w * m * i + w * j)) m (λ j _. ap (is_padded w b) (place i j))))
   where
     place : (i j : ℕ) → at + w * (m * i + j) ≡ at + w * m * i + w * j
     place i j = ap (λ (x : ℕ). at + x) (mul-add w (m * i) j ∙ ap (λ (x : ℕ). x + w * j) (sym (mul_assoc w m i))) ∙ sym (add_assoc at (w * m * i) (w * j))
@@ -136,11 +136,11 @@ pub empty_run : (n m : ℕ) (b : Bytes) (at : ℕ) → at + suc n * m ≤ length
 unfolding are_padded
 empty_run n m b at h e =
     runs (zero_at b at) (suc n) m
-    ∙ same-below (λ k. all (λ j. zero_at b at (suc n * k + j)) (numbers 0 (suc n))) (λ k. is_padded (suc n) b (at + suc n * k)) m (λ k g. place k g)
+    ∙ same_below (λ k. all (λ j. zero_at b at (suc n * k + j)) (numbers 0 (suc n))) (λ k. is_padded (suc n) b (at + suc n * k)) m (λ k g. place k g)
   where
     place : (k : ℕ) → k < m → all (λ j. zero_at b at (suc n * k + j)) (numbers 0 (suc n)) ≡ is_padded (suc n) b (at + suc n * k)
     place k g =
-        same-below (λ j. zero_at b at (suc n * k + j)) (zero_at b (at + suc n * k)) (suc n) (λ j _. ap (λ (x : ℕ). eqb (get_or b x 0) 0) (sym (add_assoc at (suc n * k) j)))
+        same_below (λ j. zero_at b at (suc n * k + j)) (zero_at b (at + suc n * k)) (suc n) (λ j _. ap (λ (x : ℕ). eqb (get_or b x 0) 0) (sym (add_assoc at (suc n * k) j)))
         ∙ sym (empty_each n b (at + suc n * k) (field_inside (suc n) m at k (length b) h g) (below_at (empty_at b at (suc n)) m k e g))
 
 -- ---- masks
@@ -158,26 +158,26 @@ insides_padded n b at i (suc m) h =
     all_append (λ k. is_followed b (at + k)) (numbers (suc n * i + 0) n) (insides n (suc i) m)
     ∙ and_same
     (all_shift (λ k. is_followed b (at + k)) (suc n * i) 0 n
-    ∙ same-below (λ k. is_followed b (at + (suc n * i + k))) (λ k. is_followed b (at + suc n * i + k)) n (λ k _. ap (is_followed b) (sym (add_assoc at (suc n * i) k)))
+    ∙ same_below (λ k. is_followed b (at + (suc n * i + k))) (λ k. is_followed b (at + suc n * i + k)) n (λ k _. ap (is_followed b) (sym (add_assoc at (suc n * i) k)))
     ∙ sym (padded_each n b (at + suc n * i) (omega (arith, field_inside (suc n) (i + suc m) at i (length b) h (omega arith)))))
     (insides_padded n b at (suc i) m e)
 
 module _ (last b : Bytes) (at : ℕ) where
-  pub one-of-64 : last ≡ last_of64 → at + 64 ≤ length b → all (last_or_followed last b at) (numbers 0 64) ≡ is_padded unique_size b at
-  one-of-64 e h = ap (λ (m : Bytes). all (last_or_followed m b at) (numbers 0 64)) e ∙ sym (padded_each 63 b at (omega arith))
+  pub one_of_64 : last ≡ last_of64 → at + 64 ≤ length b → all (last_or_followed last b at) (numbers 0 64) ≡ is_padded unique_size b at
+  one_of_64 e h = ap (λ (m : Bytes). all (last_or_followed m b at) (numbers 0 64)) e ∙ sym (padded_each 63 b at (omega arith))
 
-  pub two-of-32 : last ≡ last_of32 → at + 64 ≤ length b → all (last_or_followed last b at) (numbers 0 64) ≡ are_padded 32 2 b at
+  pub two_of_32 : last ≡ last_of32 → at + 64 ≤ length b → all (last_or_followed last b at) (numbers 0 64) ≡ are_padded 32 2 b at
   unfolding are_padded
-  two-of-32 e h = ap (λ (m : Bytes). all (last_or_followed m b at) (numbers 0 64)) e ∙ insides_padded 31 b at 0 2 (omega arith)
+  two_of_32 e h = ap (λ (m : Bytes). all (last_or_followed m b at) (numbers 0 64)) e ∙ insides_padded 31 b at 0 2 (omega arith)
 
 pub eight_of_64 : (last b : Bytes) (at : ℕ) → last ≡ last_of64 → at + 512 ≤ length b
     → all (λ i. all (last_or_followed last b (at + 64 * i)) (numbers 0 64)) (numbers 0 8) ≡ are_padded 64 8 b at
 unfolding are_padded
 eight_of_64 last b at e h =
-    same-below (λ i. all (last_or_followed last b (at + 64 * i)) (numbers 0 64)) (λ i. is_padded unique_size b (at + 64 * i)) 8 (λ i g. one-of-64 last b (at + 64 * i) e (omega arith))
+    same_below (λ i. all (last_or_followed last b (at + 64 * i)) (numbers 0 64)) (λ i. is_padded unique_size b (at + 64 * i)) 8 (λ i g. one_of_64 last b (at + 64 * i) e (omega arith))
 
 pub four_of_32 : (last b : Bytes) (at : ℕ) → last ≡ last_of32 → at + 128 ≤ length b
     → all (λ i. all (last_or_followed last b (at + 64 * i)) (numbers 0 64)) (numbers 0 2) ≡ are_padded 32 4 b at
 four_of_32 last b at e h =
-    same-below (λ i. all (last_or_followed last b (at + 64 * i)) (numbers 0 64)) (λ i. are_padded 32 2 b (at + 64 * i)) 2 (λ i g. two-of-32 last b (at + 64 * i) e (omega arith))
+    same_below (λ i. all (last_or_followed last b (at + 64 * i)) (numbers 0 64)) (λ i. are_padded 32 2 b (at + 64 * i)) 2 (λ i g. two_of_32 last b (at + 64 * i) e (omega arith))
     ∙ padded_runs 32 2 2 b at

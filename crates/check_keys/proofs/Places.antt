@@ -119,10 +119,10 @@ module _ (n m : ℕ) (b : Bytes) (at : ℕ) (inside : (k : ℕ) → k < m → at
       (length_part (suc n) b (at + suc n * i) (inside i h) ∙ sym (length_part (suc n) b (at + suc n * k) (inside k g))) (pads i h) (pads k g) e
 
   -- where keys are distinct and equal places fold to one number, a text that is not empty is not that of a later place
-  pub texts-differ : (fold : ℕ → ℕ) → ((i k : ℕ) → i < k → k < m → place_key b at (suc n) fold i ≡ place_key b at (suc n) fold k → ⊥)
+  pub texts_differ : (fold : ℕ → ℕ) → ((i k : ℕ) → i < k → k < m → place_key b at (suc n) fold i ≡ place_key b at (suc n) fold k → ⊥)
       → (i k : ℕ) → i < k → k < m → (part (suc n) b (at + suc n * i) ≡ part (suc n) b (at + suc n * k) → fold i ≡ fold k)
       → same (text_at (suc n) b (at + suc n * i)) [] ≡ false → same (text_at (suc n) b (at + suc n * i)) (text_at (suc n) b (at + suc n * k)) ≡ true → ⊥
-  texts-differ fold distinct i k g h folds full equal = distinct i k g h (rw (here, there) (folds parts))
+  texts_differ fold distinct i k g h folds full equal = distinct i k g h (rw (here, there) (folds parts))
     where
       parts : part (suc n) b (at + suc n * i) ≡ part (suc n) b (at + suc n * k)
       parts = parts_same i k (omega arith) h (same_is (text_at (suc n) b (at + suc n * i)) (text_at (suc n) b (at + suc n * k)) equal)

@@ -13,9 +13,9 @@ use Rattle.lists.specs.Lists.{all, numbers, implies}
 use Rattle.server.specs.Sizes.{connection_count, function_count, job_count}
 use Rattle.server.specs.Layout.{little_at, row_in, serials_at, listeners_at, sizes_at, holders_at, backgrounds_at, functions_at, table_size}
 use Rattle.table_laws.specs.Tests.{are_flags}
-use Rattle.table_laws.proofs.Columns.{places-at}
+use Rattle.table_laws.proofs.Columns.{places_at}
 use Rattle.table_laws.proofs.Same.{and_assoc}
-use Rattle.table_passes.proofs.Tests.{iff, and_true, and_same, same-below, all_and}
+use Rattle.table_passes.proofs.Tests.{iff, and_true, and_same, same_below, all_and}
 use Rattle.check_image.proofs.Places.{flag_at}
 use Rattle.check_rows.specs.Rows.{numbers_mean, is_awaited, rows_mean, mark_of, Marked, bytes_in_range, holder_in_range, free_or_awaited}
 
@@ -37,8 +37,8 @@ below_16 x = go (ltb x 16) refl
 -- ---- a row by what of it is zero: holder h, listeners l, size z, priority p, function f; g is the flag
 
 module _ (h l z p f g most within near : Bool) (ep : p ≡ true → most ≡ true) (ef : f ≡ true → within ≡ true) (eh : h ≡ true → near ≡ true) where
-  free-means : (most && within) && (near && ((h && (l && not g)) && (z && (p && f)))) ≡ (f && (p && (not g && (l && (h && z))))) && true
-  free-means = iff ((most && within) && (near && ((h && (l && not g)) && (z && (p && f))))) ((f && (p && (not g && (l && (h && z))))) && true) to from
+  free_means : (most && within) && (near && ((h && (l && not g)) && (z && (p && f)))) ≡ (f && (p && (not g && (l && (h && z))))) && true
+  free_means = iff ((most && within) && (near && ((h && (l && not g)) && (z && (p && f))))) ((f && (p && (not g && (l && (h && z))))) && true) to from
     where
       to : (most && within) && (near && ((h && (l && not g)) && (z && (p && f)))) ≡ true → (f && (p && (not g && (l && (h && z))))) && true ≡ true
       to e =
@@ -79,13 +79,13 @@ module _ (h l z p f g most within near : Bool) (ep : p ≡ true → most ≡ tru
 
   means : (s : Bool) → (most && within) && (near && ((s || not (h && (l && not g))) && (not s || ((h && (l && not g)) && (z && (p && f))))))
       ≡ cond (not s) (most && (within && near)) (f && (p && (not g && (l && (h && z))))) && implies (not s && h) (g || not l)
-  means true = free-means
+  means true = free_means
   means false = live_means
 
 module _ (b : Bytes) (live heard held sized : List ℕ) (el : Marked 4 b serials_at live) (eh : Marked 4 b (listeners_at connection_count) heard) (ed : Marked 2 b holders_at held) (ez : Marked 2 b sizes_at sized)
     (long : table_size connection_count ≤ length b) (flags : are_flags job_count b backgrounds_at ≡ true) where
-  row-means : (k : ℕ) → k < job_count → bytes_in_range b k && (holder_in_range b k && free_or_awaited live heard held sized b k) ≡ numbers_mean (row_in connection_count b k) && is_awaited (row_in connection_count b k)
-  row-means k g =
+  row_means_lem : (k : ℕ) → k < job_count → bytes_in_range b k && (holder_in_range b k && free_or_awaited live heard held sized b k) ≡ numbers_mean (row_in connection_count b k) && is_awaited (row_in connection_count b k)
+  row_means_lem k g =
       let flag : eqb (get_or b (backgrounds_at + k) 0) 0 ≡ not (eqb (get_or b (backgrounds_at + k) 0) 1) = flag_at 32 b backgrounds_at (omega arith) flags k g in
       rw (
         el k g,
@@ -105,20 +105,20 @@ module _ (b : Bytes) (live heard held sized : List ℕ) (el : Marked 4 b serials
       (λ e. let r = eqb-true (row_in connection_count b k).function 0 e in lt-ltb (row_in connection_count b k).function function_count (omega arith))
       (λ e. let r = eqb-true (row_in connection_count b k).holder 0 e in le-leb (row_in connection_count b k).holder connection_count (omega arith)) (eqb (row_in connection_count b k).serial 0))
 
-  pub rows-mean : (p q r : Bool) → p ≡ all (bytes_in_range b) (numbers 0 job_count) → q ≡ all (holder_in_range b) (numbers 0 job_count)
+  pub rows_mean_lem : (p q r : Bool) → p ≡ all (bytes_in_range b) (numbers 0 job_count) → q ≡ all (holder_in_range b) (numbers 0 job_count)
       → r ≡ all (free_or_awaited live heard held sized b) (numbers 0 job_count) → p && (q && r) ≡ rows_mean b
   unfolding rows_mean
-  rows-mean p q r ep eq er =
+  rows_mean_lem p q r ep eq er =
       and_same ep (and_same eq er ∙ sym (all_and (holder_in_range b) (free_or_awaited live heard held sized b) (numbers 0 job_count)))
       ∙ sym (all_and (bytes_in_range b) (λ k. holder_in_range b k && free_or_awaited live heard held sized b k) (numbers 0 job_count))
-      ∙ same-below (λ k. bytes_in_range b k && (holder_in_range b k && free_or_awaited live heard held sized b k)) (λ k. numbers_mean (row_in connection_count b k) && is_awaited (row_in connection_count b k)) 32 row-means
+      ∙ same_below (λ k. bytes_in_range b k && (holder_in_range b k && free_or_awaited live heard held sized b k)) (λ k. numbers_mean (row_in connection_count b k) && is_awaited (row_in connection_count b k)) 32 row_means_lem
 
 -- a number out of range is enough
 pub out_of_range : (b : Bytes) (live : List ℕ) → Marked 4 b serials_at live → table_size connection_count ≤ length b → are_flags job_count b backgrounds_at ≡ true → (p q : Bool)
     → p ≡ all (bytes_in_range b) (numbers 0 job_count) → q ≡ all (holder_in_range b) (numbers 0 job_count) → p && q ≡ false → false ≡ rows_mean b
 out_of_range b live el long flags p q ep eq e =
     ap (λ (x : Bool). x && all (free_or_awaited live heard held sized b) (numbers 0 job_count)) (sym e) ∙ and_assoc p q _
-    ∙ rows-mean b live heard held sized el (marks 4 (listeners_at connection_count)) (marks 2 holders_at) (marks 2 sizes_at) long flags p q _ ep eq refl
+    ∙ rows_mean_lem b live heard held sized el (marks 4 (listeners_at connection_count)) (marks 2 holders_at) (marks 2 sizes_at) long flags p q _ ep eq refl
   where
     column : ℕ → ℕ → List ℕ
     column w at = map (λ k. mark_of (little_at w b (at + w * k))) (numbers 0 job_count)
@@ -133,4 +133,4 @@ out_of_range b live el long flags p q ep eq e =
     sized = column 2 sizes_at
 
     marks : (w at : ℕ) → Marked w b at (column w at)
-    marks w at k g = places-at (λ k. mark_of (little_at w b (at + w * k))) 0 32 k g
+    marks w at k g = places_at (λ k. mark_of (little_at w b (at + w * k))) 0 32 k g

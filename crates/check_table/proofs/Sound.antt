@@ -20,10 +20,10 @@ use Rattle.server.specs.Layout.{little_at, text_at, id_in, function_in, row_in, 
 use Rattle.server.specs.Rules.{next_small, serials_below, serials_distinct, text_within, stored_number, names_within, texts_within, sizes_within, numbers_free, numbers_in_range, row_is_free, row_has_meaning, rows_have_meaning, functions_distinct, functions_as_defined, abilities_open, listeners_open, holders_open, closed_clear, queued_awaited, uniques_distinct, sleepers_idle, ids_within, ids_open, hub_named, obeys}
 use Rattle.server.specs.Call.{is_sound}
 use Rattle.table_laws.specs.Tests.{are_flags, is_padded, are_padded, image_tests}
-use Rattle.table_laws.proofs.Image.{image-tests}
+use Rattle.table_laws.proofs.Image.{image_tests_lem}
 use Rattle.lists.proofs.Rows.{below_by}
-use Rattle.table_passes.proofs.Tests.{iff, and_same, all_and, same-below}
-use Rattle.table_passes.proofs.Rows.{jobs-all, functions-all, ids_all, functions-length, connections-length}
+use Rattle.table_passes.proofs.Tests.{iff, and_same, all_and, same_below}
+use Rattle.table_passes.proofs.Rows.{jobs_all, functions_all, ids_all, functions_length, connections_length}
 use Rattle.check_image.proofs.Places.{empty_text}
 use Rattle.check_rows.specs.Rows.{numbers_mean, is_awaited, rows_mean}
 use Rattle.check_survey.specs.Surveyed.{free_or_job}
@@ -58,7 +58,7 @@ text_fits k b at = and_both (leb (length (text_at k b at)) k) _ (le-leb (length 
 
 names_within_lem : (b : Bytes) → names_within (table_of connection_count b) ≡ true
 names_within_lem b =
-    functions-all connection_count b (λ x. text_within name_size x.name) ∙ below_by (λ q. text_within name_size (function_in connection_count b q).name) function_count (λ q _. text_fits 32 b (names_at + name_size * q))
+    functions_all connection_count b (λ x. text_within name_size x.name) ∙ below_by (λ q. text_within name_size (function_in connection_count b q).name) function_count (λ q _. text_fits 32 b (names_at + name_size * q))
 
 ids_within_lem : (b : Bytes) → ids_within (table_of connection_count b) ≡ true
 ids_within_lem b =
@@ -102,14 +102,14 @@ live_row false a true = refl
 live_row false a false = refl
 
 module _ (b : Bytes) (long : table_size connection_count ≤ length b) where
-  job-rules : ℕ → Bool
-  job-rules k = (implies (live (row_in connection_count b k)) (text_within unique_size (job_in connection_count b k).unique && (stored_number (job_in connection_count b k).numerator && stored_number (job_in connection_count b k).denominator))
+  job_rules : ℕ → Bool
+  job_rules k = (implies (live (row_in connection_count b k)) (text_within unique_size (job_in connection_count b k).unique && (stored_number (job_in connection_count b k).numerator && stored_number (job_in connection_count b k).denominator))
       && cond (live (row_in connection_count b k)) (row_has_meaning (table_of connection_count b) (job_in connection_count b k)) (row_is_free (job_in connection_count b k))) && implies (queued (row_in connection_count b k)) ((row_in connection_count b k).background || not (is_empty (row_in connection_count b k).listeners))
 
-  one-job : (k : ℕ) → k < job_count → (numbers_mean (row_in connection_count b k) && is_awaited (row_in connection_count b k)) && (free_or_job b k && stored_at b k) ≡ job-rules k
-  unfolding job-rules
-  one-job k h =
-      rw (functions-length connection_count b, connections-length connection_count b, text_fits 64 b (uniques_at + unique_size * k), ← empty_text 63 b (uniques_at + unique_size * k) (omega arith)) (go (live (row_in connection_count b k)))
+  one_job_lem : (k : ℕ) → k < job_count → (numbers_mean (row_in connection_count b k) && is_awaited (row_in connection_count b k)) && (free_or_job b k && stored_at b k) ≡ job_rules k
+  unfolding job_rules
+  one_job_lem k h =
+      rw (functions_length connection_count b, connections_length connection_count b, text_fits 64 b (uniques_at + unique_size * k), ← empty_text 63 b (uniques_at + unique_size * k) (omega arith)) (go (live (row_in connection_count b k)))
     where
       go : (t : Bool) → (cond t (numbers_in_range function_count connection_count (row_in connection_count b k)) (numbers_free (row_in connection_count b k)) && is_awaited (row_in connection_count b k))
           && ((t || same (job_in connection_count b k).unique []) && cond t (stored_number (job_in connection_count b k).numerator && stored_number (job_in connection_count b k).denominator) (same (job_in connection_count b k).numerator [] && same (job_in connection_count b k).denominator []))
@@ -120,16 +120,16 @@ module _ (b : Bytes) (long : table_size connection_count ≤ length b) where
           free_row_lem (numbers_free (row_in connection_count b k)) (same (job_in connection_count b k).unique []) (same (job_in connection_count b k).numerator []) (same (job_in connection_count b k).denominator []) (is_awaited (row_in connection_count b k))
 
   -- the tests of all rows are the rules of all jobs
-  jobs-hold : rows_mean b && (all (free_or_job b) (numbers 0 job_count) && all (stored_at b) (numbers 0 job_count)) ≡ (texts_within (table_of connection_count b) && rows_have_meaning (table_of connection_count b)) && queued_awaited (table_of connection_count b)
-  unfolding rows_mean job-rules
-  jobs-hold =
+  jobs_hold : rows_mean b && (all (free_or_job b) (numbers 0 job_count) && all (stored_at b) (numbers 0 job_count)) ≡ (texts_within (table_of connection_count b) && rows_have_meaning (table_of connection_count b)) && queued_awaited (table_of connection_count b)
+  unfolding rows_mean job_rules
+  jobs_hold =
       and_same {a = all (λ k. numbers_mean (row_in connection_count b k) && is_awaited (row_in connection_count b k)) (numbers 0 job_count)} refl (sym (all_and (free_or_job b) (stored_at b) (numbers 0 job_count)))
       ∙ sym (all_and (λ k. numbers_mean (row_in connection_count b k) && is_awaited (row_in connection_count b k)) (λ k. free_or_job b k && stored_at b k) (numbers 0 job_count))
-      ∙ same-below (λ k. (numbers_mean (row_in connection_count b k) && is_awaited (row_in connection_count b k)) && (free_or_job b k && stored_at b k)) job-rules 32 one-job
+      ∙ same_below (λ k. (numbers_mean (row_in connection_count b k) && is_awaited (row_in connection_count b k)) && (free_or_job b k && stored_at b k)) job_rules 32 one_job_lem
       ∙ all_and (λ k. texts k && meaning k) awaited (numbers 0 job_count)
-      ∙ and_same (all_and texts meaning (numbers 0 job_count) ∙ and_same (sym (jobs-all connection_count b (λ j. implies (live j.row) (text_within unique_size j.unique && (stored_number j.numerator && stored_number j.denominator)))))
-      (sym (jobs-all connection_count b (λ j. cond (live j.row) (row_has_meaning (table_of connection_count b) j) (row_is_free j)))))
-      (sym (jobs-all connection_count b (λ j. implies (queued j.row) (j.row.background || not (is_empty j.row.listeners)))))
+      ∙ and_same (all_and texts meaning (numbers 0 job_count) ∙ and_same (sym (jobs_all connection_count b (λ j. implies (live j.row) (text_within unique_size j.unique && (stored_number j.numerator && stored_number j.denominator)))))
+      (sym (jobs_all connection_count b (λ j. cond (live j.row) (row_has_meaning (table_of connection_count b) j) (row_is_free j)))))
+      (sym (jobs_all connection_count b (λ j. implies (queued j.row) (j.row.background || not (is_empty j.row.listeners)))))
     where
       texts : ℕ → Bool
       texts k = implies (live (row_in connection_count b k)) (text_within unique_size (job_in connection_count b k).unique && (stored_number (job_in connection_count b k).numerator && stored_number (job_in connection_count b k).denominator))
@@ -145,63 +145,63 @@ module _ (b : Bytes) (long : table_size connection_count ≤ length b) where
 -- in the order of the check: flags of jobs and of connections, padded names, uniques and ids, ids of open connections, the hub's name padded
 -- and one; rows, uniques of free ones, serials below the last and distinct, connections, functions known as defined; padded numbers, stored
 -- ones, sizes, functions distinct, uniques of others. Then the three rules of any bytes and the three of whole jobs
-module _ (backgrounds flags names uniques ids ids-open hub hub-named rows free below distinct abilities listeners holders closed sleepers known numerators denominators stored sizes functions others next-serial names-within-places ids-within-places texts meaning awaited : Bool) (next : next-serial ≡ true) (names-fit : names-within-places ≡ true) (ids-fit : ids-within-places ≡ true) (whole-jobs : rows && (free && stored) ≡ (texts && meaning) && awaited) where
+module _ (backgrounds flags names uniques ids ids_open_lem hub hub_named_lem rows free below distinct abilities listeners holders closed sleepers known numerators denominators stored sizes functions others next_serial names_within_places ids_within_places texts meaning awaited : Bool) (next : next_serial ≡ true) (names_fit : names_within_places ≡ true) (ids_fit : ids_within_places ≡ true) (whole_jobs : rows && (free && stored) ≡ (texts && meaning) && awaited) where
   checked : Bool
-  checked = ((backgrounds && flags) && (names && (uniques && ((ids && ids-open) && (hub && hub-named))))) && ((rows && (free && ((below && distinct) && ((abilities && (listeners && (holders && (closed && sleepers)))) && known)))) && (((numerators && denominators) && stored) && (sizes && (functions && others))))
+  checked = ((backgrounds && flags) && (names && (uniques && ((ids && ids_open_lem) && (hub && hub_named_lem))))) && ((rows && (free && ((below && distinct) && ((abilities && (listeners && (holders && (closed && sleepers)))) && known)))) && (((numerators && denominators) && stored) && (sizes && (functions && others))))
 
   defined : Bool
   defined =
-      (backgrounds && (names && (uniques && (numerators && (denominators && (hub && (flags && ids))))))) && (next-serial && (below && (distinct && (names-within-places && (texts && (sizes && (meaning && (functions && (known && (abilities && (listeners && (holders && (closed && (awaited && (others && (sleepers && (ids-within-places && (ids-open && hub-named))))))))))))))))))
+      (backgrounds && (names && (uniques && (numerators && (denominators && (hub && (flags && ids))))))) && (next_serial && (below && (distinct && (names_within_places && (texts && (sizes && (meaning && (functions && (known && (abilities && (listeners && (holders && (closed && (awaited && (others && (sleepers && (ids_within_places && (ids_open_lem && hub_named_lem))))))))))))))))))
 
   to : checked ≡ true → defined ≡ true
   unfolding checked defined
   to h =
-      let byte_part = and_left ((backgrounds && flags) && (names && (uniques && ((ids && ids-open) && (hub && hub-named))))) _ h in
-      let both-flags = and_left (backgrounds && flags) (names && (uniques && ((ids && ids-open) && (hub && hub-named)))) byte_part in
-      let both-texts = and_right (backgrounds && flags) (names && (uniques && ((ids && ids-open) && (hub && hub-named)))) byte_part in
-      let x9 = and_right names (uniques && ((ids && ids-open) && (hub && hub-named))) both-texts in
-      let texts-by-place = and_right uniques ((ids && ids-open) && (hub && hub-named)) x9 in
-      let both-ids = and_left (ids && ids-open) (hub && hub-named) texts-by-place in
-      let both-hubs = and_right (ids && ids-open) (hub && hub-named) texts-by-place in
-      let rest = and_right ((backgrounds && flags) && (names && (uniques && ((ids && ids-open) && (hub && hub-named))))) _ h in
-      let number-part = and_left (rows && (free && ((below && distinct) && ((abilities && (listeners && (holders && (closed && sleepers)))) && known)))) _ rest in
+      let byte_part = and_left ((backgrounds && flags) && (names && (uniques && ((ids && ids_open_lem) && (hub && hub_named_lem))))) _ h in
+      let both_flags = and_left (backgrounds && flags) (names && (uniques && ((ids && ids_open_lem) && (hub && hub_named_lem)))) byte_part in
+      let both_texts = and_right (backgrounds && flags) (names && (uniques && ((ids && ids_open_lem) && (hub && hub_named_lem)))) byte_part in
+      let x9 = and_right names (uniques && ((ids && ids_open_lem) && (hub && hub_named_lem))) both_texts in
+      let texts_by_place = and_right uniques ((ids && ids_open_lem) && (hub && hub_named_lem)) x9 in
+      let both_ids = and_left (ids && ids_open_lem) (hub && hub_named_lem) texts_by_place in
+      let both_hubs = and_right (ids && ids_open_lem) (hub && hub_named_lem) texts_by_place in
+      let rest = and_right ((backgrounds && flags) && (names && (uniques && ((ids && ids_open_lem) && (hub && hub_named_lem))))) _ h in
+      let number_part = and_left (rows && (free && ((below && distinct) && ((abilities && (listeners && (holders && (closed && sleepers)))) && known)))) _ rest in
       let last = and_right (rows && (free && ((below && distinct) && ((abilities && (listeners && (holders && (closed && sleepers)))) && known)))) _ rest in
-      let x1 = and_right rows _ number-part in
+      let x1 = and_right rows _ number_part in
       let x2 = and_right free _ x1 in
       let serials = and_left (below && distinct) _ x2 in
       let x3 = and_right (below && distinct) ((abilities && (listeners && (holders && (closed && sleepers)))) && known) x2 in
-      let set-part = and_left (abilities && (listeners && (holders && (closed && sleepers)))) known x3 in
-      let x4 = and_right abilities _ set-part in
+      let set_part = and_left (abilities && (listeners && (holders && (closed && sleepers)))) known x3 in
+      let x4 = and_right abilities _ set_part in
       let x5 = and_right listeners _ x4 in
       let x6 = and_right holders (closed && sleepers) x5 in
-      let stored-part = and_left ((numerators && denominators) && stored) _ last in
-      let both-padded = and_left (numerators && denominators) stored stored-part in
+      let stored_part = and_left ((numerators && denominators) && stored) _ last in
+      let both_padded = and_left (numerators && denominators) stored stored_part in
       let x7 = and_right ((numerators && denominators) && stored) _ last in
       let x8 = and_right sizes (functions && others) x7 in
-      let whole : (texts && meaning) && awaited ≡ true = sym whole-jobs ∙ and_both rows (free && stored) (and_left rows _ number-part) (and_both free stored (and_left free _ x1) (and_right (numerators && denominators) stored stored-part)) in
+      let whole : (texts && meaning) && awaited ≡ true = sym whole_jobs ∙ and_both rows (free && stored) (and_left rows _ number_part) (and_both free stored (and_left free _ x1) (and_right (numerators && denominators) stored stored_part)) in
       let pair = and_left (texts && meaning) awaited whole in
       rw (
         next,
-        names-fit,
-        ids-fit,
-        and_left backgrounds flags both-flags,
-        and_right backgrounds flags both-flags,
-        and_left names _ both-texts,
-        and_left uniques ((ids && ids-open) && (hub && hub-named)) x9,
-        and_left ids ids-open both-ids,
-        and_right ids ids-open both-ids,
-        and_left hub hub-named both-hubs,
-        and_right hub hub-named both-hubs,
+        names_fit,
+        ids_fit,
+        and_left backgrounds flags both_flags,
+        and_right backgrounds flags both_flags,
+        and_left names _ both_texts,
+        and_left uniques ((ids && ids_open_lem) && (hub && hub_named_lem)) x9,
+        and_left ids ids_open_lem both_ids,
+        and_right ids ids_open_lem both_ids,
+        and_left hub hub_named_lem both_hubs,
+        and_right hub hub_named_lem both_hubs,
         and_left below distinct serials,
         and_right below distinct serials,
-        and_left abilities _ set-part,
+        and_left abilities _ set_part,
         and_left listeners _ x4,
         and_left holders (closed && sleepers) x5,
         and_left closed sleepers x6,
         and_right closed sleepers x6,
         and_right (abilities && (listeners && (holders && (closed && sleepers)))) known x3,
-        and_left numerators denominators both-padded,
-        and_right numerators denominators both-padded,
+        and_left numerators denominators both_padded,
+        and_right numerators denominators both_padded,
         and_left sizes (functions && others) x7,
         and_left functions others x8,
         and_right functions others x8,
@@ -221,10 +221,10 @@ module _ (backgrounds flags names uniques ids ids-open hub hub-named rows free b
       let i5 = and_right denominators (hub && (flags && ids)) i4 in
       let i6 = and_right hub (flags && ids) i5 in
       let x0 = and_right (backgrounds && (names && (uniques && (numerators && (denominators && (hub && (flags && ids))))))) _ h in
-      let x1 = and_right next-serial _ x0 in
+      let x1 = and_right next_serial _ x0 in
       let x2 = and_right below _ x1 in
       let x3 = and_right distinct _ x2 in
-      let x4 = and_right names-within-places _ x3 in
+      let x4 = and_right names_within_places _ x3 in
       let x5 = and_right texts _ x4 in
       let x6 = and_right sizes _ x5 in
       let x7 = and_right meaning _ x6 in
@@ -236,9 +236,9 @@ module _ (backgrounds flags names uniques ids ids-open hub hub-named rows free b
       let y3 = and_right closed _ y2 in
       let y4 = and_right awaited _ y3 in
       let y5 = and_right others _ y4 in
-      let y6 = and_right sleepers (ids-within-places && (ids-open && hub-named)) y5 in
-      let y7 = and_right ids-within-places (ids-open && hub-named) y6 in
-      let whole : rows && (free && stored) ≡ true = whole-jobs ∙ and_both (texts && meaning) awaited (and_both texts meaning (and_left texts _ x4) (and_left meaning _ x6)) (and_left awaited _ y3) in
+      let y6 = and_right sleepers (ids_within_places && (ids_open_lem && hub_named_lem)) y5 in
+      let y7 = and_right ids_within_places (ids_open_lem && hub_named_lem) y6 in
+      let whole : rows && (free && stored) ≡ true = whole_jobs ∙ and_both (texts && meaning) awaited (and_both texts meaning (and_left texts _ x4) (and_left meaning _ x6)) (and_left awaited _ y3) in
       let pair = and_right rows (free && stored) whole in
       rw (
         and_left backgrounds _ image,
@@ -259,9 +259,9 @@ module _ (backgrounds flags names uniques ids ids-open hub hub-named rows free b
         and_left holders _ y1,
         and_left closed _ y2,
         and_left others _ y4,
-        and_left sleepers (ids-within-places && (ids-open && hub-named)) y5,
-        and_left ids-open hub-named y7,
-        and_right ids-open hub-named y7,
+        and_left sleepers (ids_within_places && (ids_open_lem && hub_named_lem)) y5,
+        and_left ids_open_lem hub_named_lem y7,
+        and_right ids_open_lem hub_named_lem y7,
         and_left rows (free && stored) whole,
         and_left free stored pair,
         and_right free stored pair,
@@ -276,8 +276,8 @@ sound_is b small long =
     let t = table_of connection_count b in
     reorder (are_flags job_count b backgrounds_at) (are_flags (3 * connection_count) b (opened_at connection_count)) (are_padded name_size function_count b names_at) (are_padded unique_size job_count b uniques_at) (are_padded id_size connection_count b (ids_at connection_count)) (ids_open t) (is_padded hub_size b hub_at) (hub_named t) (rows_mean b) (all (free_or_job b) (numbers 0 job_count)) (serials_below t) (serials_distinct t)
     (abilities_open t) (listeners_open t) (holders_open t) (closed_clear t) (sleepers_idle t) (functions_as_defined t) (are_padded number_size job_count b numerators_at) (are_padded number_size job_count b denominators_at) (all (stored_at b) (numbers 0 job_count))
-    (sizes_within t) (functions_distinct t) (uniques_distinct t) (next_small t) (names_within t) (ids_within t) (texts_within t) (rows_have_meaning t) (queued_awaited t) (next_small_lem b small) (names_within_lem b) (ids_within_lem b) (jobs-hold b long)
-    ∙ ap (λ (x : Bool). x && obeys t) (sym (image-tests connection_count b small long))
+    (sizes_within t) (functions_distinct t) (uniques_distinct t) (next_small t) (names_within t) (ids_within t) (texts_within t) (rows_have_meaning t) (queued_awaited t) (next_small_lem b small) (names_within_lem b) (ids_within_lem b) (jobs_hold b long)
+    ∙ ap (λ (x : Bool). x && obeys t) (sym (image_tests_lem connection_count b small long))
 
 -- what the later parts ask of flags and texts
 pub each_of : (b : Bytes) → byte_rules b ≡ true → (are_flags job_count b backgrounds_at ≡ true) × (are_flags (3 * connection_count) b (opened_at connection_count) ≡ true) × (are_padded name_size function_count b names_at ≡ true) × (are_padded unique_size job_count b uniques_at ≡ true)

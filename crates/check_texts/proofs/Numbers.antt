@@ -19,7 +19,7 @@ use Rattle.server.specs.Table.{live}
 use Rattle.server.specs.Layout.{text_at, row_in, serials_at, numerators_at, denominators_at, table_size}
 use Rattle.server.specs.Rules.{stored_number}
 use Rattle.table_laws.specs.Tests.{part, is_padded, are_padded}
-use Rattle.table_passes.proofs.Tests.{or_none_lem, or_left, or_right, or_not, and_same, same-below, all_and, runs}
+use Rattle.table_passes.proofs.Tests.{or_none_lem, or_left, or_right, or_not, and_same, same_below, all_and, runs}
 use Rattle.check_image.specs.Padded.{after_end, last_or_followed}
 use Rattle.check_image.proofs.Places.{every_each, insides_padded}
 use Rattle.check_rows.proofs.Rows.{mark_none}
@@ -35,24 +35,24 @@ clean_at b at k = every digit_or_zero (part 10 b (at + 10 * k)) && is_padded num
 
 module _ (b : Bytes) (at : ℕ) (h : at + 320 ≤ length b) where
   -- zeros and digits, byte by byte and place by place
-  digits-each : all (λ k. digit_or_zero (get_or b (at + k) 0)) (numbers 0 320) ≡ all (λ k. every digit_or_zero (part 10 b (at + 10 * k))) (numbers 0 job_count)
-  digits-each =
+  digits_each : all (λ k. digit_or_zero (get_or b (at + k) 0)) (numbers 0 320) ≡ all (λ k. every digit_or_zero (part 10 b (at + 10 * k))) (numbers 0 job_count)
+  digits_each =
       runs (λ k. digit_or_zero (get_or b (at + k) 0)) 10 32
-      ∙ same-below (λ k. all (λ j. digit_or_zero (get_or b (at + (10 * k + j)) 0)) (numbers 0 10)) (λ k. every digit_or_zero (part 10 b (at + 10 * k))) 32
+      ∙ same_below (λ k. all (λ j. digit_or_zero (get_or b (at + (10 * k + j)) 0)) (numbers 0 10)) (λ k. every digit_or_zero (part 10 b (at + 10 * k))) 32
       (λ k g.
-      same-below (λ j. digit_or_zero (get_or b (at + (10 * k + j)) 0)) (λ j. digit_or_zero (get_or b (at + 10 * k + j) 0)) 10
+      same_below (λ j. digit_or_zero (get_or b (at + (10 * k + j)) 0)) (λ j. digit_or_zero (get_or b (at + 10 * k + j) 0)) 10
       (λ j _. ap (λ (x : ℕ). digit_or_zero (get_or b x 0)) (sym (add_assoc at (10 * k) j)))
       ∙ sym (every_each digit_or_zero 10 b (at + 10 * k) (omega arith)))
 
   -- padded, byte by byte and place by place
-  followed-each : all (last_or_followed lasts_of10 b at) (numbers 0 320) ≡ all (λ k. is_padded number_size b (at + 10 * k)) (numbers 0 job_count)
-  followed-each = insides_padded 9 b at 0 32 (omega arith)
+  followed_each : all (last_or_followed lasts_of10 b at) (numbers 0 320) ≡ all (λ k. is_padded number_size b (at + 10 * k)) (numbers 0 job_count)
+  followed_each = insides_padded 9 b at 0 32 (omega arith)
 
   -- both
-  clean-each : all (digit_padded lasts_of10 b at) (numbers 0 320) ≡ all (clean_at b at) (numbers 0 job_count)
-  clean-each =
+  clean_each : all (digit_padded lasts_of10 b at) (numbers 0 320) ≡ all (clean_at b at) (numbers 0 job_count)
+  clean_each =
       all_and (last_or_followed lasts_of10 b at) (λ k. digit_or_zero (get_or b (at + k) 0)) (numbers 0 320)
-      ∙ and_same followed-each digits-each
+      ∙ and_same followed_each digits_each
       ∙ and_swap (all (λ k. is_padded number_size b (at + 10 * k)) (numbers 0 job_count)) (all (λ k. every digit_or_zero (part 10 b (at + 10 * k))) (numbers 0 job_count))
       ∙ sym (all_and (λ k. every digit_or_zero (part 10 b (at + 10 * k))) (λ k. is_padded number_size b (at + 10 * k)) (numbers 0 job_count))
 
@@ -69,12 +69,12 @@ module _ (b : Bytes) (marks : List ℕ) (marked : Marked 4 b serials_at marks) (
       ∙ sym (stored_place (eqb (row_in connection_count b k).serial 0) b (at + 10 * k) (omega arith))
 
   -- all places of the column
-  column-kept : all (begins_at marks b at) (numbers 0 job_count) && all (digit_padded lasts_of10 b at) (numbers 0 320) ≡ all (kept_at b at) (numbers 0 job_count) && are_padded number_size job_count b at
+  column_kept : all (begins_at marks b at) (numbers 0 job_count) && all (digit_padded lasts_of10 b at) (numbers 0 320) ≡ all (kept_at b at) (numbers 0 job_count) && are_padded number_size job_count b at
   unfolding are_padded
-  column-kept =
-      ap (λ (x : Bool). all (begins_at marks b at) (numbers 0 job_count) && x) (clean-each b at h)
+  column_kept =
+      ap (λ (x : Bool). all (begins_at marks b at) (numbers 0 job_count) && x) (clean_each b at h)
       ∙ sym (all_and (begins_at marks b at) (clean_at b at) (numbers 0 job_count))
-      ∙ same-below (λ k. begins_at marks b at k && clean_at b at k) (λ k. kept_at b at k && is_padded number_size b (at + 10 * k)) 32 place_kept
+      ∙ same_below (λ k. begins_at marks b at k && clean_at b at k) (λ k. kept_at b at k && is_padded number_size b (at + 10 * k)) 32 place_kept
       ∙ all_and (kept_at b at) (λ k. is_padded number_size b (at + 10 * k)) (numbers 0 job_count)
 
 -- ---- both columns
@@ -86,7 +86,7 @@ cond_and false a b c d = refl
 -- the rule on texts, column by column
 kept_both : (b : Bytes) → all (stored_at b) (numbers 0 job_count) ≡ all (kept_at b numerators_at) (numbers 0 job_count) && all (kept_at b denominators_at) (numbers 0 job_count)
 kept_both b =
-    same-below (stored_at b) (λ k. kept_at b numerators_at k && kept_at b denominators_at k) 32
+    same_below (stored_at b) (λ k. kept_at b numerators_at k && kept_at b denominators_at k) 32
     (λ k _. cond_and (live (row_in connection_count b k)) (stored_number (text_at number_size b (numerators_at + number_size * k))) (stored_number (text_at number_size b (denominators_at + number_size * k)))
     (same (text_at number_size b (numerators_at + number_size * k)) []) (same (text_at number_size b (denominators_at + number_size * k)) []))
     ∙ all_and (kept_at b numerators_at) (kept_at b denominators_at) (numbers 0 job_count)
@@ -116,7 +116,7 @@ stored_hold b marks marked long p q r ep eq er =
     let r' = all (digit_padded lasts_of10 b numerators_at) (numbers 0 320) in
     let s' = all (digit_padded lasts_of10 b denominators_at) (numbers 0 320) in
     and_same ep (and_same eq er) ∙ pair_up p' q' r' s'
-    ∙ and_same (column-kept b marks marked numerators_at (omega arith)) (column-kept b marks marked denominators_at (omega arith))
+    ∙ and_same (column_kept b marks marked numerators_at (omega arith)) (column_kept b marks marked denominators_at (omega arith))
     ∙ pair_off (all (kept_at b numerators_at) (numbers 0 job_count)) (are_padded number_size job_count b numerators_at) (all (kept_at b denominators_at) (numbers 0 job_count)) (are_padded number_size job_count b denominators_at)
     ∙ ap (λ (x : Bool). (are_padded number_size job_count b numerators_at && are_padded number_size job_count b denominators_at) && x) (sym (kept_both b))
 
@@ -148,8 +148,8 @@ last_mask k g = below_at (λ k. not (eqb (k % 10) 9) || not (eqb (get_or lasts_o
 -- a column whose places begin with a digit or a zero and go on with zeros
 module _ (b : Bytes) (at : ℕ) (first : Begun b at) (zero : (k : ℕ) → k < 320 → eqb (k % 10) 0 ≡ false → eqb (get_or b (at + k) 0) 0 ≡ true) where
   -- each byte is a digit or a zero
-  right-at : (k : ℕ) → k < 320 → digit_or_zero (get_or b (at + k) 0) ≡ true
-  right-at k g = go (eqb (k % 10) 0) refl
+  right_at : (k : ℕ) → k < 320 → digit_or_zero (get_or b (at + k) 0) ≡ true
+  right_at k g = go (eqb (k % 10) 0) refl
     where
       go : (t : Bool) → eqb (k % 10) 0 ≡ t → digit_or_zero (get_or b (at + k) 0) ≡ true
       go true e =
@@ -159,8 +159,8 @@ module _ (b : Bytes) (at : ℕ) (first : Begun b at) (zero : (k : ℕ) → k < 3
       go false e = or_left (eqb (get_or b (at + k) 0) 0) (is_digit (get_or b (at + k) 0)) (zero k g e)
 
   -- each byte but the last of its place is followed by a zero
-  followed-at : (k : ℕ) → k < 320 → last_or_followed lasts_of10 b at k ≡ true
-  followed-at k g = go (eqb (k % 10) 9) refl
+  followed_at : (k : ℕ) → k < 320 → last_or_followed lasts_of10 b at k ≡ true
+  followed_at k g = go (eqb (k % 10) 9) refl
     where
       go : (t : Bool) → eqb (k % 10) 9 ≡ t → last_or_followed lasts_of10 b at k ≡ true
       go true e = or_left (not (eqb (get_or lasts_of10 k 0) 0)) (not (eqb (get_or b (at + k) 0) 0) || eqb (get_or b (at + k + 1) 0) 0)
@@ -174,8 +174,8 @@ module _ (b : Bytes) (at : ℕ) (first : Begun b at) (zero : (k : ℕ) → k < 3
           (or_right (not (eqb (get_or b (at + k) 0) 0)) (eqb (get_or b (at + k + 1) 0) 0) z)
 
   -- so the column passes
-  alone-column : all (digit_padded lasts_of10 b at) (numbers 0 320) ≡ true
-  alone-column = below_by (digit_padded lasts_of10 b at) 320 (λ k g. and_both (last_or_followed lasts_of10 b at k) (digit_or_zero (get_or b (at + k) 0)) (followed-at k g) (right-at k g))
+  alone_column : all (digit_padded lasts_of10 b at) (numbers 0 320) ≡ true
+  alone_column = below_by (digit_padded lasts_of10 b at) 320 (λ k g. and_both (last_or_followed lasts_of10 b at k) (digit_or_zero (get_or b (at + k) 0)) (followed_at k g) (right_at k g))
 
 -- a byte of either column that is not the first of its place
 pub not_first : (f x y s : ℕ) → s ≡ after_end f (bit_or x y) → eqb s 0 ≡ not (eqb f 0) || (eqb x 0 && eqb y 0)
@@ -190,8 +190,8 @@ pub one_digit_each : (b : Bytes) → Begun b numerators_at → Begun b denominat
     → true ≡ all (digit_padded lasts_of10 b numerators_at) (numbers 0 320) && all (digit_padded lasts_of10 b denominators_at) (numbers 0 320)
 one_digit_each b f g e =
     sym (and_both (all (digit_padded lasts_of10 b numerators_at) (numbers 0 320)) (all (digit_padded lasts_of10 b denominators_at) (numbers 0 320))
-    (alone-column b numerators_at f (λ k h n. and_left (eqb (get_or b (numerators_at + k) 0) 0) (eqb (get_or b (denominators_at + k) 0) 0) (both k h n)))
-    (alone-column b denominators_at g (λ k h n. and_right (eqb (get_or b (numerators_at + k) 0) 0) (eqb (get_or b (denominators_at + k) 0) 0) (both k h n))))
+    (alone_column b numerators_at f (λ k h n. and_left (eqb (get_or b (numerators_at + k) 0) 0) (eqb (get_or b (denominators_at + k) 0) 0) (both k h n)))
+    (alone_column b denominators_at g (λ k h n. and_right (eqb (get_or b (numerators_at + k) 0) 0) (eqb (get_or b (denominators_at + k) 0) 0) (both k h n))))
   where
     both : (k : ℕ) → k < 320 → eqb (k % 10) 0 ≡ false → eqb (get_or b (numerators_at + k) 0) 0 && eqb (get_or b (denominators_at + k) 0) 0 ≡ true
     both k h n =

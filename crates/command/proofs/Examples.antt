@@ -21,41 +21,41 @@ module _ (t : Table) where
   unfolding text_for says same
   empty_line = refl
 
-  upper-case : text_for (text "STATUS\n") t ≡ text "ERR unknown\n"
+  upper_case : text_for (text "STATUS\n") t ≡ text "ERR unknown\n"
   unfolding text_for says same
-  upper-case = refl
+  upper_case = refl
 
-  no-line-feed : text_for (text "status") t ≡ text "ERR unknown\n"
+  no_line_feed : text_for (text "status") t ≡ text "ERR unknown\n"
   unfolding text_for says same
-  no-line-feed = refl
+  no_line_feed = refl
 
   return_alone : text_for (text "status\r") t ≡ text "ERR unknown\n"
   unfolding text_for says same
   return_alone = refl
 
-  two-returns : text_for (text "status\r\r\n") t ≡ text "ERR unknown\n"
+  two_returns : text_for (text "status\r\r\n") t ≡ text "ERR unknown\n"
   unfolding text_for says same
-  two-returns = refl
+  two_returns = refl
 
-  line-feed-inside : text_for (text "stat\nus\n") t ≡ text "ERR unknown\n"
+  line_feed_inside : text_for (text "stat\nus\n") t ≡ text "ERR unknown\n"
   unfolding text_for says same
-  line-feed-inside = refl
+  line_feed_inside = refl
 
-  bytes-behind : text_for (text "status\nx") t ≡ text "ERR unknown\n"
+  bytes_behind : text_for (text "status\nx") t ≡ text "ERR unknown\n"
   unfolding text_for says same
-  bytes-behind = refl
+  bytes_behind = refl
 
-  two-lines : text_for (text "status\n\n") t ≡ text "ERR unknown\n"
+  two_lines : text_for (text "status\n\n") t ≡ text "ERR unknown\n"
   unfolding text_for says same
-  two-lines = refl
+  two_lines = refl
 
-  space-behind : text_for (text "version \n") t ≡ text "ERR unknown\n"
+  space_behind : text_for (text "version \n") t ≡ text "ERR unknown\n"
   unfolding text_for says same
-  space-behind = refl
+  space_behind = refl
 
-  line-feed-alone : text_for (text "\n") t ≡ text "ERR unknown\n"
+  line_feed_alone : text_for (text "\n") t ≡ text "ERR unknown\n"
   unfolding text_for says same
-  line-feed-alone = refl
+  line_feed_alone = refl
 
 -- ---- a table
 

@@ -16,22 +16,22 @@ use Rattle.command.specs.Order.{before}
 -- ---- by the first bytes
 
 module _ (x y : ℕ) (s t : Bytes) where
-  pub before-lower : x < y → before (x ∷ s) (y ∷ t) ≡ true
+  pub before_lower : x < y → before (x ∷ s) (y ∷ t) ≡ true
   unfolding before
-  before-lower h = rw (lt-ltb x y h)
+  before_lower h = rw (lt-ltb x y h)
 
-  pub before-higher : y < x → before (x ∷ s) (y ∷ t) ≡ false
+  pub before_higher : y < x → before (x ∷ s) (y ∷ t) ≡ false
   unfolding before
-  before-higher h = rw (le-ltb x y (omega arith), ne_eqb x y (λ e. omega arith))
+  before_higher h = rw (le-ltb x y (omega arith), ne_eqb x y (λ e. omega arith))
 
-  pub before-equal : x ≡ y → before (x ∷ s) (y ∷ t) ≡ before s t
+  pub before_equal : x ≡ y → before (x ∷ s) (y ∷ t) ≡ before s t
   unfolding before
-  before-equal e = rw (le-ltb x y (omega arith), eq-eqb x y e)
+  before_equal e = rw (le-ltb x y (omega arith), eq-eqb x y e)
 
   -- why the one comes before the other
-  pub before-why : before (x ∷ s) (y ∷ t) ≡ true → (x < y) ⊎ ((x ≡ y) × (before s t ≡ true))
+  pub before_why : before (x ∷ s) (y ∷ t) ≡ true → (x < y) ⊎ ((x ≡ y) × (before s t ≡ true))
   unfolding before
-  before-why e = go (ltb x y) refl e
+  before_why e = go (ltb x y) refl e
     where
       go : (b : Bool) → ltb x y ≡ b → b || (eqb x y && before s t) ≡ true → (x < y) ⊎ ((x ≡ y) × (before s t ≡ true))
       go true l h = inl (ltb-true x y l)
@@ -42,7 +42,7 @@ module _ (x y : ℕ) (s t : Bytes) where
 pub before_self : (s : Bytes) → before s s ≡ false
 unfolding before
 before_self [] = refl
-before_self (x ∷ s) = before-equal x x s s refl ∙ before_self s
+before_self (x ∷ s) = before_equal x x s s refl ∙ before_self s
 
 pub before_chain : (s t u : Bytes) → before s t ≡ true → before t u ≡ true → before s u ≡ true
 unfolding before
@@ -51,10 +51,10 @@ before_chain s [] (z ∷ u) e f = clash e refl
 before_chain [] (y ∷ t) (z ∷ u) e f = refl
 before_chain (x ∷ s) (y ∷ t) (z ∷ u) e f =
     ⊎_elim
-    (λ h. ⊎_elim (λ k. before-lower x z s u (omega arith)) (λ k. before-lower x z s u (omega (arith, k.0))) (before-why y z t u f))
-    (λ h. ⊎_elim (λ k. before-lower x z s u (omega (arith, h.0)))
-    (λ k. before-equal x z s u (h.0 ∙ k.0) ∙ before_chain s t u h.1 k.1) (before-why y z t u f))
-    (before-why x y s t e)
+    (λ h. ⊎_elim (λ k. before_lower x z s u (omega arith)) (λ k. before_lower x z s u (omega (arith, k.0))) (before_why y z t u f))
+    (λ h. ⊎_elim (λ k. before_lower x z s u (omega (arith, h.0)))
+    (λ k. before_equal x z s u (h.0 ∙ k.0) ∙ before_chain s t u h.1 k.1) (before_why y z t u f))
+    (before_why x y s t e)
 
 pub before_either : (s t : Bytes) → same s t ≡ false → before s t ≡ false → before t s ≡ true
 unfolding before same
@@ -66,11 +66,11 @@ before_either (x ∷ s) (y ∷ t) d e = go (ltb x y) (eqb x y) refl refl d e (be
     go : (b c : Bool) → ltb x y ≡ b → eqb x y ≡ c → c && same s t ≡ false → b || (c && before s t) ≡ false
         → (same s t ≡ false → before s t ≡ false → before t s ≡ true) → before (y ∷ t) (x ∷ s) ≡ true
     go true c l q g h r = clash refl h
-    go false true l q g h r = before-equal y x t s (sym (eqb-true x y q)) ∙ r g h
+    go false true l q g h r = before_equal y x t s (sym (eqb-true x y q)) ∙ r g h
     go false false l q g h r =
         let n : x ≡ y → ⊥ = eqb-false x y q in
         let m = ltb-false x y l in
-        before-lower y x t s (omega arith)
+        before_lower y x t s (omega arith)
 
 -- not both ways
 pub before_one_way : (s t : Bytes) → before s t ≡ true → before t s ≡ false

@@ -20,12 +20,12 @@ use Rattle.server.specs.Rules.{is_known, is_open}
 use Rattle.server.specs.Events.{is_connection}
 use Rattle.server.specs.Layout.{table_of, connection_in, function_in}
 use Rattle.server.specs.Call.{too_short, is_sound, refused_by}
-use Rattle.table_laws.proofs.Columns.{length-places}
+use Rattle.table_laws.proofs.Columns.{length_places}
 use Rattle.command.specs.Order.{in_order}
 use Rattle.command.specs.Texts.{able_of, functions_of, held_of, jobs_of, says, spaced, status_line, status_text, text_for, workers_line, workers_text}
 use Rattle.command.specs.Say.{told, say}
-use Rattle.command_laws.proofs.Rising.{listed-all}
-use Rattle.command_laws.proofs.Rules.{Printable, sound_prints, id-short, name_short}
+use Rattle.command_laws.proofs.Rising.{listed_all}
+use Rattle.command_laws.proofs.Rules.{Printable, sound_prints, id_short, name_short}
 
 -- ---- lists
 
@@ -53,52 +53,52 @@ abbrev workers_room : ℕ
 workers_room = id_size + suc name_size * function_count + 16
 
 module _ (t : Table) (p : Printable t) where
-  name-printed : (q : ℕ) → length (printed (function_at t q).name) ≤ name_size
-  name-printed q = rw length_printed (name_short t p q)
+  name_printed : (q : ℕ) → length (printed (function_at t q).name) ≤ name_size
+  name_printed q = rw length_printed (name_short t p q)
 
-  id-printed : (c : ℕ) → length (printed_or (text "-") (id_at t c)) ≤ id_size
+  id_printed : (c : ℕ) → length (printed_or (text "-") (id_at t c)) ≤ id_size
   unfolding printed_or
-  id-printed c = go (id_at t c) (id-short t p c)
+  id_printed c = go (id_at t c) (id_short t p c)
     where
       go : (i : Bytes) → length i ≤ id_size → length (printed_or (text "-") i) ≤ id_size
       go [] h = omega arith
       go (x ∷ i) h = rw length_printed h
 
-  status-line-short : (q : ℕ) → length (status_line t q) ≤ status_room
+  status_line_short : (q : ℕ) → length (status_line t q) ≤ status_room
   unfolding status_line
-  status-line-short q =
-      simp length-append (omega (arith, name-printed q, decimal_most (jobs_of t q), decimal_most (held_of t q), decimal_most (able_of t q)))
+  status_line_short q =
+      simp length-append (omega (arith, name_printed q, decimal_most (jobs_of t q), decimal_most (held_of t q), decimal_most (able_of t q)))
 
   module _ (few : length t.functions ≡ function_count) where
-    listed-few : length (in_order t.functions) ≤ function_count
-    listed-few = omega (arith, listed-all t.functions, filter_short is_known t.functions)
+    listed_few : length (in_order t.functions) ≤ function_count
+    listed_few = omega (arith, listed_all t.functions, filter_short is_known t.functions)
 
-    functions-few : (c : ℕ) → length (functions_of t c) ≤ function_count
+    functions_few : (c : ℕ) → length (functions_of t c) ≤ function_count
     unfolding functions_of
-    functions-few c = omega (arith, listed-few, filter_short (λ q. has (function_at t q).able c) (in_order t.functions))
+    functions_few c = omega (arith, listed_few, filter_short (λ q. has (function_at t q).able c) (in_order t.functions))
 
-    workers-line-short : (c : ℕ) → length (workers_line t c) ≤ workers_room
+    workers_line_short : (c : ℕ) → length (workers_line t c) ≤ workers_room
     unfolding workers_line
-    workers-line-short c =
+    workers_line_short c =
         simp length-append (omega (
           arith,
           decimal_most c,
-          id-printed c,
-          functions-few c,
-          spaced_short (λ q. printed (function_at t q).name) name_size name-printed (text ":") (functions_of t c),
+          id_printed c,
+          functions_few c,
+          spaced_short (λ q. printed (function_at t q).name) name_size name_printed (text ":") (functions_of t c),
         ))
 
-    status-short : length (status_text t) ≤ status_room * function_count + 2
+    status_short : length (status_text t) ≤ status_room * function_count + 2
     unfolding status_text
-    status-short = rw length-append (omega (arith, listed-few, concat_short (status_line t) status_room status-line-short (in_order t.functions)))
+    status_short = rw length-append (omega (arith, listed_few, concat_short (status_line t) status_room status_line_short (in_order t.functions)))
 
-    workers-short : length (workers_text t) ≤ workers_room * length t.connections + 2
+    workers_short : length (workers_text t) ≤ workers_room * length t.connections + 2
     unfolding workers_text
-    workers-short =
+    workers_short =
         let cs : List ℕ = filter (is_open t) (numbers 0 (length t.connections)) in
         rw length-append (omega (
           arith,
-          concat_short (workers_line t) workers_room workers-line-short cs,
+          concat_short (workers_line t) workers_room workers_line_short cs,
           filter_short (is_open t) (numbers 0 (length t.connections)),
           length_numbers 0 (length t.connections),
         ))
@@ -108,24 +108,24 @@ module _ (t : Table) (p : Printable t) where
     unfolding text_for
     text_fits line =
         let Fits : Bytes → Type 0 = λ s. 1 + length s ≤ output_size (length t.connections) in
-        cond_both Fits (says (text "status") line) (omega (arith, status-short))
-        (cond_both Fits (says (text "workers") line) (omega (arith, workers-short))
+        cond_both Fits (says (text "status") line) (omega (arith, status_short))
+        (cond_both Fits (says (text "workers") line) (omega (arith, workers_short))
         (cond_both Fits (says (text "version") line) (omega arith) (omega arith)))
 
 -- ---- of lent bytes
 
 module _ (n : ℕ) (t : Bytes) where
-  connections-are : length (table_of n t).connections ≡ n
+  connections_are : length (table_of n t).connections ≡ n
   unfolding table_of
-  connections-are = length-places (connection_in n t) 0 n
+  connections_are = length_places (connection_in n t) 0 n
 
-  functions-are : length (table_of n t).functions ≡ function_count
+  functions_are : length (table_of n t).functions ≡ function_count
   unfolding table_of
-  functions-are = length-places (function_in n t) 0 function_count
+  functions_are = length_places (function_in n t) 0 function_count
 
-  pub text-room : is_sound n t ≡ true → (c : ℕ) (line : Bytes) → length (c ∷ text_for line (table_of n t)) ≤ output_size n
-  text-room sound c line =
-      let f : 1 + length (text_for line (table_of n t)) ≤ output_size n = rw connections-are at (text_fits (table_of n t) (sound_prints n t sound) functions-are line) in
+  pub text_room : is_sound n t ≡ true → (c : ℕ) (line : Bytes) → length (c ∷ text_for line (table_of n t)) ≤ output_size n
+  text_room sound c line =
+      let f : 1 + length (text_for line (table_of n t)) ≤ output_size n = rw connections_are at (text_fits (table_of n t) (sound_prints n t sound) functions_are line) in
       omega arith
 
 -- what the text entry reports
@@ -139,4 +139,4 @@ say_fits n c line t w o = by (too_short n t w o) (is_sound n t) refl (is_connect
     by false false e y v = omega arith
     by false true e false v = omega arith
     by false true e true false = omega arith
-    by false true e true true = text-room n t e c line
+    by false true e true true = text_room n t e c line

@@ -14,7 +14,7 @@ use Rattle.lists.specs.Lists.{filter}
 use Rattle.server.specs.declared.JobRow.{JobRow}
 use Rattle.server.specs.Table.{Table, function_at, rows_of, live, queued, names}
 use Rattle.command.specs.Texts.{is_held, jobs_of, held_of, able_of}
-use Rattle.command_laws.proofs.Rules.{Printable, able-small}
+use Rattle.command_laws.proofs.Rules.{Printable, able_small}
 
 -- a job of the function at place q that waits in the queue
 abbrev pub waits : ℕ → JobRow → Bool
@@ -40,4 +40,4 @@ jobs_counted t q = parted q (rows_of t)
 -- 01: "able connections are a set in one unsigned number; its ones are counted for the status line"
 pub able_counted : (t : Table) → Printable t → (q : ℕ) → ones (function_at t q).able ≡ able_of t q
 unfolding able_of
-able_counted t h q = ones_members (length t.connections) (function_at t q).able (able-small t h q)
+able_counted t h q = ones_members (length t.connections) (function_at t q).able (able_small t h q)

@@ -24,29 +24,29 @@ unknown_text = text "ERR unknown" ++ line_feed
 -- ---- the commands
 
 module _ (t : Table) where
-  pub status-told : text_for (text "status" ++ line_feed) t ≡ status_text t
+  pub status_told : text_for (text "status" ++ line_feed) t ≡ status_text t
   unfolding text_for says same
-  status-told = refl
+  status_told = refl
 
-  pub status-told-return : text_for (text "status" ++ (carriage_return ++ line_feed)) t ≡ status_text t
+  pub status_told_return : text_for (text "status" ++ (carriage_return ++ line_feed)) t ≡ status_text t
   unfolding text_for says same
-  status-told-return = refl
+  status_told_return = refl
 
-  pub workers-told : text_for (text "workers" ++ line_feed) t ≡ workers_text t
+  pub workers_told : text_for (text "workers" ++ line_feed) t ≡ workers_text t
   unfolding text_for says same
-  workers-told = refl
+  workers_told = refl
 
-  pub workers-told-return : text_for (text "workers" ++ (carriage_return ++ line_feed)) t ≡ workers_text t
+  pub workers_told_return : text_for (text "workers" ++ (carriage_return ++ line_feed)) t ≡ workers_text t
   unfolding text_for says same
-  workers-told-return = refl
+  workers_told_return = refl
 
-  pub version-told : text_for (text "version" ++ line_feed) t ≡ version_text
+  pub version_told : text_for (text "version" ++ line_feed) t ≡ version_text
   unfolding text_for says same
-  version-told = refl
+  version_told = refl
 
-  pub version-told-return : text_for (text "version" ++ (carriage_return ++ line_feed)) t ≡ version_text
+  pub version_told_return : text_for (text "version" ++ (carriage_return ++ line_feed)) t ≡ version_text
   unfolding text_for says same
-  version-told-return = refl
+  version_told_return = refl
 
 -- ---- every other line
 
@@ -66,9 +66,9 @@ module _ (line : Bytes) (t : Table) where
       go false false false h = refl
 
   -- a command has at most nine bytes: no line of more needs a test of its own. 02: "lines of up to 128 bytes"
-  pub long-told : 9 < length line → text_for line t ≡ unknown_text
+  pub long_told : 9 < length line → text_for line t ≡ unknown_text
   unfolding says
-  long-told h =
+  long_told h =
       unknown_told
       (rw (
         same_lengths line (text "status" ++ line_feed) (λ e. omega arith),
@@ -80,9 +80,9 @@ module _ (line : Bytes) (t : Table) where
       ))
 
   -- 02: "with no line feed included"
-  pub unended-told : (get_or line (length line - 1) 0 ≡ 10 → ⊥) → text_for line t ≡ unknown_text
+  pub unended_told : (get_or line (length line - 1) 0 ≡ 10 → ⊥) → text_for line t ≡ unknown_text
   unfolding says
-  unended-told n =
+  unended_told n =
       let other : (s : Bytes) → get_or s (length s - 1) 0 ≡ 10 → same line s ≡ false = λ s e. never (same line s) (λ q. n (rw (same_is line s q) e)) in
       unknown_told
       (rw (

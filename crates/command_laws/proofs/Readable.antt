@@ -108,18 +108,18 @@ counted : (n : ℕ) (s : Bytes) → Readable s → Readable (tab ++ (decimal n +
 counted n s p = both tab (decimal n ++ s) a_tab (both (decimal n) s (number n) p)
 
 module _ (t : Table) where
-  status-line : (q : ℕ) → Readable (status_line t q)
+  status_line_lem : (q : ℕ) → Readable (status_line t q)
   unfolding status_line
-  status-line q =
+  status_line_lem q =
       both (printed (function_at t q).name) (tab ++ (decimal (jobs_of t q) ++ (tab ++ (decimal (held_of t q) ++ (tab ++ (decimal (able_of t q) ++ line_feed))))))
       (name (function_at t q).name)
       (counted (jobs_of t q) (tab ++ (decimal (held_of t q) ++ (tab ++ (decimal (able_of t q) ++ line_feed))))
       (counted (held_of t q) (tab ++ (decimal (able_of t q) ++ line_feed))
       (counted (able_of t q) line_feed a_feed)))
 
-  status-text : Readable (status_text t)
+  status_text_lem : Readable (status_text t)
   unfolding status_text
-  status-text = both (concat (map (status_line t) (in_order t.functions))) period_line (each (status_line t) status-line (in_order t.functions)) a_period
+  status_text_lem = both (concat (map (status_line t) (in_order t.functions))) period_line (each (status_line t) status_line_lem (in_order t.functions)) a_period
 
 -- ---- workers
 
@@ -133,9 +133,9 @@ apart g h w p [] = p
 apart g h w p (x ∷ l) = further w (spaced (g x ∷ map g l)) p (apart g h (g x) (h x) l)
 
 module _ (t : Table) where
-  workers-line : (c : ℕ) → Readable (workers_line t c)
+  workers_line_lem : (c : ℕ) → Readable (workers_line t c)
   unfolding workers_line
-  workers-line c =
+  workers_line_lem c =
       let id : Bytes = printed_or (text "-") (id_at t c) in
       let g : ℕ → Bytes = λ q. printed (function_at t q).name in
       let functions : Bytes = spaced (text ":" ∷ map g (functions_of t c)) in
@@ -146,17 +146,17 @@ module _ (t : Table) where
       (apart g (λ q. name (function_at t q).name) (text ":") a_colon (functions_of t c)))))
       a_feed
 
-  workers-text : Readable (workers_text t)
+  workers_text_lem : Readable (workers_text t)
   unfolding workers_text
-  workers-text =
+  workers_text_lem =
       let cs : List ℕ = filter (is_open t) (numbers 0 (length t.connections)) in
-      both (concat (map (workers_line t) cs)) period_line (each (workers_line t) workers-line cs) a_period
+      both (concat (map (workers_line t) cs)) period_line (each (workers_line t) workers_line_lem cs) a_period
 
 -- ---- any line
 
 pub text_readable : (line : Bytes) (t : Table) → every is_readable (text_for line t) ≡ true
 unfolding text_for
 text_readable line t =
-    cond_both Readable (says (text "status") line) (status-text t)
-    (cond_both Readable (says (text "workers") line) (workers-text t)
+    cond_both Readable (says (text "status") line) (status_text_lem t)
+    (cond_both Readable (says (text "workers") line) (workers_text_lem t)
     (cond_both Readable (says (text "version") line) a_version unknown))

@@ -39,13 +39,13 @@ module _ (t : Table) (h : Printable t) where
       leb-true (length (function_at t q).name) name_size
       (and_left (leb (length (function_at t q).name) name_size) _ (all_row (λ x. text_within name_size x.name) t.functions q no_function h.names refl))
 
-  pub id-short : (c : ℕ) → length (id_at t c) ≤ id_size
+  pub id_short : (c : ℕ) → length (id_at t c) ≤ id_size
   unfolding first_zero
-  id-short c = leb-true (length (id_at t c)) id_size (and_left (leb (length (id_at t c)) id_size) _ (all_row (text_within id_size) t.ids c [] h.ids refl))
+  id_short c = leb-true (length (id_at t c)) id_size (and_left (leb (length (id_at t c)) id_size) _ (all_row (text_within id_size) t.ids c [] h.ids refl))
 
   -- a set of connections is a number below 2 to the power of their count
-  pub able-small : (q : ℕ) → (function_at t q).able < 2 ^ length t.connections
-  able-small q =
+  pub able_small : (q : ℕ) → (function_at t q).able < 2 ^ length t.connections
+  able_small q =
       let n : ℕ = length t.connections in
       ltb-true _ (2 ^ n) (all_row (λ x. ltb x.able (2 ^ n)) t.functions q no_function
       (all_imp (λ x. only_open t x.able) (λ x. ltb x.able (2 ^ n)) (λ x e. and_left (ltb x.able (2 ^ n)) _ e) t.functions h.abilities)

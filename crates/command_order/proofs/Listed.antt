@@ -23,11 +23,11 @@ not_empty [] n = absurd (n refl)
 not_empty (y ∷ x) n = refl
 
 module _ (fs : List Function) (q : ℕ) (x : Bytes) (e : x ≡ name_at fs q) (l : List ℕ) where
-  pub place-skipped : length x ≡ 0 → l ≡ cond (is_named fs q) (placed fs q l) l
-  place-skipped h = let z : is_named fs q ≡ false = rw e at (empty x h) in rw z
+  pub place_skipped : length x ≡ 0 → l ≡ cond (is_named fs q) (placed fs q l) l
+  place_skipped h = let z : is_named fs q ≡ false = rw e at (empty x h) in rw z
 
-  pub place-put : (r : List ℕ) → (length x ≡ 0 → ⊥) → r ≡ placed fs q l → r ≡ cond (is_named fs q) (placed fs q l) l
-  place-put r n p = let z : is_named fs q ≡ true = rw e at (not_empty x n) in rw z p
+  pub place_put : (r : List ℕ) → (length x ≡ 0 → ⊥) → r ≡ placed fs q l → r ≡ cond (is_named fs q) (placed fs q l) l
+  place_put r n p = let z : is_named fs q ≡ true = rw e at (not_empty x n) in rw z p
 
 -- ---- all places
 
@@ -50,13 +50,13 @@ module _ (fs : List Function) where
       go false = refl
 
   module _ (m q : ℕ) (l : List ℕ) (e : l ≡ from q (m - q)) where
-    pub list-turn : 0 < q → q ≤ m → (r : List ℕ) → r ≡ cond (is_named fs (q - 1)) (placed fs (q - 1) l) l → r ≡ from (q - 1) (m - (q - 1))
-    list-turn h k r g =
+    pub list_turn : 0 < q → q ≤ m → (r : List ℕ) → r ≡ cond (is_named fs (q - 1)) (placed fs (q - 1) l) l → r ≡ from (q - 1) (m - (q - 1))
+    list_turn h k r g =
         let s : suc (q - 1) ≡ q = omega arith in
         let n : m - (q - 1) ≡ suc (m - q) = omega arith in
         let f : from (suc (q - 1)) (m - q) ≡ l = ap (λ (p : ℕ). from p (m - q)) s ∙ sym e in
         g ∙ sym (ap (from (q - 1)) n ∙ one_more (q - 1) (m - q) ∙ rw f)
 
-    pub list-end : q ≡ 0 → length fs ≡ m → l ≡ in_order fs
+    pub list_end : q ≡ 0 → length fs ≡ m → l ≡ in_order fs
     unfolding in_order
-    list-end z k = let n : m - q ≡ length fs = omega arith in e ∙ ap (from q) n ∙ ap (λ (p : ℕ). from p (length fs)) z
+    list_end z k = let n : m - q ≡ length fs = omega arith in e ∙ ap (from q) n ∙ ap (λ (p : ℕ). from p (length fs)) z

@@ -24,8 +24,8 @@ module _ {A : Type 0} (f : A → Bool) (l : List A) (p n : ℕ) (e : n ≡ lengt
       one true = refl
       one false = refl
 
-  pub count-end : length l ≤ p → n ≡ length (filter f l)
-  count-end h = e ∙ ap (λ (r : List A). length (filter f r)) (take_all p l h)
+  pub count_end : length l ≤ p → n ≡ length (filter f l)
+  count_end h = e ∙ ap (λ (r : List A). length (filter f r)) (take_all p l h)
 
 -- ---- what is counted
 
@@ -34,9 +34,9 @@ and_true true = refl
 and_true false = refl
 
 module _ (t : Table) (q : ℕ) (rows : List JobRow) (e : rows ≡ rows_of t) (n : ℕ) where
-  pub jobs-found : n ≡ length (filter (counted false q) rows) → n ≡ jobs_of t q
+  pub jobs_found : n ≡ length (filter (counted false q) rows) → n ≡ jobs_of t q
   unfolding jobs_of
-  jobs-found h = h ∙ ap (λ (r : List JobRow). length (filter (counted false q) r)) e ∙ (λ i. length (filter (λ r. and_true (names q r) i) (rows_of t)))
+  jobs_found h = h ∙ ap (λ (r : List JobRow). length (filter (counted false q) r)) e ∙ (λ i. length (filter (λ r. and_true (names q r) i) (rows_of t)))
 
   pub held_found : n ≡ length (filter (counted true q) rows) → n ≡ held_of t q
   unfolding held_of

@@ -13,13 +13,13 @@ use Rattle.server.specs.Table.{Function, Table, no_function, function_at, rows_o
 use Rattle.plan.specs.Values.{values_of}
 use Rattle.prints.specs.Pieces.{pieces}
 use Rattle.prints.specs.Printed.{printed}
-use Rattle.prints.proofs.Chosen.{chosen-pieces}
+use Rattle.prints.proofs.Chosen.{chosen_pieces}
 use Rattle.command.specs.Order.{in_order}
 use Rattle.command.specs.Texts.{period_line, status_line, status_text}
 use Rattle.command_laws.proofs.Rules.{Printable}
 use Rattle.command_laws.proofs.Counts.{able_counted}
 use Rattle.command_status.specs.Counts.{counted, counts_text}
-use Rattle.command_status.proofs.Counting.{held_found, jobs-found}
+use Rattle.command_status.proofs.Counting.{held_found, jobs_found}
 
 -- the set of able connections, read where it lies
 module _ (t : Table) (p : Printable t) (q : ℕ) where
@@ -29,7 +29,7 @@ module _ (t : Table) (p : Printable t) (q : ℕ) where
   unfolding status_line counts_text values_of
   line_is rows name jobs held able er en ej eh ea =
       let s : able ≡ (function_at t q).able = ea ∙ get_or-map (λ (x : Function). x.able) t.functions q no_function in
-      rw (en, jobs-found t q rows er jobs ej, held_found t q rows er held eh, s, able_counted t p q)
+      rw (en, jobs_found t q rows er jobs ej, held_found t q rows er held eh, s, able_counted t p q)
 
 -- ---- the lines
 
@@ -38,7 +38,7 @@ line_at t places i = status_line t (get_or places i 0)
 
 pub lines_are : (t : Table) (places : List ℕ) (count : ℕ) → count ≤ length places → pieces (line_at t places) count ≡ concat (map (status_line t) (take count places))
 lines_are t places count h =
-    chosen-pieces (λ q. true) (status_line t) places count h ∙ ap (λ (l : List ℕ). concat (map (status_line t) l)) (filter_all (take count places))
+    chosen_pieces (λ q. true) (status_line t) places count h ∙ ap (λ (l : List ℕ). concat (map (status_line t) l)) (filter_all (take count places))
 
 pub status_is : (t : Table) (l : List ℕ) → l ≡ in_order t.functions → concat (map (status_line t) l) ++ period_line ≡ status_text t
 unfolding status_text

@@ -16,7 +16,7 @@ use Rattle.plan.specs.Values.{values_of}
 use Rattle.plan.specs.Parts as P
 use Rattle.prints.specs.Pieces.{pieces}
 use Rattle.prints.specs.Printed.{printed, printed_or}
-use Rattle.prints.proofs.Chosen.{chosen-numbers, chosen-pieces}
+use Rattle.prints.proofs.Chosen.{chosen_numbers, chosen_pieces}
 use Rattle.command.specs.Order.{in_order}
 use Rattle.command.specs.Texts.{functions_of, period_line, spaced, workers_line, workers_text}
 use Rattle.command_workers.specs.Parts.{head_text, is_able, line_text, lines_text, name_text, names_text, open_text, spaced_name}
@@ -24,15 +24,15 @@ use Rattle.command_workers.specs.Parts.{head_text, is_able, line_text, lines_tex
 -- ---- one name, by what the code asks
 
 module _ (t : Table) (c q s : ℕ) (b : Bool) (es : s ≡ get_or (values_of t).able q 0) (eb : b ≡ has s c) where
-  able-is : b ≡ is_able t c q
+  able_is : b ≡ is_able t c q
   unfolding values_of
-  able-is = eb ∙ ap (λ (k : ℕ). has k c) (es ∙ get_or-map (λ (x : Function). x.able) t.functions q no_function)
+  able_is = eb ∙ ap (λ (k : ℕ). has k c) (es ∙ get_or-map (λ (x : Function). x.able) t.functions q no_function)
 
-  pub name-is : (name : Bytes) → name ≡ (function_at t q).name → b ≡ true → text " " ++ printed name ≡ name_text t c q
-  name-is name e h = rw (← able-is, h, e)
+  pub name_is : (name : Bytes) → name ≡ (function_at t q).name → b ≡ true → text " " ++ printed name ≡ name_text t c q
+  name_is name e h = rw (← able_is, h, e)
 
-  pub name-none : b ≡ false → [] ≡ name_text t c q
-  name-none h = rw (← able-is, h)
+  pub name_none : b ≡ false → [] ≡ name_text t c q
+  name_none h = rw (← able_is, h)
 
 -- ---- the names of the functions that are listed
 
@@ -41,7 +41,7 @@ name_for t c places i = name_text t c (get_or places i 0)
 
 pub names_are : (t : Table) (c : ℕ) (places : List ℕ) (count : ℕ) → count ≤ length places → pieces (name_for t c places) count ≡ names_text t (take count places) c
 unfolding names_text
-names_are t c places count h = chosen-pieces (is_able t c) (spaced_name t) places count h
+names_are t c places count h = chosen_pieces (is_able t c) (spaced_name t) places count h
 
 -- ---- a line
 
@@ -73,9 +73,9 @@ module _ (t : Table) (l : List ℕ) where
 
   pub lines_are : (n : ℕ) → length t.connections ≡ n → pieces (open_text t l) n ≡ lines_text t l
   unfolding lines_text
-  lines_are n e = rw e (chosen-numbers (is_open t) (line_text t l) n)
+  lines_are n e = rw e (chosen_numbers (is_open t) (line_text t l) n)
 
-  pub workers-is : l ≡ in_order t.functions → lines_text t l ++ period_line ≡ workers_text t
+  pub workers_is : l ≡ in_order t.functions → lines_text t l ++ period_line ≡ workers_text t
   unfolding lines_text workers_text
-  workers-is e =
+  workers_is e =
       rw e (λ i. concat (map (λ c. line_is t c i) (filter (is_open t) (numbers 0 (length t.connections)))) ++ period_line)

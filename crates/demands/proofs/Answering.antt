@@ -22,11 +22,11 @@ use Rattle.server.specs.Events.{error}
 use Rattle.server.specs.Server.{addressed, render, start}
 use Rattle.server.specs.Call.{Result, sent_bytes, call}
 use Rattle.server_laws.proofs.Refusals.{error_packet}
-use Rattle.server_calls.proofs.Refusals.{Refused, call-refused}
+use Rattle.server_calls.proofs.Refusals.{Refused, call_refused}
 use Rattle.demands.specs.Messages.{message_in, packets_in, told, message_of}
 use Rattle.demands.specs.Answered.{error_arguments, error_bytes, Answered, done, silent, tells}
-use Rattle.demands.proofs.ReadsBack.{reads-error}
-use Rattle.demands.proofs.Told.{messages-read}
+use Rattle.demands.proofs.ReadsBack.{reads_error}
+use Rattle.demands.proofs.Told.{messages_read}
 
 -- 9 to 15 have a text, 1 to 8 none
 told_nine : (k : ℕ) → k ≤ 15 → (is_told k ≡ true → 9 ≤ k) × (is_told k ≡ false → k ≤ 8)
@@ -44,7 +44,7 @@ error_bytes_lem c n = ap (λ (d : Bytes). c ∷ packet responses.magic 19 d) (ap
 
 error_reads : (c n : ℕ) → is_told n ≡ true → map message_in (packets_in (addressed (error_packet c n))) ≡ record { to = c; says = got 19 (error_arguments n) } ∷ []
 unfolding sent_bytes render message_of join
-error_reads c n h = ap (λ (b : Bytes). map message_in (packets_in b)) (sym (append-nil (addressed (error_packet c n)))) ∙ messages-read (sends c []) (start 0 []) (error c n ∷ []) (All.more (reads-error (sends c []) (start 0 []) c n h) All.none)
+error_reads c n h = ap (λ (b : Bytes). map message_in (packets_in b)) (sym (append-nil (addressed (error_packet c n)))) ∙ messages_read (sends c []) (start 0 []) (error c n ∷ []) (All.more (reads_error (sends c []) (start 0 []) c n h) All.none)
 
 -- a result whose output begins with it tells it
 tells_error : (r : Result) (o : Bytes) (c : ℕ) → r.length' ≡ length (error_bytes c r.number) → r.output ≡ error_bytes c r.number ++ drop (length (error_bytes c r.number)) o
@@ -56,8 +56,8 @@ tells_error r o c l p q =
     ∙ error_reads c r.number q
 
 module _ (n : ℕ) (e : Event) (t w o : Bytes) where
-  answered-refused : (r : Result) → ¬ (r.number ≡ 0) → Refused e t w o r → Answered e t w o r
-  answered-refused r z f = by (is_told r.number) refl
+  answered_refused : (r : Result) → ¬ (r.number ≡ 0) → Refused e t w o r → Answered e t w o r
+  answered_refused r z f = by (is_told r.number) refl
     where
       by : (b : Bool) → is_told r.number ≡ b → Answered e t w o r
       by false q =
@@ -72,9 +72,9 @@ module _ (n : ℕ) (e : Event) (t w o : Bytes) where
           (λ i. record { number = r.number; length' = l i; output = p i; table = f.table i; workloads = f.workloads i })
           (tells_error r o u.sender l p q)
 
-  pub call-answered : Answered e t w o (call n e t w o)
-  call-answered = by (ℕ_discrete (call n e t w o).number 0)
+  pub call_answered : Answered e t w o (call n e t w o)
+  call_answered = by (ℕ_discrete (call n e t w o).number 0)
     where
       by : Dec ((call n e t w o).number ≡ 0) → Answered e t w o (call n e t w o)
       by (yes z) = done z
-      by (no z) = answered-refused (call n e t w o) z (call-refused n e t w o z)
+      by (no z) = answered_refused (call n e t w o) z (call_refused n e t w o z)

@@ -36,8 +36,8 @@ pub record StatusRead (b h : Bytes) : Type 0 where
   pub first : h ≡ get_or args 0 []
 
 module _ (b : Bytes) where
-  pub work-read : (how : Work) (kind : ℕ) (h n d : Bytes) → request_in b ≡ work how kind h n d → WorkRead b kind h
-  work-read how kind h n d q = by (read requests b) refl (sym (request_read b) ∙ q)
+  pub work_read : (how : Work) (kind : ℕ) (h n d : Bytes) → request_in b ≡ work how kind h n d → WorkRead b kind h
+  work_read how kind h n d q = by (read requests b) refl (sym (request_read b) ∙ q)
     where
       by : (r : Reading) → read requests b ≡ r → from_reading r ≡ work how kind h n d → WorkRead b kind h
       by (refused m) e z = let y : ◌≡◌ {A = ℕ} 0 1 = cc in absurd (omega arith)
@@ -45,15 +45,15 @@ module _ (b : Bytes) where
           let (i, r, f) = subst (Named k (get_or args 0 []) (request_shape k) (response_shape k)) z (named k _ _ _) in
           record { args = args; reads = e ∙ ap (λ (m : ℕ). got m args) (sym i); shape = rw i r; first = f }
 
-  pub echo-read : request_in b ≡ echo → EchoRead b
-  echo-read q = by (read requests b) refl (sym (request_read b) ∙ q)
+  pub echo_read : request_in b ≡ echo → EchoRead b
+  echo_read q = by (read requests b) refl (sym (request_read b) ∙ q)
     where
       by : (r : Reading) → read requests b ≡ r → from_reading r ≡ echo → EchoRead b
       by (refused m) e z = let y : ◌≡◌ {A = ℕ} 0 1 = cc in absurd (omega arith)
       by (got k args) e z = record { kind = k; args = args; reads = e; shape = subst (Named k (get_or args 0 []) (request_shape k) (response_shape k)) z (named k _ _ _) }
 
-  pub status-read : (h : Bytes) → request_in b ≡ get_status h → StatusRead b h
-  status-read h q = by (read requests b) refl (sym (request_read b) ∙ q)
+  pub status_read : (h : Bytes) → request_in b ≡ get_status h → StatusRead b h
+  status_read h q = by (read requests b) refl (sym (request_read b) ∙ q)
     where
       by : (r : Reading) → read requests b ≡ r → from_reading r ≡ get_status h → StatusRead b h
       by (refused m) e z = let y : ◌≡◌ {A = ℕ} 0 1 = cc in absurd (omega arith)

@@ -11,7 +11,7 @@ use Rattle.octets.proofs.Strings.{and_left, and_right, and_both, same_is, same_r
 use Rattle.handle.specs.Handle.{handle}
 use Rattle.packet.specs.Layout.{is_own, request_shape}
 use Rattle.packet.specs.Packet.{requests}
-use Rattle.packet_laws.proofs.Packets.{read-got}
+use Rattle.packet_laws.proofs.Packets.{read_got}
 use Rattle.lists.specs.Lists.{any}
 use Rattle.lists.proofs.Cases.{All, all_more}
 use Rattle.lists.proofs.Rows.{clash, never, any_at, any_where}
@@ -23,7 +23,7 @@ use Rattle.server_laws.proofs.Packets.{Sends, why_sent}
 use Rattle.server_laws.proofs.Going.{best_found, grabbed_live, joined_found, joined_inside}
 use Rattle.demands.specs.Messages.{message_of, messages_of}
 use Rattle.demands.specs.Handles.{gives_handle, reading_gives, given, stands}
-use Rattle.demands.proofs.Arguments.{work-read}
+use Rattle.demands.proofs.Arguments.{work_read}
 
 -- ---- jobs by their handle
 
@@ -60,8 +60,8 @@ not_served_lem kind = go (eqb kind 8) refl (eqb kind 11) refl (eqb kind 31) refl
 
 work_gives_none : (b : Bytes) (how : Work) (kind : ℕ) (h n d : Bytes) → request_in b ≡ work how kind h n d → gives_handle kind ≡ false
 work_gives_none b how kind h n d q =
-    let r = work-read b how kind h n d q in
-    never (gives_handle kind) (λ g. clash (read-got requests b kind r.args r.reads).own (not_served_lem kind g))
+    let r = work_read b how kind h n d q in
+    never (gives_handle kind) (λ g. clash (read_got requests b kind r.args r.reads).own (not_served_lem kind g))
 
 -- ---- each packet that an event sends
 
@@ -75,40 +75,40 @@ module _ (e : Event) (s : Server) where
   abbrev Gives : ℕ → Send → Type 0
   Gives m x = (h : Bytes) → reading_gives h (message_of e s x).says ≡ true → Known s m h
 
-  gives-plain : (m to kind : ℕ) (args : List Bytes) → gives_handle kind ≡ false → Gives m (plain to kind args)
+  gives_plain : (m to kind : ℕ) (args : List Bytes) → gives_handle kind ≡ false → Gives m (plain to kind args)
   unfolding message_of
-  gives-plain m to kind args q h g = clash (and_left (gives_handle kind) _ g) q
+  gives_plain m to kind args q h g = clash (and_left (gives_handle kind) _ g) q
 
-  gives-copy : (m to kind : ℕ) → gives_handle kind ≡ false → Gives m (copy to kind)
+  gives_copy : (m to kind : ℕ) → gives_handle kind ≡ false → Gives m (copy to kind)
   unfolding message_of
-  gives-copy m to kind q h g = clash (and_left (gives_handle kind) _ g) q
+  gives_copy m to kind q h g = clash (and_left (gives_handle kind) _ g) q
 
-  gives-joined : (m to p : ℕ) → p < length s.table.jobs → live (job_at s.table p).row ≡ true → Gives m (created s.table.hub to (job_at s.table p).row.serial)
+  gives_joined : (m to p : ℕ) → p < length s.table.jobs → live (job_at s.table p).row ≡ true → Gives m (created s.table.hub to (job_at s.table p).row.serial)
   unfolding message_of
-  gives-joined m to p i l h g = standing (record { place = p; inside = i; live' = l; is = sym (same_is _ _ g) })
+  gives_joined m to p i l h g = standing (record { place = p; inside = i; live' = l; is = sym (same_is _ _ g) })
 
   gives_made : (m to : ℕ) → s.table.last < 4294967295 → m ≡ suc s.table.last → Gives m (created s.table.hub to (suc s.table.last))
   unfolding message_of
   gives_made m to l z h g = newest l z (sym (same_is _ _ g))
 
-  gives-assigned : (m : ℕ) (uniq : Bool) (to p : ℕ) → p < length s.table.jobs → live (job_at s.table p).row ≡ true → Gives m (assign uniq to p)
+  gives_assigned : (m : ℕ) (uniq : Bool) (to p : ℕ) → p < length s.table.jobs → live (job_at s.table p).row ≡ true → Gives m (assign uniq to p)
   unfolding message_of
-  gives-assigned m true to p i l h g = standing (record { place = p; inside = i; live' = l; is = sym (same_is _ _ g) })
-  gives-assigned m false to p i l h g = standing (record { place = p; inside = i; live' = l; is = sym (same_is _ _ g) })
+  gives_assigned m true to p i l h g = standing (record { place = p; inside = i; live' = l; is = sym (same_is _ _ g) })
+  gives_assigned m false to p i l h g = standing (record { place = p; inside = i; live' = l; is = sym (same_is _ _ g) })
 
 -- each packet, by the reason why it is sent
 gives_sent : (s : Server) {m : ℕ} {e : Event} {x : Send} → Sends s.table m e x → Gives e s m x
-gives_sent s (Sends.an_error c b n h) = gives-plain _ s _ c 19 _ refl
-gives_sent s (Sends.no_job_lem c b uniq q r) = gives-plain _ s _ c 10 [] refl
-gives_sent s (Sends.the_job c b uniq q p r) = gives-assigned _ s _ uniq c p (best_found s.table c p r).0 (grabbed_live s.table c p r)
-gives_sent s (Sends.handle_joined c b priority background f u size q p r) = gives-joined _ s _ c p (joined_inside s.table f u p r) (joined_found s.table f u p r)
+gives_sent s (Sends.an_error c b n h) = gives_plain _ s _ c 19 _ refl
+gives_sent s (Sends.no_job_lem c b uniq q r) = gives_plain _ s _ c 10 [] refl
+gives_sent s (Sends.the_job c b uniq q p r) = gives_assigned _ s _ uniq c p (best_found s.table c p r).0 (grabbed_live s.table c p r)
+gives_sent s (Sends.handle_joined c b priority background f u size q p r) = gives_joined _ s _ c p (joined_inside s.table f u p r) (joined_found s.table f u p r)
 gives_sent s (Sends.handle_made c b priority background f u size q l z) = gives_made _ s _ c l z
-gives_sent s (Sends.a_copy c b how kind j x y q p r l i w) = gives-copy _ s _ l kind (work_gives_none b how kind j x y q)
-gives_sent s (Sends.a_failure c b how kind j x y q p r l i w) = gives-plain _ s _ l 14 _ refl
-gives_sent s (Sends.a_status c b h q o r) = gives-plain _ s _ c 20 _ refl
-gives_sent s (Sends.an_option_lem c b name q r) = gives-plain _ s _ c 27 _ refl
-gives_sent s (Sends.an_echo c b q) = gives-copy _ s _ c 17 refl
-gives_sent s (Sends.a_noop l) = gives-plain _ s _ l 6 [] refl
+gives_sent s (Sends.a_copy c b how kind j x y q p r l i w) = gives_copy _ s _ l kind (work_gives_none b how kind j x y q)
+gives_sent s (Sends.a_failure c b how kind j x y q p r l i w) = gives_plain _ s _ l 14 _ refl
+gives_sent s (Sends.a_status c b h q o r) = gives_plain _ s _ c 20 _ refl
+gives_sent s (Sends.an_option_lem c b name q r) = gives_plain _ s _ c 27 _ refl
+gives_sent s (Sends.an_echo c b q) = gives_copy _ s _ c 17 refl
+gives_sent s (Sends.a_noop l) = gives_plain _ s _ l 6 [] refl
 
 any_gives : (e : Event) (s : Server) (m : ℕ) (h : Bytes) (xs : List Send) → All (Gives e s m) xs → any (λ y. reading_gives h y.says) (map (message_of e s) xs) ≡ true → Known s m h
 any_gives e s m h [] All.none g = clash g refl

@@ -15,7 +15,7 @@ use Rattle.octets.proofs.Strings.{and_left, and_right, and_both, same_is, same_r
 use Rattle.handle.specs.Handle.{handle}
 use Rattle.handle.proofs.Handles.{handle_one_to_one}
 use Rattle.packet.specs.Packet.{Reading, refused, got, read, requests}
-use Rattle.packet_laws.proofs.Packets.{read-got}
+use Rattle.packet_laws.proofs.Packets.{read_got}
 use Rattle.lists.specs.Lists.{any}
 use Rattle.lists.proofs.Searches.{found}
 use Rattle.lists.proofs.Rows.{clash, never, or_left, or_right, all_at}
@@ -36,7 +36,7 @@ use Rattle.demands.proofs.Unmasked.{request_read}
 use Rattle.packet.specs.Layout.{request_shape}
 use Rattle.server_laws.proofs.Fates.{ends_job}
 use Rattle.demands.proofs.Numbers.{Asks, asks_at, throwing}
-use Rattle.demands.proofs.Arguments.{work-read}
+use Rattle.demands.proofs.Arguments.{work_read}
 use Rattle.demands.proofs.Given.{At, stands_at, at_stands, Known, standing, newest, given_known}
 
 -- ---- handles that were given out
@@ -66,18 +66,18 @@ at_used n s r h a =
 pub stands_used : (n : ℕ) (s : Server) → Running n s → (h : Bytes) → stands h s.table ≡ true → Used h s.table
 stands_used n s r h e = at_used n s r h (stands_at h s.table e)
 
-pub used-after : (es : List Event) (s : Server) (h : Bytes) → Used h s.table → Used h (after s es).table
-used-after es s h u = record { serial = u.serial; is = u.is ∙ ap (λ (name : Bytes). handle name u.serial) (sym (hub_after es s)); some = u.some; past = le_trans u.past (last_rises es s) }
+pub used_after : (es : List Event) (s : Server) (h : Bytes) → Used h s.table → Used h (after s es).table
+used_after es s h u = record { serial = u.serial; is = u.is ∙ ap (λ (name : Bytes). handle name u.serial) (sym (hub_after es s)); some = u.some; past = le_trans u.past (last_rises es s) }
 
-pub used-next : (e : Event) (s : Server) (h : Bytes) → Used h s.table → Used h (next e s).table
-used-next e s h u = record { serial = u.serial; is = u.is ∙ ap (λ (name : Bytes). handle name u.serial) (sym (hub_kept e s)); some = u.some; past = le_trans u.past (last_kept s e) }
+pub used_next : (e : Event) (s : Server) (h : Bytes) → Used h s.table → Used h (next e s).table
+used_next e s h u = record { serial = u.serial; is = u.is ∙ ap (λ (name : Bytes). handle name u.serial) (sym (hub_kept e s)); some = u.some; past = le_trans u.past (last_kept s e) }
 
 -- what was given is used up
 pub given_used : (n : ℕ) (e : Event) (s : Server) → Running n s → (h : Bytes) → given h (messages_of e s) ≡ true → Used h (next e s).table
 given_used n e s r h g = by (given_known e s h g)
   where
     by : Known s (next e s).table.last h → Used h (next e s).table
-    by (standing a) = used-next e s h (at_used n s r h a)
+    by (standing a) = used_next e s h (at_used n s r h a)
     by (newest room last q) = record { serial = suc s.table.last; is = q ∙ ap (λ (name : Bytes). handle name (suc s.table.last)) (sym (hub_kept e s)); some = omega arith; past = omega arith }
 
 -- ---- a job that is made
@@ -156,7 +156,7 @@ pub new_unheard : (n : ℕ) (e : Event) (s : Server) → Running n s → (betwee
     → let r = after (next e s) between in Running n r → is_made h r.table (next f r).table ≡ true → given h (messages_of e s) ≡ false
 new_unheard n e s k between f h j m = never (given h (messages_of e s)) (λ g.
     let r = after (next e s) between in
-    let u = used-after between (next e s) h (given_used n e s k h g) in
+    let u = used_after between (next e s) h (given_used n e s k h g) in
     let (q, room) = made_newest f r h m in
     let z : u.serial ≡ suc r.table.last = handle_one_to_one r.table.hub _ _ (omega (arith, u.past)) room (sym u.is ∙ q) in
     omega (arith, u.past))
@@ -173,7 +173,7 @@ gone_next n e s r h u g = never (stands h (next e s).table) (λ y.
 pub gone_after : (n : ℕ) (es : List Event) (s : Server) → Running n s → (h : Bytes) → Used h s.table → stands h s.table ≡ false → stands h (after s es).table ≡ false
 unfolding after
 gone_after n [] s r h u g = g
-gone_after n (e ∷ es) s r h u g = gone_after n es (next e s) (running_next n e s r) h (used-next e s h u) (gone_next n e s r h u g)
+gone_after n (e ∷ es) s r h u g = gone_after n es (next e s) (running_next n e s r) h (used_next e s h u) (gone_next n e s r h u g)
 
 -- and no packet gives it
 pub gone_ungiven : (n : ℕ) (e : Event) (s : Server) → Running n s → (h : Bytes) → Used h s.table → stands h s.table ≡ false → given h (messages_of e s) ≡ false
@@ -196,7 +196,7 @@ nobody_holds c h t g = go (held_job_of t c h) refl
 -- what a worker packet asks, by its type: 25 is an exception, and 13, 14 and 25 end the job
 pub work_kinds : (b : Bytes) (how : Work) (kind : ℕ) (h n d : Bytes) → request_in b ≡ work how kind h n d → (throwing how ≡ eqb kind 25) × (ends_job how ≡ is_ending kind)
 work_kinds b how kind h n d q =
-    let r = work-read b how kind h n d q in
+    let r = work_read b how kind h n d q in
     let z = sym (request_read b ∙ ap from_reading r.reads) ∙ q in
     let (tests, first, thrown, ending) = subst (Asks _ _ kind (request_shape kind)) z (asks_at kind _ _ _) in
     (thrown, ending)
@@ -239,7 +239,7 @@ asks_work b h e = by (read requests b) refl e
         let (how, n, d, w) = work_requested kind (get_or args 0 []) (get_or args 1 []) (get_or args 2 []) (and_left (is_work kind) _ z) in
         let i : request_in b ≡ work how kind h n d = request_read b ∙ ap from_reading q ∙ w ∙ ap (λ (a : Bytes). work how kind a n d) (first_is_lem h args (and_right (is_work kind) _ z)) in
         let (x, y) = work_kinds b how kind h n d i in
-        record { how = how; kind = kind; n = n; d = d; is = i; typed = sym (read-got requests b kind args q).typed; thrown = x; ending = y }
+        record { how = how; kind = kind; n = n; d = d; is = i; typed = sym (read_got requests b kind args q).typed; thrown = x; ending = y }
 
 pub open_inside : (t : Table) (c : ℕ) → is_open t c ≡ true → is_connection t c ≡ true
 open_inside t c o = by (ltb c (length t.connections)) refl

@@ -19,18 +19,18 @@ use Rattle.server.specs.Call.{Result, Made, server_in, too_short, is_sound, perf
 use Rattle.server_calls.specs.History.{Call, Memory, events, leaves}
 use Rattle.server_calls.proofs.Refusals.{Taken}
 use Rattle.server_calls.proofs.EveryCall.{taken_running}
-use Rattle.server_calls.proofs.Follows.{table_with, workloads_with, Running, running_next, sound-with, server-back}
+use Rattle.server_calls.proofs.Follows.{table_with, workloads_with, Running, running_next, sound_with, server_back}
 use Rattle.server_calls.proofs.Histories.{LongOutputs, make_start, running_start}
 use Rattle.demands.specs.Messages.{told, messages_of}
 use Rattle.demands.specs.Hub.{Hub, Long, call_on, kept, after_calls, table_in, server_of, fresh_memory, Room}
-use Rattle.demands.proofs.Told.{told-performed}
+use Rattle.demands.proofs.Told.{told_performed}
 
 -- ---- memory that holds a running server
 
 -- buffers that a running server is laid into
 pub hub_with : (n : ℕ) → n ≤ 256 → (s : Server) → Running n s → (t w : Bytes) → table_size n ≤ length t → workloads_size ≤ length w
     → Hub n (record { table = table_with s t; workloads = workloads_with s w })
-hub_with n few s h t w lt lw = record { few = few; long_table = rw length_put lt; long_workloads = rw length_put lw; sound = sound-with n few s h t lt }
+hub_with n few s h t w lt lw = record { few = few; long_table = rw length_put lt; long_workloads = rw length_put lw; sound = sound_with n few s h t lt }
 
 -- a fresh table
 pub hub_fresh : (n : ℕ) (name : Bytes) → is_hub_name name ≡ true → (t w : Bytes) → Room n t w → Hub n (fresh_memory n name t w)
@@ -41,12 +41,12 @@ hub_fresh n name good t w r =
 pub fresh_server : (n : ℕ) (name : Bytes) → is_hub_name name ≡ true → (t w : Bytes) → Room n t w → server_of n (fresh_memory n name t w) ≡ start n name
 fresh_server n name good t w r =
     ap (λ (x : Made). server_in n x.table x.workloads) (make_start n name good t w r.long_table r.long_workloads)
-    ∙ server-back n r.few (start n name) (running_start n name good) t w r.long_table r.long_workloads
+    ∙ server_back n r.few (start n name) (running_start n name good) t w r.long_table r.long_workloads
 
 module _ (n : ℕ) (m : Memory) (h : Hub n m) where
-  hub-taken : (o : Bytes) → output_size n ≤ length o → Taken n m.table m.workloads o
+  hub_taken : (o : Bytes) → output_size n ≤ length o → Taken n m.table m.workloads o
   unfolding is_sound
-  hub-taken o l =
+  hub_taken o l =
       record {
         long_table = h.long_table;
         long_workloads = h.long_workloads;
@@ -56,8 +56,8 @@ module _ (n : ℕ) (m : Memory) (h : Hub n m) where
       }
 
   -- the server that it holds runs
-  pub hub-runs : Running n (server_of n m)
-  hub-runs = taken_running n m.table m.workloads (replicate (output_size n) 0) (hub-taken _ (rw (length-replicate {A = ℕ} (output_size n) 0) (omega arith)))
+  pub hub_runs : Running n (server_of n m)
+  hub_runs = taken_running n m.table m.workloads (replicate (output_size n) 0) (hub_taken _ (rw (length-replicate {A = ℕ} (output_size n) 0) (omega arith)))
 
   -- ---- one call
 
@@ -67,42 +67,42 @@ module _ (n : ℕ) (m : Memory) (h : Hub n m) where
     call_performed =
         rw (le-ltb (length m.table) (table_size n) h.long_table, le-ltb (length m.workloads) workloads_size h.long_workloads, le-ltb (length x.output) (output_size n) l, h.sound)
 
-    pub call-number : (call_on n m x).number ≡ (answer x.event (server_of n m)).number
+    pub call_number : (call_on n m x).number ≡ (answer x.event (server_of n m)).number
     unfolding performed
-    call-number = ap (λ (r : Result). r.number) call_performed
+    call_number = ap (λ (r : Result). r.number) call_performed
 
     -- what it tells
-    pub call-tells : told (call_on n m x) ≡ messages_of x.event (server_of n m)
-    call-tells = ap told call_performed ∙ told-performed x.event (server_of n m) n h.few hub-runs m.table m.workloads x.output l
+    pub call_tells : told (call_on n m x) ≡ messages_of x.event (server_of n m)
+    call_tells = ap told call_performed ∙ told_performed x.event (server_of n m) n h.few hub_runs m.table m.workloads x.output l
 
-    next-kept : kept (call_on n m x) ≡ record { table = table_with (next x.event (server_of n m)) m.table; workloads = workloads_with (next x.event (server_of n m)) m.workloads }
+    next_kept : kept (call_on n m x) ≡ record { table = table_with (next x.event (server_of n m)) m.table; workloads = workloads_with (next x.event (server_of n m)) m.workloads }
     unfolding performed
-    next-kept = ap kept call_performed
+    next_kept = ap kept call_performed
 
     -- what it leaves
-    pub call-hub : Hub n (kept (call_on n m x))
-    call-hub = rw next-kept (hub_with n h.few (next x.event (server_of n m)) (running_next n x.event (server_of n m) hub-runs) m.table m.workloads h.long_table h.long_workloads)
+    pub call_hub : Hub n (kept (call_on n m x))
+    call_hub = rw next_kept (hub_with n h.few (next x.event (server_of n m)) (running_next n x.event (server_of n m) hub_runs) m.table m.workloads h.long_table h.long_workloads)
 
     pub call_next : server_of n (kept (call_on n m x)) ≡ next x.event (server_of n m)
     call_next =
-        ap (server_of n) next-kept
-        ∙ server-back n h.few (next x.event (server_of n m)) (running_next n x.event (server_of n m) hub-runs) m.table m.workloads h.long_table h.long_workloads
+        ap (server_of n) next_kept
+        ∙ server_back n h.few (next x.event (server_of n m)) (running_next n x.event (server_of n m) hub_runs) m.table m.workloads h.long_table h.long_workloads
 
   -- the table alone
-  pub table-in : table_in n m ≡ (server_of n m).table
+  pub table_in_lem : table_in n m ≡ (server_of n m).table
   unfolding server_in
-  table-in = refl
+  table_in_lem = refl
 
 -- ---- any calls
 
 module _ (n : ℕ) where
-  pub calls-hub : (xs : List Call) (m : Memory) → Hub n m → LongOutputs n xs → Hub n (after_calls n xs m)
+  pub calls_hub : (xs : List Call) (m : Memory) → Hub n m → LongOutputs n xs → Hub n (after_calls n xs m)
   unfolding leaves
-  calls-hub [] m h All.none = h
-  calls-hub (x ∷ xs) m h (All.more l ls) = calls-hub xs (kept (call_on n m x)) (call-hub n m h x l) ls
+  calls_hub [] m h All.none = h
+  calls_hub (x ∷ xs) m h (All.more l ls) = calls_hub xs (kept (call_on n m x)) (call_hub n m h x l) ls
 
-  pub calls-after : (xs : List Call) (m : Memory) → Hub n m → LongOutputs n xs → server_of n (after_calls n xs m) ≡ after (server_of n m) (events xs)
+  pub calls_after : (xs : List Call) (m : Memory) → Hub n m → LongOutputs n xs → server_of n (after_calls n xs m) ≡ after (server_of n m) (events xs)
   unfolding leaves after
-  calls-after [] m h All.none = refl
-  calls-after (x ∷ xs) m h (All.more l ls) =
-      calls-after xs (kept (call_on n m x)) (call-hub n m h x l) ls ∙ ap (λ (s : Server). after s (events xs)) (call_next n m h x l)
+  calls_after [] m h All.none = refl
+  calls_after (x ∷ xs) m h (All.more l ls) =
+      calls_after xs (kept (call_on n m x)) (call_hub n m h x l) ls ∙ ap (λ (s : Server). after s (events xs)) (call_next n m h x l)

@@ -31,8 +31,8 @@ use Rattle.demands.specs.Messages.{told, messages_of}
 use Rattle.demands.specs.Handles.{given, reading_tells, stands, Spent}
 use Rattle.demands.specs.Hub.{Hub, Room, Long, call_on, after_calls, table_in, server_of, fresh_memory}
 use Rattle.demands.proofs.Given.{stands_at, Known, standing, newest, given_known}
-use Rattle.demands.proofs.Hubs.{fresh_server, hub-runs, call-tells, calls-hub}
-use Rattle.demands.proofs.Handles.{table-after, nobodys}
+use Rattle.demands.proofs.Hubs.{fresh_server, hub_runs, call_tells, calls_hub}
+use Rattle.demands.proofs.Handles.{table_after_lem, nobodys}
 use Rattle.demands.proofs.Results.{call_held_stands}
 
 -- ---- making a table
@@ -43,9 +43,9 @@ module _ (n : ℕ) (name t w : Bytes) where
   by_number true x z f = refl
   by_number false x z f = absurd (f z)
 
-  pub make-refused : ¬ ((make n name t w).number ≡ 0) → make n name t w ≡ made 1 t w
+  pub make_refused : ¬ ((make n name t w).number ≡ 0) → make n name t w ≡ made 1 t w
   unfolding make
-  make-refused f =
+  make_refused f =
       by_number (ltb (length t) (table_size n) || (ltb (length w) workloads_size || not (is_hub_name name)))
       (made 0 (put 0 (bytes_of (fresh n name)) t) (put 0 (replicate workloads_size 0) w)) refl f
 
@@ -56,16 +56,16 @@ module _ (n : ℕ) (name t w : Bytes) where
   made_by false false false x z = absurd (omega arith)
 
   -- what is made has long enough buffers and a hub's name
-  pub make-long-named : (make n name t w).number ≡ 0 → (table_size n ≤ length t) × (workloads_size ≤ length w) × (is_hub_name name ≡ true)
+  pub make_long_named : (make n name t w).number ≡ 0 → (table_size n ≤ length t) × (workloads_size ≤ length w) × (is_hub_name name ≡ true)
   unfolding make
-  make-long-named z =
+  make_long_named z =
       let (a, b, c) = made_by (ltb (length t) (table_size n)) (ltb (length w) workloads_size) (is_hub_name name) _ z in
       (ltb-false (length t) (table_size n) a, ltb-false (length w) workloads_size b, c)
 
   -- and what has both is made
-  pub make-done : table_size n ≤ length t → workloads_size ≤ length w → is_hub_name name ≡ true → (make n name t w).number ≡ 0
+  pub make_done : table_size n ≤ length t → workloads_size ≤ length w → is_hub_name name ≡ true → (make n name t w).number ≡ 0
   unfolding make
-  make-done lt lw good = rw (le-ltb (length t) (table_size n) lt, le-ltb (length w) workloads_size lw, good)
+  make_done lt lw good = rw (le-ltb (length t) (table_size n) lt, le-ltb (length w) workloads_size lw, good)
 
 -- a fresh table has the name that it was made with
 pub fresh_name : (n : ℕ) (name : Bytes) → is_hub_name name ≡ true → (t w : Bytes) → Room n t w → (table_in n (fresh_memory n name t w)).hub ≡ name
@@ -114,28 +114,28 @@ zeros_refused n e k w o =
 
 module _ (n : ℕ) (m : Memory) (hub : Hub n m) where
   -- the name that the memory holds is one
-  pub hub-named : is_hub_name (table_in n m).hub ≡ true
+  pub hub_named_lem : is_hub_name (table_in n m).hub ≡ true
   unfolding server_in
-  hub-named = (obeyed (table_in n m) (hub-runs n m hub).rules).sound.named
+  hub_named_lem = (obeyed (table_in n m) (hub_runs n m hub).rules).sound.named
 
   -- no call changes it
-  pub calls-name : (xs : List Call) → LongOutputs n xs → (table_in n (after_calls n xs m)).hub ≡ (table_in n m).hub
+  pub calls_name : (xs : List Call) → LongOutputs n xs → (table_in n (after_calls n xs m)).hub ≡ (table_in n m).hub
   unfolding server_in
-  calls-name xs l = ap (λ (t : Table). t.hub) (table-after n m hub xs l) ∙ hub_after (events xs) (server_of n m)
+  calls_name xs l = ap (λ (t : Table). t.hub) (table_after_lem n m hub xs l) ∙ hub_after (events xs) (server_of n m)
 
   -- every handle that is given has it
-  pub call-named : (h : Bytes) (x : Call) → Long n x → given h (told (call_on n m x)) ≡ true → (serial : ℕ) × (h ≡ handle (table_in n m).hub serial)
+  pub call_named : (h : Bytes) (x : Call) → Long n x → given h (told (call_on n m x)) ≡ true → (serial : ℕ) × (h ≡ handle (table_in n m).hub serial)
   unfolding server_in
-  call-named h x l g = by (given_known x.event (server_of n m) h (sym (ap (given h) (call-tells n m hub x l)) ∙ g))
+  call_named h x l g = by (given_known x.event (server_of n m) h (sym (ap (given h) (call_tells n m hub x l)) ∙ g))
     where
       by : {i : ℕ} → Known (server_of n m) i h → (serial : ℕ) × (h ≡ handle (table_in n m).hub serial)
       by (standing a) = ((job_at (server_of n m).table a.place).row.serial, a.is)
       by (newest room last q) = (suc (server_of n m).table.last, q)
 
   -- and so does the handle that a worker packet names, if it is done
-  pub work-named : (x : Call) → Long n x → (d : ℕ) (b h : Bytes) → x.event ≡ sends d b → reading_tells h (read requests b) ≡ true → (call_on n m x).number ≡ 0
+  pub work_named : (x : Call) → Long n x → (d : ℕ) (b h : Bytes) → x.event ≡ sends d b → reading_tells h (read requests b) ≡ true → (call_on n m x).number ≡ 0
       → (serial : ℕ) × (h ≡ handle (table_in n m).hub serial)
-  work-named x l d b h e w z =
+  work_named x l d b h e w z =
       let a = stands_at h (table_in n m) (call_held_stands n m hub x l d b h e w z) in
       ((job_at (table_in n m) a.place).row.serial, a.is)
 
@@ -143,11 +143,11 @@ module _ (n : ℕ) (m : Memory) (hub : Hub n m) where
 
 module _ (n : ℕ) (other : Bytes) (good : is_hub_name other ≡ true) (serial : ℕ) where
   -- no unfinished job has it, and no event gives it
-  foreign-nobody : (s : Server) → Running n s → ¬ (other ≡ s.table.hub) → stands (handle other serial) s.table ≡ false
-  foreign-nobody s r d = never _ (λ e. let a = stands_at (handle other serial) s.table e in d (one_hub other s.table.hub serial _ good (obeyed s.table r.rules).sound.named a.is))
+  foreign_nobody : (s : Server) → Running n s → ¬ (other ≡ s.table.hub) → stands (handle other serial) s.table ≡ false
+  foreign_nobody s r d = never _ (λ e. let a = stands_at (handle other serial) s.table e in d (one_hub other s.table.hub serial _ good (obeyed s.table r.rules).sound.named a.is))
 
-  foreign-ungiven : (s : Server) → Running n s → ¬ (other ≡ s.table.hub) → (e : Event) → given (handle other serial) (messages_of e s) ≡ false
-  foreign-ungiven s r d e = never _ (λ g. by (given_known e s (handle other serial) g))
+  foreign_ungiven : (s : Server) → Running n s → ¬ (other ≡ s.table.hub) → (e : Event) → given (handle other serial) (messages_of e s) ≡ false
+  foreign_ungiven s r d e = never _ (λ g. by (given_known e s (handle other serial) g))
     where
       own : (k : ℕ) → handle other serial ≡ handle s.table.hub k → ⊥
       own k q = d (one_hub other s.table.hub serial k good (obeyed s.table r.rules).sound.named q)
@@ -156,21 +156,21 @@ module _ (n : ℕ) (other : Bytes) (good : is_hub_name other ≡ true) (serial :
       by (standing a) = own _ a.is
       by (newest room last q) = own _ q
 
-  pub call-foreign : (m : Memory) → Hub n m → ¬ (other ≡ (table_in n m).hub) → Spent n (handle other serial) m
+  pub call_foreign : (m : Memory) → Hub n m → ¬ (other ≡ (table_in n m).hub) → Spent n (handle other serial) m
   unfolding server_in
-  call-foreign m hub d = nobodys n (handle other serial) m hub (foreign-nobody (server_of n m) (hub-runs n m hub) d) (foreign-ungiven (server_of n m) (hub-runs n m hub) d)
+  call_foreign m hub d = nobodys n (handle other serial) m hub (foreign_nobody (server_of n m) (hub_runs n m hub) d) (foreign_ungiven (server_of n m) (hub_runs n m hub) d)
 
 -- after any calls
 pub calls_foreign : (n : ℕ) (m : Memory) → Hub n m → (other : Bytes) → is_hub_name other ≡ true → ¬ (other ≡ (table_in n m).hub) → (serial : ℕ) → (xs : List Call) → LongOutputs n xs
     → Spent n (handle other serial) (after_calls n xs m)
-calls_foreign n m hub other good d serial xs l = call-foreign n other good serial (after_calls n xs m) (calls-hub n xs m hub l) (λ q. d (q ∙ calls-name n m hub xs l))
+calls_foreign n m hub other good d serial xs l = call_foreign n other good serial (after_calls n xs m) (calls_hub n xs m hub l) (λ q. d (q ∙ calls_name n m hub xs l))
 
 -- what one hub gives, another one never gives
 pub calls_apart : (n k : ℕ) (m w : Memory) → Hub n m → Hub k w → ¬ ((table_in n m).hub ≡ (table_in k w).hub) → (xs ys : List Call) → LongOutputs n xs → LongOutputs k ys
     → (x y : Call) → Long n x → Long k y → (h : Bytes) → given h (told (call_on n (after_calls n xs m) x)) ≡ true → given h (told (call_on k (after_calls k ys w) y)) ≡ false
 calls_apart n k m w hm hw d xs ys lxs lys x y lx ly h g =
     let u = after_calls n xs m in
-    let hu = calls-hub n xs m hm lxs in
-    let (i, q) = call-named n u hu h x lx g in
-    let far : ¬ ((table_in n u).hub ≡ (table_in k w).hub) = λ e. d (sym (calls-name n m hm xs lxs) ∙ e) in
-    ap (λ (z : Bytes). given z (told (call_on k (after_calls k ys w) y))) q ∙ (calls_foreign k w hw (table_in n u).hub (hub-named n u hu) far i ys lys).ungiven y ly
+    let hu = calls_hub n xs m hm lxs in
+    let (i, q) = call_named n u hu h x lx g in
+    let far : ¬ ((table_in n u).hub ≡ (table_in k w).hub) = λ e. d (sym (calls_name n m hm xs lxs) ∙ e) in
+    ap (λ (z : Bytes). given z (told (call_on k (after_calls k ys w) y))) q ∙ (calls_foreign k w hw (table_in n u).hub (hub_named_lem n u hu) far i ys lys).ungiven y ly

@@ -25,7 +25,7 @@ use Rattle.server.specs.Rules.{is_known, is_open}
 use Rattle.server.specs.Server.{answer, decided}
 use Rattle.server.specs.Layout.{table_of}
 use Rattle.server.specs.Call.{server_in, refused_by, performed, call}
-use Rattle.table_laws.proofs.Columns.{length-places}
+use Rattle.table_laws.proofs.Columns.{length_places}
 use Rattle.server_laws.proofs.Fates.{ends_job}
 use Rattle.demands.specs.Handles.{is_work, is_ending}
 use Rattle.demands.specs.Conditions.{first, is_submission, asked_rows, bad_memory, under_twelve, other_magic, size_above, splits, unsplit, argument_in, type_of, packet_rows, conditions}
@@ -147,51 +147,51 @@ free_some t = find_any (λ r. not (live r)) (rows_of t) ∙ any_not (λ r. not (
 -- ---- what is asked
 
 module _ (c : ℕ) (t : Table) where
-  can-do-number : (o : Option ℕ) (f : Bytes) → (can_do_at o c f t).number ≡ cond (not (is_some o)) 11 0
+  can_do_number : (o : Option ℕ) (f : Bytes) → (can_do_at o c f t).number ≡ cond (not (is_some o)) 11 0
   unfolding can_do_at refuse settle
-  can-do-number none f = refl
-  can-do-number (some q) f = refl
+  can_do_number none f = refl
+  can_do_number (some q) f = refl
 
-  cant-do-number : (o : Option ℕ) → (cant_do_at o c t).number ≡ 0
+  cant_do_number : (o : Option ℕ) → (cant_do_at o c t).number ≡ 0
   unfolding cant_do_at settle
-  cant-do-number none = refl
-  cant-do-number (some q) = refl
+  cant_do_number none = refl
+  cant_do_number (some q) = refl
 
-  grab-number : (o : Option ℕ) (uniq : Bool) (u : Table) → (grab_at o uniq c u).number ≡ 0
+  grab_number : (o : Option ℕ) (uniq : Bool) (u : Table) → (grab_at o uniq c u).number ≡ 0
   unfolding grab_at settle
-  grab-number none uniq u = refl
-  grab-number (some p) uniq u = refl
+  grab_number none uniq u = refl
+  grab_number (some p) uniq u = refl
 
-  work-number : (o : Option ℕ) (how : Work) (kind : ℕ) (n d : Bytes) → (work_at o how kind c n d t).number ≡ cond (not (is_some o)) 14 0
+  work_number : (o : Option ℕ) (how : Work) (kind : ℕ) (n d : Bytes) → (work_at o how kind c n d t).number ≡ cond (not (is_some o)) 14 0
   unfolding work_at refuse settle
-  work-number none how kind n d = refl
-  work-number (some p) how kind n d = refl
+  work_number none how kind n d = refl
+  work_number (some p) how kind n d = refl
 
-  option-number : (b : Bool) (name : Bytes) → (option_if b c name t).number ≡ cond (not b) 15 0
+  option_number : (b : Bool) (name : Bytes) → (option_if b c name t).number ≡ cond (not b) 15 0
   unfolding option_if refuse settle
-  option-number true name = refl
-  option-number false name = refl
+  option_number true name = refl
+  option_number false name = refl
 
-  new-number : (o r : Option ℕ) (priority : ℕ) (background : Bool) (f u : Bytes) (size : ℕ)
+  new_number : (o r : Option ℕ) (priority : ℕ) (background : Bool) (f u : Bytes) (size : ℕ)
       → (submit_new o r c priority background f u size t).number ≡ cond (not (is_some o)) 11 (cond (not (is_some r)) 12 (cond (not (ltb t.last 4294967295)) 13 0))
   unfolding submit_new refuse settle
-  new-number none r priority background f u size = refl
-  new-number (some q) none priority background f u size = refl
-  new-number (some q) (some p) priority background f u size = go (ltb t.last 4294967295) _ refl
+  new_number none r priority background f u size = refl
+  new_number (some q) none priority background f u size = refl
+  new_number (some q) (some p) priority background f u size = go (ltb t.last 4294967295) _ refl
     where
       go : (b : Bool) (d : Decision) → d.number ≡ 0 → (cond b d (refuse c 13 t)).number ≡ cond (not b) 13 0
       go true d e = e
       go false d e = refl
 
-  submit-number : (o : Option ℕ) (priority : ℕ) (background : Bool) (f u : Bytes) (size : ℕ)
+  submit_number : (o : Option ℕ) (priority : ℕ) (background : Bool) (f u : Bytes) (size : ℕ)
       → (submit_to o c priority background f u size t).number ≡ cond (is_some o) 0 (submit_new (room_for t.functions f) (free_place t) c priority background f u size t).number
   unfolding submit_to settle
-  submit-number none priority background f u size = refl
-  submit-number (some p) priority background f u size = refl
+  submit_number none priority background f u size = refl
+  submit_number (some p) priority background f u size = refl
 
-  joined-some : (f u : Bytes) → is_some (joined t f u) ≡ any (joins t.functions f u) t.jobs
+  joined_some : (f u : Bytes) → is_some (joined t f u) ≡ any (joins t.functions f u) t.jobs
   unfolding joined
-  joined-some f u = find_any (joins t.functions f u) t.jobs
+  joined_some f u = find_any (joins t.functions f u) t.jobs
 
   -- the rows of what is asked, by the tests of the type
   module _ (kind : ℕ) (a b : Bytes) where
@@ -203,29 +203,29 @@ module _ (c : ℕ) (t : Table) where
     unfolding first
     none_number h = rw (h.is_able, h.is_new, h.is_work', h.is_option)
 
-    able-number : Tests kind true false false false → Number (can_do_at (room_for t.functions a) c a t).number
+    able_number : Tests kind true false false false → Number (can_do_at (room_for t.functions a) c a t).number
     unfolding first
-    able-number h =
+    able_number h =
         rw (h.is_able, h.is_new, h.is_work', h.is_option)
-        (can-do-number (room_for t.functions a) a ∙ ap (λ (x : Bool). cond (not x) 11 0) (room_some t.functions a) ∙ ap (λ (x : Bool). cond x 11 0) (not_not (not (any (λ x. same x.name a) t.functions) && all is_known t.functions)))
+        (can_do_number (room_for t.functions a) a ∙ ap (λ (x : Bool). cond (not x) 11 0) (room_some t.functions a) ∙ ap (λ (x : Bool). cond x 11 0) (not_not (not (any (λ x. same x.name a) t.functions) && all is_known t.functions)))
 
     held_number : (how : Work) (k : ℕ) (n d : Bytes) → Tests kind false false true false → Number (work_at (held_job_of t c a) how k c n d t).number
     unfolding first
     held_number how k n d h =
         rw (h.is_able, h.is_new, h.is_work', h.is_option)
-        (work-number (held_job_of t c a) how k n d ∙ ap (λ (x : Bool). cond (not x) 14 0) (find_any (λ j. holds_handle t.hub c a j.row) t.jobs))
+        (work_number (held_job_of t c a) how k n d ∙ ap (λ (x : Bool). cond (not x) 14 0) (find_any (λ j. holds_handle t.hub c a j.row) t.jobs))
 
-    named-number : Tests kind false false false true → Number (option_if (same a exceptions_name) c a t).number
+    named_number : Tests kind false false false true → Number (option_if (same a exceptions_name) c a t).number
     unfolding first
-    named-number h = rw (h.is_able, h.is_new, h.is_work', h.is_option) (option-number (same a exceptions_name) a)
+    named_number h = rw (h.is_able, h.is_new, h.is_work', h.is_option) (option_number (same a exceptions_name) a)
 
-    new-job-number : (priority : ℕ) (background : Bool) (size : ℕ) → Tests kind false true false false → Number (submit_to (joined t a b) c priority background a b size t).number
+    new_job_number : (priority : ℕ) (background : Bool) (size : ℕ) → Tests kind false true false false → Number (submit_to (joined t a b) c priority background a b size t).number
     unfolding first
-    new-job-number priority background size h =
+    new_job_number priority background size h =
         rw (h.is_able, h.is_new, h.is_work', h.is_option)
-        (submit-number (joined t a b) priority background a b size
-        ∙ ap (λ (n : ℕ). cond (is_some (joined t a b)) 0 n) (new-number (room_for t.functions a) (free_place t) priority background a b size)
-        ∙ rw (joined-some a b)
+        (submit_number (joined t a b) priority background a b size
+        ∙ ap (λ (n : ℕ). cond (is_some (joined t a b)) 0 n) (new_number (room_for t.functions a) (free_place t) priority background a b size)
+        ∙ rw (joined_some a b)
         (go (any (joins t.functions a b) t.jobs) (any (λ x. same x.name a) t.functions) (all is_known t.functions) (all (λ j. live j.row) t.jobs) (not (ltb t.last 4294967295))
         (is_some (room_for t.functions a)) (is_some (free_place t)) (room_some t.functions a) (free_some t)))
       where
@@ -234,20 +234,20 @@ module _ (c : ℕ) (t : Table) where
         go true x y z f o r p q = refl
         go false x y z f o r p q = rw (p, q, not_not (not x && y), not_not z)
 
-    asked-number : (q : Request) → is_own (request_shape kind) ≡ true → Asks a b kind (request_shape kind) q → Number (E.served c q t).number
+    asked_number : (q : Request) → is_own (request_shape kind) ≡ true → Asks a b kind (request_shape kind) q → Number (E.served c q t).number
     unfolding E.served settle status_at
-    asked-number (R.bad n) o h = clash o h
-    asked-number (can_do f) o h = rw h.1 (able-number h.0)
-    asked-number (submit priority background f u size) o h = rw (h.1, h.2) (new-job-number priority background size h.0)
-    asked-number (work how k x n d) o h = rw h.1 (held_number how k n d h.0)
-    asked-number (option name) o h = rw h.1 (named-number h.0)
-    asked-number (identify i) o h = none_number h
-    asked-number reset o h = none_number h
-    asked-number pre_sleep o h = none_number h
-    asked-number echo o h = none_number h
-    asked-number (cant_do f) o h = cant-do-number (known t.functions f) ∙ none_number h
-    asked-number (grab uniq) o h = grab-number _ uniq _ ∙ none_number h
-    asked-number (get_status x) o h = none_number h
+    asked_number (R.bad n) o h = clash o h
+    asked_number (can_do f) o h = rw h.1 (able_number h.0)
+    asked_number (submit priority background f u size) o h = rw (h.1, h.2) (new_job_number priority background size h.0)
+    asked_number (work how k x n d) o h = rw h.1 (held_number how k n d h.0)
+    asked_number (option name) o h = rw h.1 (named_number h.0)
+    asked_number (identify i) o h = none_number h
+    asked_number reset o h = none_number h
+    asked_number pre_sleep o h = none_number h
+    asked_number echo o h = none_number h
+    asked_number (cant_do f) o h = cant_do_number (known t.functions f) ∙ none_number h
+    asked_number (grab uniq) o h = grab_number _ uniq _ ∙ none_number h
+    asked_number (get_status x) o h = none_number h
 
   -- ---- packets
 
@@ -256,29 +256,29 @@ module _ (c : ℕ) (t : Table) where
   number_of r = (E.served c (from_reading r) t).number
 
   -- the header
-  headed-number : (u m z l : Bool) (r : Reading) (n : ℕ) → number_of r ≡ n
+  headed_number : (u m z l : Bool) (r : Reading) (n : ℕ) → number_of r ≡ n
       → number_of (after_header (cond u 5 (cond m 6 (cond z 7 (cond l 0 8)))) r) ≡ cond u 5 (cond m 6 (cond z 7 (cond (not l) 8 n)))
   unfolding E.served refuse
-  headed-number true m z l r n e = refl
-  headed-number false true z l r n e = refl
-  headed-number false false true l r n e = refl
-  headed-number false false false true r n e = e
-  headed-number false false false false r n e = refl
+  headed_number true m z l r n e = refl
+  headed_number false true z l r n e = refl
+  headed_number false false true l r n e = refl
+  headed_number false false false true r n e = e
+  headed_number false false false false r n e = refl
 
   -- the type and the arguments
-  body-number : (kind : ℕ) (ps : Parts) (o : Bool) → is_own (request_shape kind) ≡ o
+  body_number : (kind : ℕ) (ps : Parts) (o : Bool) → is_own (request_shape kind) ≡ o
       → number_of (cond o (argued kind ps) (refused 9)) ≡ cond (not o) 9 (cond (unsplit ps) 10 (first (asked_rows t c kind (argument_in ps 0) (argument_in ps 1))))
   unfolding E.served refuse
-  body-number kind ps false q = refl
-  body-number kind bad true q = refl
-  body-number kind (parts args) true q =
-      asked-number kind (get_or args 0 []) (get_or args 1 []) (requested kind (get_or args 0 []) (get_or args 1 []) (get_or args 2 [])) q (asks_at kind (get_or args 0 []) (get_or args 1 []) (get_or args 2 []))
+  body_number kind ps false q = refl
+  body_number kind bad true q = refl
+  body_number kind (parts args) true q =
+      asked_number kind (get_or args 0 []) (get_or args 1 []) (requested kind (get_or args 0 []) (get_or args 1 []) (get_or args 2 [])) q (asks_at kind (get_or args 0 []) (get_or args 1 []) (get_or args 2 []))
 
-  packet-number : (b : Bytes) → (E.served c (request_in b) t).number ≡ first (packet_rows t (sends c b))
+  packet_number : (b : Bytes) → (E.served c (request_in b) t).number ≡ first (packet_rows t (sends c b))
   unfolding read header body first
-  packet-number b =
+  packet_number b =
       ap (λ (q : Request). (E.served c q t).number) (request_read b)
-      ∙ headed-number (under_twelve b) (other_magic b) (size_above b) (eqb (length b) (12 + number_at b 8)) _ _ (body-number (type_of b) (splits b) (is_own (request_shape (type_of b))) refl)
+      ∙ headed_number (under_twelve b) (other_magic b) (size_above b) (eqb (length b) (12 + number_at b 8)) _ _ (body_number (type_of b) (splits b) (is_own (request_shape (type_of b))) refl)
 
 -- ---- every event
 
@@ -296,23 +296,23 @@ closed_number true true t d = refl
 closed_number true false t d = refl
 
 module _ (n : ℕ) (t w o : Bytes) where
-  connections-are : length (table_of n t).connections ≡ n
+  connections_are : length (table_of n t).connections ≡ n
   unfolding table_of
-  connections-are = length-places _ 0 n
+  connections_are = length_places _ 0 n
 
   -- rows 2 to 15
-  event-number : (e : Event) → (answer e (server_in n t w)).number ≡ first (drop 1 (conditions n e t w o))
+  event_number : (e : Event) → (answer e (server_in n t w)).number ≡ first (drop 1 (conditions n e t w o))
   unfolding answer decided server_in conditions first settle
-  event-number (opens c) = closed_number (ltb c (length (table_of n t).connections)) (is_open (table_of n t) c) (table_of n t) _ ∙ rw connections-are
-  event-number (closes c) = open_number (ltb c (length (table_of n t).connections)) (is_open (table_of n t) c) (table_of n t) _ ∙ rw connections-are
-  event-number (sends c b) =
+  event_number (opens c) = closed_number (ltb c (length (table_of n t).connections)) (is_open (table_of n t) c) (table_of n t) _ ∙ rw connections_are
+  event_number (closes c) = open_number (ltb c (length (table_of n t).connections)) (is_open (table_of n t) c) (table_of n t) _ ∙ rw connections_are
+  event_number (sends c b) =
       open_number (ltb c (length (table_of n t).connections)) (is_open (table_of n t) c) (table_of n t) _
-      ∙ rw (connections-are, packet-number c (table_of n t) b)
+      ∙ rw (connections_are, packet_number c (table_of n t) b)
 
-  pub number-first : (e : Event) → (call n e t w o).number ≡ first (conditions n e t w o)
+  pub number_first : (e : Event) → (call n e t w o).number ≡ first (conditions n e t w o)
   unfolding call conditions first refused_by performed
-  number-first e = by (bad_memory n t w o)
+  number_first e = by (bad_memory n t w o)
     where
       by : (x : Bool) → (cond x (refused_by 1 t w o) (performed e (server_in n t w) t w o)).number ≡ cond x 1 (first (drop 1 (conditions n e t w o)))
       by true = refl
-      by false = event-number e
+      by false = event_number e

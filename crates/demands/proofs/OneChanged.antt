@@ -25,9 +25,9 @@ use Rattle.server_calls.specs.History.{Call, Memory, calls, leaves}
 use Rattle.server_calls.proofs.Follows.{Running}
 use Rattle.server_calls.proofs.Histories.{LongOutputs}
 use Rattle.server_blind.proofs.Alike.{Alike, alike_same, decided_alike}
-use Rattle.server_blind.proofs.Workloads.{Apart, near_at, next-apart}
-use Rattle.server_blind.proofs.Lone.{lone-none}
-use Rattle.server_blind.proofs.Stored.{created-apart}
+use Rattle.server_blind.proofs.Workloads.{Apart, near_at, next_apart}
+use Rattle.server_blind.proofs.Lone.{lone_none}
+use Rattle.server_blind.proofs.Stored.{created_apart}
 use Rattle.server_blind.proofs.Outputs.{Both}
 use Rattle.server_blind.proofs.LoneCalls.{SameEvents, same_alike}
 use Rattle.demands.specs.Messages.{message_of}
@@ -35,11 +35,11 @@ use Rattle.demands.specs.Handles.{is_made}
 use Rattle.demands.specs.Hub.{Hub, Long, call_on, kept, after_calls, results_of, table_in, server_of}
 use Rattle.demands.specs.Blind.{Copied, echoed, forwarded, ButCopies, copies, ButWorkload, assigned, Packets, Later, made_none, made_one, One}
 use Rattle.demands.specs.Blind as B
-use Rattle.demands.proofs.Hubs.{hub-runs, call-hub, call_next}
+use Rattle.demands.proofs.Hubs.{hub_runs, call_hub, call_next}
 use Rattle.demands.proofs.ReadsBack.{Reads, all_read}
-use Rattle.demands.proofs.Told.{sent_as, same-message}
+use Rattle.demands.proofs.Told.{sent_as, same_message}
 use Rattle.demands.proofs.Gone.{made_creates, newest_made}
-use Rattle.demands.proofs.Agreeing.{call-packets, calls-agree, histories_agree, tables-next}
+use Rattle.demands.proofs.Agreeing.{call_packets, calls_agree, histories_agree, tables_next}
 
 -- ---- which packets are copies
 
@@ -65,19 +65,19 @@ fair (Sends.a_noop l) = a_plain
 -- ---- the event itself
 
 module _ {e f : Event} (a : Alike e f) (s : Server) where
-  but-copies : {xs : List Send} → All (Fair s.table e) xs → All (Reads e s) xs → All (Reads f s) xs → All2 (ButCopies s.table e f) (map (sent_as e s) xs) (map (sent_as f s) xs)
+  but_copies : {xs : List Send} → All (Fair s.table e) xs → All (Reads e s) xs → All (Reads f s) xs → All2 (ButCopies s.table e f) (map (sent_as e s) xs) (map (sent_as f s) xs)
   unfolding render message_of
-  but-copies All.none All.none All.none = All2.none
-  but-copies (All.more a_plain ps) (All.more r rs) (All.more q qs) = All2.more (B.ButCopies.equal refl) (but-copies ps rs qs)
-  but-copies (All.more an_assignment ps) (All.more r rs) (All.more q qs) = All2.more (B.ButCopies.equal refl) (but-copies ps rs qs)
-  but-copies (All.more (a_copy {to} {kind} x) ps) (All.more r rs) (All.more q qs) =
-      All2.more (copies to kind x (same-message e s (copy to kind) r) (same-message f s (copy to kind) q)) (but-copies ps rs qs)
+  but_copies All.none All.none All.none = All2.none
+  but_copies (All.more a_plain ps) (All.more r rs) (All.more q qs) = All2.more (B.ButCopies.equal refl) (but_copies ps rs qs)
+  but_copies (All.more an_assignment ps) (All.more r rs) (All.more q qs) = All2.more (B.ButCopies.equal refl) (but_copies ps rs qs)
+  but_copies (All.more (a_copy {to} {kind} x) ps) (All.more r rs) (All.more q qs) =
+      All2.more (copies to kind x (same_message e s (copy to kind) r) (same_message f s (copy to kind) q)) (but_copies ps rs qs)
 
-  pub itself-copies : {n : ℕ} → Running n s → All2 (ButCopies s.table e f) (map (sent_as e s) (decided e s).packets) (map (sent_as f s) (decided f s).packets)
-  itself-copies {n} h =
+  pub itself_copies : {n : ℕ} → Running n s → All2 (ButCopies s.table e f) (map (sent_as e s) (decided e s).packets) (map (sent_as f s) (decided f s).packets)
+  itself_copies {n} h =
       let d = decided_alike a s s refl in
       let r : All (Reads f s) (decided e s).packets = subst (λ (x : Decision). All (Reads f s) x.packets) (sym d) (all_read n f s h) in
-      rw (← d) (but-copies (all_more (λ x q. fair q) (why_sent e s)) (all_read n e s h) r)
+      rw (← d) (but_copies (all_more (λ x q. fair q) (why_sent e s)) (all_read n e s h) r)
 
 -- ---- events after one that made a job
 
@@ -90,11 +90,11 @@ assigned_says e true to p w s q i = rw (q, i)
 assigned_says e false to p w s q i = rw (q, i)
 
 module _ (k : ℕ) (e : Event) (s r : Server) (a : Apart k s r) where
-  but-assigned : (x : Send) → Reads e s x → Reads e r x → ButWorkload (handle s.table.hub k) (sent_as e s x) (sent_as e r x)
+  but_assigned : (x : Send) → Reads e s x → Reads e r x → ButWorkload (handle s.table.hub k) (sent_as e s x) (sent_as e r x)
   unfolding render
-  but-assigned (plain to kind as') i o = B.ButWorkload.equal refl
-  but-assigned (copy to kind) i o = B.ButWorkload.equal refl
-  but-assigned (assign uniq to p) i o = by uniq i o (ℕ_discrete (job_at s.table p).row.serial k)
+  but_assigned (plain to kind as') i o = B.ButWorkload.equal refl
+  but_assigned (copy to kind) i o = B.ButWorkload.equal refl
+  but_assigned (assign uniq to p) i o = by uniq i o (ℕ_discrete (job_at s.table p).row.serial k)
     where
       by : (z : Bool) → Reads e s (assign z to p) → Reads e r (assign z to p) → Dec ((job_at s.table p).row.serial ≡ k) → ButWorkload (handle s.table.hub k) (sent_as e s (assign z to p)) (sent_as e r (assign z to p))
       by z i o (no m) = B.ButWorkload.equal (rw (near_at a.workloads p m, a.table))
@@ -104,17 +104,17 @@ module _ (k : ℕ) (e : Event) (s r : Server) (a : Apart k s r) where
           let w = fit n (get_or s.workloads p []) in
           let v = fit n (get_or r.workloads p []) in
           assigned to z (function_at s.table j.row.function).name (cond z (j.unique ∷ []) []) w v (length_fit n _ ∙ sym (length_fit n _))
-          (same-message e s (assign z to p) i ∙ assigned_says e z to p w s q refl) (same-message e r (assign z to p) o ∙ rw a.table (assigned_says e z to p _ r (rw (← a.table) q) refl))
+          (same_message e s (assign z to p) i ∙ assigned_says e z to p w s q refl) (same_message e r (assign z to p) o ∙ rw a.table (assigned_says e z to p _ r (rw (← a.table) q) refl))
 
-  all-assigned : (xs : List Send) → All (Reads e s) xs → All (Reads e r) xs → All2 (ButWorkload (handle s.table.hub k)) (map (sent_as e s) xs) (map (sent_as e r) xs)
-  all-assigned [] All.none All.none = All2.none
-  all-assigned (x ∷ xs) (All.more i is) (All.more o os) = All2.more (but-assigned x i o) (all-assigned xs is os)
+  all_assigned : (xs : List Send) → All (Reads e s) xs → All (Reads e r) xs → All2 (ButWorkload (handle s.table.hub k)) (map (sent_as e s) xs) (map (sent_as e r) xs)
+  all_assigned [] All.none All.none = All2.none
+  all_assigned (x ∷ xs) (All.more i is) (All.more o os) = All2.more (but_assigned x i o) (all_assigned xs is os)
 
-  apart-packets : {n : ℕ} → Running n s → Running n r → All2 (ButWorkload (handle s.table.hub k)) (map (sent_as e s) (decided e s).packets) (map (sent_as e r) (decided e r).packets)
-  apart-packets {n} h g =
+  apart_packets : {n : ℕ} → Running n s → Running n r → All2 (ButWorkload (handle s.table.hub k)) (map (sent_as e s) (decided e s).packets) (map (sent_as e r) (decided e r).packets)
+  apart_packets {n} h g =
       let d = decided_alike (alike_same e) s r a.table in
       let o : All (Reads e r) (decided e s).packets = subst (λ (x : Decision). All (Reads e r) x.packets) (sym d) (all_read n e r g) in
-      rw (← d) (all-assigned (decided e s).packets (all_read n e s h) o)
+      rw (← d) (all_assigned (decided e s).packets (all_read n e s h) o)
 
 -- ---- over calls
 
@@ -127,33 +127,33 @@ all_equal xs ys q = subst (All2 (λ a b. a ≡ b) xs) q (all_same xs)
 
 module _ (n : ℕ) where
   -- memory that holds one server
-  same-calls : {xs ys : List Call} → SameEvents xs ys → LongOutputs n xs → LongOutputs n ys → (u v : Memory) → Hub n u → Hub n v → server_of n u ≡ server_of n v
+  same_calls : {xs ys : List Call} → SameEvents xs ys → LongOutputs n xs → LongOutputs n ys → (u v : Memory) → Hub n u → Hub n v → server_of n u ≡ server_of n v
       → Both (Packets (λ a b. a ≡ b)) xs ys (results_of n xs u) (results_of n ys v)
   unfolding calls
-  same-calls All2.none All.none All.none u v hu hv q = Both.none
-  same-calls (All2.more {a = x} {b = y} e rest) (All.more lx ls) (All.more ly ms) u v hu hv q =
+  same_calls All2.none All.none All.none u v hu hv q = Both.none
+  same_calls (All2.more {a = x} {b = y} e rest) (All.more lx ls) (All.more ly ms) u v hu hv q =
       Both.more
-      (all_equal _ _ (call-packets n u hu x lx ∙ ap₂ (λ (f : Event) (s : Server). map (sent_as f s) (decided f s).packets) e q ∙ sym (call-packets n v hv y ly)))
-      (same-calls rest ls ms (kept (call_on n u x)) (kept (call_on n v y)) (call-hub n u hu x lx) (call-hub n v hv y ly) (call_next n u hu x lx ∙ ap₂ next e q ∙ sym (call_next n v hv y ly)))
+      (all_equal _ _ (call_packets n u hu x lx ∙ ap₂ (λ (f : Event) (s : Server). map (sent_as f s) (decided f s).packets) e q ∙ sym (call_packets n v hv y ly)))
+      (same_calls rest ls ms (kept (call_on n u x)) (kept (call_on n v y)) (call_hub n u hu x lx) (call_hub n v hv y ly) (call_next n u hu x lx ∙ ap₂ next e q ∙ sym (call_next n v hv y ly)))
 
   -- memory that holds two servers that differ in the workload of the job with serial k
   apart_next : (k : ℕ) (u v : Memory) → Hub n u → Hub n v → Apart k (server_of n u) (server_of n v) → (x y : Call) → Long n x → Long n y → x.event ≡ y.event
       → Apart k (server_of n (kept (call_on n u x))) (server_of n (kept (call_on n v y)))
-  apart_next k u v hu hv a x y lx ly e = rw (call_next n u hu x lx, call_next n v hv y ly, ← e) (next-apart k x.event (server_of n u) (server_of n v) a)
+  apart_next k u v hu hv a x y lx ly e = rw (call_next n u hu x lx, call_next n v hv y ly, ← e) (next_apart k x.event (server_of n u) (server_of n v) a)
 
-  hub-next : (u : Memory) → Hub n u → (x : Call) → Long n x → (server_of n (kept (call_on n u x))).table.hub ≡ (server_of n u).table.hub
-  hub-next u hu x lx = ap (λ (s : Server). s.table.hub) (call_next n u hu x lx) ∙ hub_kept x.event (server_of n u)
+  hub_next : (u : Memory) → Hub n u → (x : Call) → Long n x → (server_of n (kept (call_on n u x))).table.hub ≡ (server_of n u).table.hub
+  hub_next u hu x lx = ap (λ (s : Server). s.table.hub) (call_next n u hu x lx) ∙ hub_kept x.event (server_of n u)
 
-  apart-calls : (name : Bytes) (k : ℕ) {xs ys : List Call} → SameEvents xs ys → LongOutputs n xs → LongOutputs n ys → (u v : Memory) → Hub n u → Hub n v → (server_of n u).table.hub ≡ name → Apart k (server_of n u) (server_of n v)
+  apart_calls : (name : Bytes) (k : ℕ) {xs ys : List Call} → SameEvents xs ys → LongOutputs n xs → LongOutputs n ys → (u v : Memory) → Hub n u → Hub n v → (server_of n u).table.hub ≡ name → Apart k (server_of n u) (server_of n v)
       → Both (Packets (ButWorkload (handle name k))) xs ys (results_of n xs u) (results_of n ys v) × Apart k (server_of n (after_calls n xs u)) (server_of n (after_calls n ys v))
   unfolding calls leaves
-  apart-calls name k All2.none All.none All.none u v hu hv is a = (Both.none, a)
-  apart-calls name k (All2.more {a = x} {b = y} e rest) (All.more lx ls) (All.more ly ms) u v hu hv is a =
-      let (b, c) = apart-calls name k rest ls ms (kept (call_on n u x)) (kept (call_on n v y)) (call-hub n u hu x lx) (call-hub n v hv y ly) (hub-next u hu x lx ∙ is) (apart_next k u v hu hv a x y lx ly e) in
+  apart_calls name k All2.none All.none All.none u v hu hv is a = (Both.none, a)
+  apart_calls name k (All2.more {a = x} {b = y} e rest) (All.more lx ls) (All.more ly ms) u v hu hv is a =
+      let (b, c) = apart_calls name k rest ls ms (kept (call_on n u x)) (kept (call_on n v y)) (call_hub n u hu x lx) (call_hub n v hv y ly) (hub_next u hu x lx ∙ is) (apart_next k u v hu hv a x y lx ly e) in
       let p : All2 (ButWorkload (handle name k)) (map (sent_as x.event (server_of n u)) (decided x.event (server_of n u)).packets) (map (sent_as x.event (server_of n v)) (decided x.event (server_of n v)).packets)
       = subst (λ (hub : Bytes). All2 (ButWorkload (handle hub k)) (map (sent_as x.event (server_of n u)) (decided x.event (server_of n u)).packets) (map (sent_as x.event (server_of n v)) (decided x.event (server_of n v)).packets)) is
-      (apart-packets k x.event (server_of n u) (server_of n v) a (hub-runs n u hu) (hub-runs n v hv)) in
-      let q : Packets (ButWorkload (handle name k)) x y (call_on n u x) (call_on n v y) = rw (call-packets n u hu x lx, call-packets n v hv y ly, ← e) p in
+      (apart_packets k x.event (server_of n u) (server_of n v) a (hub_runs n u hu) (hub_runs n v hv)) in
+      let q : Packets (ButWorkload (handle name k)) x y (call_on n u x) (call_on n v y) = rw (call_packets n u hu x lx, call_packets n v hv y ly, ← e) p in
       (Both.more q b, c)
 
 -- ---- one changed call
@@ -167,38 +167,38 @@ module _ (n : ℕ) (m w : Memory) (hm : Hub n m) (hw : Hub n w) (same : server_o
   v = kept (call_on n w y)
 
   hu : Hub n u
-  hu = call-hub n m hm x lx
+  hu = call_hub n m hm x lx
 
   hv : Hub n v
-  hv = call-hub n w hw y ly
+  hv = call_hub n w hw y ly
 
-  server-v : server_of n v ≡ next y.event (server_of n m)
-  server-v = call_next n w hw y ly ∙ ap (next y.event) (sym same)
+  server_v : server_of n v ≡ next y.event (server_of n m)
+  server_v = call_next n w hw y ly ∙ ap (next y.event) (sym same)
 
-  same-table : table_in n m ≡ table_in n w
+  same_table : table_in n m ≡ table_in n w
   unfolding server_in
-  same-table = ap (λ (s : Server). s.table) same
+  same_table = ap (λ (s : Server). s.table) same
 
   later_by : Creation (server_of n m) x.event → Later n m u v xs ys
   unfolding server_in
   later_by (nothing k z) =
-      let q : server_of n u ≡ server_of n v = call_next n m hm x lx ∙ lone-none a (server_of n m) z ∙ sym server-v in
+      let q : server_of n u ≡ server_of n v = call_next n m hm x lx ∙ lone_none a (server_of n m) z ∙ sym server_v in
       made_none (λ h. never _ (λ g. let (i, p, c) = made_creates x.event (server_of n m) h (subst (λ (s : Server). is_made h (table_in n m) s.table ≡ true) (call_next n m hm x lx) g) in z i c))
-      q (same-calls n rest lxs lys u v hu hv q)
+      q (same_calls n rest lxs lys u v hu hv q)
   later_by (one c i k d f) =
       let s = server_of n m in
       let l : ℕ = suc s.table.last in
-      let ap' : Apart l (server_of n u) (server_of n v) = rw (call_next n m hm x lx, server-v) (created-apart a s l d) in
-      let (b, r) = apart-calls n s.table.hub l rest lxs lys u v hu hv (hub-next n m hm x lx) ap' in
-      made_one l (subst (λ (z : Server). is_made (handle s.table.hub l) (table_in n m) z.table ≡ true) (sym (call_next n m hm x lx)) (newest_made n x.event s (hub-runs n m hm) k.room (creates_grown d)))
+      let ap' : Apart l (server_of n u) (server_of n v) = rw (call_next n m hm x lx, server_v) (created_apart a s l d) in
+      let (b, r) = apart_calls n s.table.hub l rest lxs lys u v hu hv (hub_next n m hm x lx) ap' in
+      made_one l (subst (λ (z : Server). is_made (handle s.table.hub l) (table_in n m) z.table ≡ true) (sym (call_next n m hm x lx)) (newest_made n x.event s (hub_runs n m hm) k.room (creates_grown d)))
       b (λ p z. near_at r.workloads p z)
 
-  pub one-changed : One n m w x y xs ys
+  pub one_changed : One n m w x y xs ys
   unfolding server_in
-  one-changed =
+  one_changed =
       record {
-        itself = calls-agree n m w hm hw same-table x y lx ly a;
-        packets = rw (call-packets n m hm x lx, call-packets n w hw y ly, ← same) (itself-copies a (server_of n m) (hub-runs n m hm));
-        others = histories_agree n (same_alike rest) lxs lys u v hu hv (tables-next n m w hm hw same-table x y lx ly a);
+        itself = calls_agree n m w hm hw same_table x y lx ly a;
+        packets = rw (call_packets n m hm x lx, call_packets n w hw y ly, ← same) (itself_copies a (server_of n m) (hub_runs n m hm));
+        others = histories_agree n (same_alike rest) lxs lys u v hu hv (tables_next n m w hm hw same_table x y lx ly a);
         later = later_by (creation (server_of n m) x.event);
       }

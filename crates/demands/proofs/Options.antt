@@ -31,7 +31,7 @@ use Rattle.demands.specs.Hub.{Hub, call_on, kept, after_calls, results_of, table
 use Rattle.demands.specs.Conditions.{type_of}
 use Rattle.demands.specs.Listening.{catches_after, catches, option_in}
 use Rattle.demands.proofs.Sorts.{is_option, Typed, typed, packet_typed}
-use Rattle.demands.proofs.Hubs.{call-number, call-hub, call_next}
+use Rattle.demands.proofs.Hubs.{call_number, call_hub, call_next}
 
 -- ---- OPTION_REQ is type 26
 
@@ -49,21 +49,21 @@ module _ (c : ℕ) where
   marked t = option_in t c
 
   -- the end of an event keeps it
-  marked-settled : (ss : List Send) (u : Table) → marked (settle ss u).table ≡ marked u
+  marked_settled : (ss : List Send) (u : Table) → marked (settle ss u).table ≡ marked u
   unfolding settle forgot dropped
-  marked-settled ss u =
+  marked_settled ss u =
       ap (λ (x : Connection). x.exceptions) (woken_at (dropped u) c) ∙ cond_both (λ (x : Connection). x.exceptions ≡ marked u) (wakes (ables_of (dropped u)) (rows_of (dropped u)) c (connection_at u c)) refl refl
 
   -- a connection's row anew
-  marked-set : (t : Table) (d : ℕ) (x : Connection) → d < length t.connections → marked (set_connection t d x) ≡ cond (eqb d c) x.exceptions (marked t)
-  marked-set t d x h = by (ℕ_discrete d c)
+  marked_set : (t : Table) (d : ℕ) (x : Connection) → d < length t.connections → marked (set_connection t d x) ≡ cond (eqb d c) x.exceptions (marked t)
+  marked_set t d x h = by (ℕ_discrete d c)
     where
       by : Dec (d ≡ c) → marked (set_connection t d x) ≡ cond (eqb d c) x.exceptions (marked t)
       by (yes e) = rw (eq-eqb d c e, ← e) (ap (λ (y : Connection). y.exceptions) (get_or-set_same t.connections d x closed h))
       by (no n) = rw (ne_eqb d c n) (ap (λ (y : Connection). y.exceptions) (get_or-set_other t.connections d c x closed (λ e. n (sym e))))
 
-  marked-same : (t : Table) (d : ℕ) (x : Connection) → d < length t.connections → x.exceptions ≡ (connection_at t d).exceptions → marked (set_connection t d x) ≡ marked t
-  marked-same t d x h q = marked-set t d x h ∙ by (ℕ_discrete d c)
+  marked_same : (t : Table) (d : ℕ) (x : Connection) → d < length t.connections → x.exceptions ≡ (connection_at t d).exceptions → marked (set_connection t d x) ≡ marked t
+  marked_same t d x h q = marked_set t d x h ∙ by (ℕ_discrete d c)
     where
       by : Dec (d ≡ c) → cond (eqb d c) x.exceptions (marked t) ≡ marked t
       by (yes e) = rw (eq-eqb d c e, q, e)
@@ -82,43 +82,43 @@ module _ (c : ℕ) where
     kept_by d b q o z m e = e ∙ rw (option_typed b q z, o, and_false (eqb d c)) (sym (or_off (marked t)))
 
     module _ (d : ℕ) (b : Bytes) (o : Stands t d true) where
-      marks-change : {a : Request} {ss : List Send} {u : Table} → request_in b ≡ a → Change d t a ss u → marked u ≡ marked t || (eqb d c && eqb (type_of b) 26)
+      marks_change : {a : Request} {ss : List Send} {u : Table} → request_in b ≡ a → Change d t a ss u → marked u ≡ marked t || (eqb d c && eqb (type_of b) 26)
       unfolding unable_to_all sleeping
-      marks-change q (Change.able f k r) = kept_by d b q refl refl _ refl
-      marks-change q (Change.unknown f r) = kept_by d b q refl refl _ refl
-      marks-change q (Change.disabled f k r) = kept_by d b q refl refl _ refl
-      marks-change q (Change.identified i) = kept_by d b q refl refl _ refl
-      marks-change q Change.cleared = kept_by d b q refl refl _ refl
-      marks-change q Change.slept = kept_by d b q refl refl _ (marked-same t d _ o.inside refl)
-      marks-change q (Change.no_job_for uniq r) = kept_by d b q refl refl _ (marked-same t d _ o.inside refl)
-      marks-change q (Change.grabbed uniq p r) = kept_by d b q refl refl _ (marked-same t d _ o.inside refl)
-      marks-change q (Change.joins priority background f u size p r) = kept_by d b q refl refl _ refl
-      marks-change q (Change.accepts priority background f u size k p r₁ r₂ r₃ l) = kept_by d b q refl refl _ refl
-      marks-change q (Change.worker how kind h n x p r) = kept_by d b q refl refl _ refl
-      marks-change q (Change.status h i r) = kept_by d b q refl refl _ refl
-      marks-change q (Change.optioned name r) = marked-set t d _ o.inside ∙ rw (option_typed b q refl) (by (eqb d c) (marked t))
+      marks_change q (Change.able f k r) = kept_by d b q refl refl _ refl
+      marks_change q (Change.unknown f r) = kept_by d b q refl refl _ refl
+      marks_change q (Change.disabled f k r) = kept_by d b q refl refl _ refl
+      marks_change q (Change.identified i) = kept_by d b q refl refl _ refl
+      marks_change q Change.cleared = kept_by d b q refl refl _ refl
+      marks_change q Change.slept = kept_by d b q refl refl _ (marked_same t d _ o.inside refl)
+      marks_change q (Change.no_job_for uniq r) = kept_by d b q refl refl _ (marked_same t d _ o.inside refl)
+      marks_change q (Change.grabbed uniq p r) = kept_by d b q refl refl _ (marked_same t d _ o.inside refl)
+      marks_change q (Change.joins priority background f u size p r) = kept_by d b q refl refl _ refl
+      marks_change q (Change.accepts priority background f u size k p r₁ r₂ r₃ l) = kept_by d b q refl refl _ refl
+      marks_change q (Change.worker how kind h n x p r) = kept_by d b q refl refl _ refl
+      marks_change q (Change.status h i r) = kept_by d b q refl refl _ refl
+      marks_change q (Change.optioned name r) = marked_set t d _ o.inside ∙ rw (option_typed b q refl) (by (eqb d c) (marked t))
         where
           by : (x y : Bool) → cond x true y ≡ y || (x && true)
           by true true = refl
           by true false = refl
           by false true = refl
           by false false = refl
-      marks-change q Change.echoed = kept_by d b q refl refl _ refl
+      marks_change q Change.echoed = kept_by d b q refl refl _ refl
 
       -- a refusal has a number
-      refused-number : {a : Request} {n : ℕ} → request_in b ≡ a → Refuses d t a n → eqb n 0 ≡ false
-      refused-number q (Refuses.unread n) = ne_eqb n 0 (λ e. let (l, m) = bad_within_lem b n q in omega arith)
-      refused-number q (Refuses.no_room f r) = refl
-      refused-number q (Refuses.no_function priority background f u size r₁ r₂) = refl
-      refused-number q (Refuses.no_place priority background f u size k r₁ r₂ r₃) = refl
-      refused-number q (Refuses.no_serial priority background f u size k p r₁ r₂ r₃ l) = refl
-      refused-number q (Refuses.not_held how kind h n x r) = refl
-      refused-number q (Refuses.no_option name r) = refl
+      refused_number : {a : Request} {n : ℕ} → request_in b ≡ a → Refuses d t a n → eqb n 0 ≡ false
+      refused_number q (Refuses.unread n) = ne_eqb n 0 (λ e. let (l, m) = bad_within_lem b n q in omega arith)
+      refused_number q (Refuses.no_room f r) = refl
+      refused_number q (Refuses.no_function priority background f u size r₁ r₂) = refl
+      refused_number q (Refuses.no_place priority background f u size k r₁ r₂ r₃) = refl
+      refused_number q (Refuses.no_serial priority background f u size k p r₁ r₂ r₃ l) = refl
+      refused_number q (Refuses.not_held how kind h n x r) = refl
+      refused_number q (Refuses.no_option name r) = refl
 
-      marks-served : {a : Request} {x : Decision} → request_in b ≡ a → Served d t a x → Marks (sends d b) x
+      marks_served : {a : Request} {x : Decision} → request_in b ≡ a → Served d t a x → Marks (sends d b) x
       unfolding refuse settle
-      marks-served q (Served.refused a n r) = rw (refused-number q r) (sym (or_off (marked t)))
-      marks-served q (Served.done a ss u m) = marked-settled ss u ∙ marks-change q m
+      marks_served q (Served.refused a n r) = rw (refused_number q r) (sym (or_off (marked t)))
+      marks_served q (Served.done a ss u m) = marked_settled ss u ∙ marks_change q m
 
     marks : {e : Event} {x : Decision} → Outcome t e x → Marks e x
     unfolding silence settle opening closing
@@ -126,28 +126,28 @@ module _ (c : ℕ) where
     marks (Outcome.silenced e n (Silences.closes_none d o)) = sym (or_off (marked t))
     marks (Outcome.silenced e n (Silences.sends_closed d b o)) = sym (or_off (marked t))
     marks (Outcome.silenced e n (Silences.opens_twice d o)) = sym (or_off (marked t))
-    marks (Outcome.opened d o) = marked-settled [] (opening d t) ∙ turned d _ (marked-set t d _ o.inside)
-    marks (Outcome.closed d o) = marked-settled [] (closing d t) ∙ turned d _ (marked-set t d _ o.inside)
-    marks (Outcome.serves d b x o r) = marks-served d b o refl r
+    marks (Outcome.opened d o) = marked_settled [] (opening d t) ∙ turned d _ (marked_set t d _ o.inside)
+    marks (Outcome.closed d o) = marked_settled [] (closing d t) ∙ turned d _ (marked_set t d _ o.inside)
+    marks (Outcome.serves d b x o r) = marks_served d b o refl r
 
   -- ---- over calls
 
-  pub step-option : (e : Event) (s : Server) → marked (next e s).table ≡ catches_after c (marked s.table) e (answer e s).number
+  pub step_option : (e : Event) (s : Server) → marked (next e s).table ≡ catches_after c (marked s.table) e (answer e s).number
   unfolding next answer
-  step-option e s = marks s.table (outcome e s)
+  step_option e s = marks s.table (outcome e s)
 
-  history-option : (n : ℕ) (xs : List Call) (m : Memory) → Hub n m → LongOutputs n xs → marked (server_of n (after_calls n xs m)).table ≡ catches c (marked (server_of n m).table) xs (results_of n xs m)
+  history_option : (n : ℕ) (xs : List Call) (m : Memory) → Hub n m → LongOutputs n xs → marked (server_of n (after_calls n xs m)).table ≡ catches c (marked (server_of n m).table) xs (results_of n xs m)
   unfolding catches calls leaves
-  history-option n [] m hub All.none = refl
-  history-option n (z ∷ xs) m hub (All.more l ls) =
+  history_option n [] m hub All.none = refl
+  history_option n (z ∷ xs) m hub (All.more l ls) =
       let k = kept (call_on n m z) in
       let s = server_of n m in
       let q : server_of n k ≡ next z.event s = call_next n m hub z l in
       let step : marked (server_of n k).table ≡ catches_after c (marked s.table) z.event (call_on n m z).number
-      = ap (λ (o : Server). marked o.table) q ∙ step-option z.event s ∙ ap (catches_after c (marked s.table) z.event) (sym (call-number n m hub z l)) in
-      history-option n xs k (call-hub n m hub z l) ls ∙ ap (λ (b : Bool). catches c b xs (results_of n xs k)) step
+      = ap (λ (o : Server). marked o.table) q ∙ step_option z.event s ∙ ap (catches_after c (marked s.table) z.event) (sym (call_number n m hub z l)) in
+      history_option n xs k (call_hub n m hub z l) ls ∙ ap (λ (b : Bool). catches c b xs (results_of n xs k)) step
 
-  pub calls-option : (n : ℕ) (xs : List Call) (m : Memory) → Hub n m → LongOutputs n xs
+  pub calls_option : (n : ℕ) (xs : List Call) (m : Memory) → Hub n m → LongOutputs n xs
       → option_in (table_in n (after_calls n xs m)) c ≡ catches c (option_in (table_in n m) c) xs (results_of n xs m)
   unfolding server_in
-  calls-option n xs m hub l = history-option n xs m hub l
+  calls_option n xs m hub l = history_option n xs m hub l

@@ -11,7 +11,7 @@ use lib.Dec.{leb, ltb, eqb}
 use Rattle.octets.specs.Bytes.{Bytes, same, within, zero_free, every, first_zero}
 use Rattle.octets.proofs.Strings.{and_left, and_right, and_both, same_is}
 use Rattle.handle.specs.Handle.{handle, is_hub_name}
-use Rattle.handle.proofs.Handles.{handle_least, handle-bounded, handle-clean}
+use Rattle.handle.proofs.Handles.{handle_least, handle_bounded, handle_clean}
 use Rattle.packet.specs.Layout.{rules_of, request_shape, response_shape, is_own}
 use Rattle.packet.specs.Layout as L
 use Rattle.packet.specs.declared.Shape.TheVariants.{Handle}
@@ -19,9 +19,9 @@ use Rattle.packet.specs.declared.Rule.TheVariants.{Text, Flag, Opaque}
 use Rattle.packet.specs.Arguments.{fits, fit_all, join}
 use Rattle.packet.specs.Packet.{got, read, requests, responses}
 use Rattle.packet.specs.Opaque.{visible, opaque}
-use Rattle.packet_laws.proofs.Packets.{responses_well, Headed, header-good, Got, read-got}
+use Rattle.packet_laws.proofs.Packets.{responses_well, Headed, header_good, Got, read_got}
 use Rattle.packet_laws.proofs.Splitting.{split_join, text_short}
-use Rattle.packet_laws.proofs.RoundTrip.{packet-reads}
+use Rattle.packet_laws.proofs.RoundTrip.{packet_reads}
 use Rattle.packet_laws.proofs.Blindness.{data_whole}
 use Rattle.lists.specs.Lists.{fit}
 use Rattle.lists.proofs.Lists.{length_fit}
@@ -43,7 +43,7 @@ use Rattle.server_calls.proofs.Follows.{Running}
 use Rattle.server_calls.proofs.Refusals.{short_at}
 use Rattle.server_blind.proofs.OpaqueParts.{packet_of}
 use Rattle.demands.specs.Messages.{arguments_in, arguments_of, message_of}
-use Rattle.demands.proofs.Arguments.{work-read, echo-read, status-read}
+use Rattle.demands.proofs.Arguments.{work_read, echo_read, status_read}
 
 -- arguments that may be sent by this type
 record Sendable (kind : ℕ) (args : List Bytes) : Type 0 where
@@ -52,23 +52,23 @@ record Sendable (kind : ℕ) (args : List Bytes) : Type 0 where
   limited : length (join args) ≤ 1088
 
 reads_by : (p : Sent) (args : List Bytes) → p.shown ++ p.opaque_part ≡ join args → Sendable p.kind args → read responses (packet_of p) ≡ got p.kind args
-reads_by p args q h = rw q (packet-reads responses responses_well p.kind args h.own h.fit h.limited)
+reads_by p args q h = rw q (packet_reads responses responses_well p.kind args h.own h.fit h.limited)
 
 -- ---- arguments
 
 module _ (hub : Bytes) (good : is_hub_name hub ≡ true) where
-  handle-fits : (n : ℕ) → fits L.handle (handle hub n) ≡ true
+  handle_fits : (n : ℕ) → fits L.handle (handle hub n) ≡ true
   unfolding fits
-  handle-fits n =
+  handle_fits n =
       let a = handle_least hub n in
-      let b = handle-bounded hub good n in
-      and_both (within 1 63 (length (handle hub n))) _ (and_both (leb 1 (length (handle hub n))) _ (le-leb 1 (length (handle hub n)) (omega arith)) (le-leb (length (handle hub n)) 63 (omega arith))) (handle-clean hub good n)
+      let b = handle_bounded hub good n in
+      and_both (within 1 63 (length (handle hub n))) _ (and_both (leb 1 (length (handle hub n))) _ (le-leb 1 (length (handle hub n)) (omega arith)) (le-leb (length (handle hub n)) 63 (omega arith))) (handle_clean hub good n)
 
   -- 8 JOB_CREATED and 14 WORK_FAIL: a handle alone
-  handle-sendable : (kind : ℕ) → response_shape kind ≡ Handle → (n : ℕ) → Sendable kind (handle hub n ∷ [])
+  handle_sendable : (kind : ℕ) → response_shape kind ≡ Handle → (n : ℕ) → Sendable kind (handle hub n ∷ [])
   unfolding rules_of fit_all join
-  handle-sendable kind e n =
-      record { own = rw e; fit = rw e (and_both (fits L.handle (handle hub n)) true (handle-fits n) refl); limited = omega (arith, handle-bounded hub good n) }
+  handle_sendable kind e n =
+      record { own = rw e; fit = rw e (and_both (fits L.handle (handle hub n)) true (handle_fits n) refl); limited = omega (arith, handle_bounded hub good n) }
 
 empty_sendable : (kind : ℕ) → is_own (response_shape kind) ≡ true → rules_of (response_shape kind) ≡ [] → Sendable kind []
 unfolding fit_all join
@@ -126,8 +126,8 @@ status_sendable h n d known running f en ed =
 status_fits : (b h : Bytes) → request_in b ≡ get_status h → fits L.handle h ≡ true
 unfolding rules_of fit_all
 status_fits b h q =
-    let r = status-read b h q in
-    let g : Got requests b r.kind r.args = read-got requests b r.kind r.args r.reads in
+    let r = status_read b h q in
+    let g : Got requests b r.kind r.args = read_got requests b r.kind r.args r.reads in
     let f : fit_all (rules_of (request_shape r.kind)) r.args ≡ true = (split_join _ (drop 12 b) r.args g.splits).1 in
     rw r.first (first r.args (rw r.shape at f))
   where
@@ -144,9 +144,9 @@ record Passed (b : Bytes) (kind : ℕ) (args : List Bytes) : Type 0 where
 
 passed : (b : Bytes) (k kind : ℕ) (args : List Bytes) → read requests b ≡ got k args → response_shape kind ≡ request_shape k → Passed b kind args
 passed b k kind args e q =
-    let g : Got requests b k args = read-got requests b k args e in
+    let g : Got requests b k args = read_got requests b k args e in
     let j = split_join (rules_of (request_shape k)) (drop 12 b) args g.splits in
-    let h : Headed requests.magic requests.most b = header-good _ _ b g.headed in
+    let h : Headed requests.magic requests.most b = header_good _ _ b g.headed in
     record {
       sendable = record { own = rw q g.own; fit = rw q j.1; limited = rw (j.0, length-drop) (omega (arith, h.limited, h.whole)) };
       whole = data_whole requests b h.long ∙ sym j.0;
@@ -167,28 +167,28 @@ module _ (e : Event) (s : Server) where
   unfolding render message_of
   reads_plain to kind args h = reads_by (render e s (plain to kind args)) args (append-nil (join args)) h
 
-  pub reads-error : (c n : ℕ) → is_told n ≡ true → Reads (error c n)
-  reads-error c n h = reads_plain c 19 _ (error_sendable n h)
+  pub reads_error : (c n : ℕ) → is_told n ≡ true → Reads (error c n)
+  reads_error c n h = reads_plain c 19 _ (error_sendable n h)
 
-  reads-created : hub_named s.table ≡ true → (c n : ℕ) → Reads (created s.table.hub c n)
+  reads_created : hub_named s.table ≡ true → (c n : ℕ) → Reads (created s.table.hub c n)
   unfolding response_shape
-  reads-created good c n = reads_plain c 8 _ (handle-sendable s.table.hub good 8 refl n)
+  reads_created good c n = reads_plain c 8 _ (handle_sendable s.table.hub good 8 refl n)
 
 -- ---- copies
 
 module _ (c : ℕ) (b : Bytes) (s : Server) where
-  reads-copy : (to kind : ℕ) (args : List Bytes) → Passed b kind args → arguments_of (sends c b) ≡ args → Reads (sends c b) s (copy to kind)
+  reads_copy : (to kind : ℕ) (args : List Bytes) → Passed b kind args → arguments_of (sends c b) ≡ args → Reads (sends c b) s (copy to kind)
   unfolding render message_of shown_by opaque_of
-  reads-copy to kind args p q = rw q (reads_by (render (sends c b) s (copy to kind)) args p.whole p.sendable)
+  reads_copy to kind args p q = rw q (reads_by (render (sends c b) s (copy to kind)) args p.whole p.sendable)
 
-  reads-echo : request_in b ≡ echo → Reads (sends c b) s (copy c 17)
+  reads_echo : request_in b ≡ echo → Reads (sends c b) s (copy c 17)
   unfolding response_shape
-  reads-echo q = let r = echo-read b q in reads-copy c 17 r.args (passed b r.kind 17 r.args r.reads (sym r.shape)) (arguments_are c b r.kind r.args r.reads)
+  reads_echo q = let r = echo_read b q in reads_copy c 17 r.args (passed b r.kind 17 r.args r.reads (sym r.shape)) (arguments_are c b r.kind r.args r.reads)
 
-  reads-work : (how : Work) (kind : ℕ) (h n d : Bytes) → request_in b ≡ work how kind h n d → (to : ℕ) → Reads (sends c b) s (copy to kind)
-  reads-work how kind h n d q to =
-      let r = work-read b how kind h n d q in
-      reads-copy to kind r.args (passed b kind kind r.args r.reads r.shape) (arguments_are c b kind r.args r.reads)
+  reads_work : (how : Work) (kind : ℕ) (h n d : Bytes) → request_in b ≡ work how kind h n d → (to : ℕ) → Reads (sends c b) s (copy to kind)
+  reads_work how kind h n d q to =
+      let r = work_read b how kind h n d q in
+      reads_copy to kind r.args (passed b kind kind r.args r.reads r.shape) (arguments_are c b kind r.args r.reads)
 
 -- ---- assignments
 
@@ -240,36 +240,36 @@ unfolding fits
 opaque_fits w = refl
 
 module _ (e : Event) (s : Server) (to p : ℕ) (x : Texts s.table p) where
-  assign-sendable : (uniq : Bool) (w : Bytes) → length w ≡ (job_at s.table p).row.size
+  assign_sendable : (uniq : Bool) (w : Bytes) → length w ≡ (job_at s.table p).row.size
       → let j = job_at s.table p in Sendable (cond uniq 31 11) (handle s.table.hub j.row.serial ∷ (function_at s.table j.row.function).name ∷ cond uniq (j.unique ∷ w ∷ []) (w ∷ []))
   unfolding rules_of response_shape fit_all join
-  assign-sendable true w l =
+  assign_sendable true w l =
       let j = job_at s.table p in
       let h = handle s.table.hub j.row.serial in
       let f = (function_at s.table j.row.function).name in
-      let m = handle-bounded s.table.hub x.hub j.row.serial in
+      let m = handle_bounded s.table.hub x.hub j.row.serial in
       record {
         own = refl;
-        fit = and_both (fits L.handle h) _ (handle-fits s.table.hub x.hub _) (and_both (fits L.function f) _ x.function (and_both (fits L.unique j.unique) _ x.unique (opaque_fits w)));
+        fit = and_both (fits L.handle h) _ (handle_fits s.table.hub x.hub _) (and_both (fits L.function f) _ x.function (and_both (fits L.unique j.unique) _ x.unique (opaque_fits w)));
         limited = rw (length-append h (0 ∷ (f ++ (0 ∷ (j.unique ++ (0 ∷ w))))), length-append f (0 ∷ (j.unique ++ (0 ∷ w))), length-append j.unique (0 ∷ w)) (omega (arith, x.small));
       }
-  assign-sendable false w l =
+  assign_sendable false w l =
       let j = job_at s.table p in
       let h = handle s.table.hub j.row.serial in
       let f = (function_at s.table j.row.function).name in
-      let m = handle-bounded s.table.hub x.hub j.row.serial in
+      let m = handle_bounded s.table.hub x.hub j.row.serial in
       record {
         own = refl;
-        fit = and_both (fits L.handle h) _ (handle-fits s.table.hub x.hub _) (and_both (fits L.function f) _ x.function (opaque_fits w));
+        fit = and_both (fits L.handle h) _ (handle_fits s.table.hub x.hub _) (and_both (fits L.function f) _ x.function (opaque_fits w));
         limited = rw (length-append h (0 ∷ (f ++ (0 ∷ w))), length-append f (0 ∷ w)) (omega (arith, x.small));
       }
 
-  reads-assigned : (uniq : Bool) → Reads e s (assign uniq to p)
+  reads_assigned : (uniq : Bool) → Reads e s (assign uniq to p)
   unfolding render message_of
-  reads-assigned uniq =
+  reads_assigned uniq =
       let j = job_at s.table p in
       let w = fit j.row.size (get_or s.workloads p []) in
-      reads_by (render e s (assign uniq to p)) _ (assign_data uniq (handle s.table.hub j.row.serial) (function_at s.table j.row.function).name j.unique w) (assign-sendable uniq w (length_fit j.row.size _))
+      reads_by (render e s (assign uniq to p)) _ (assign_data uniq (handle s.table.hub j.row.serial) (function_at s.table j.row.function).name j.unique w) (assign_sendable uniq w (length_fit j.row.size _))
 
 -- ---- every event
 
@@ -277,32 +277,32 @@ module _ (n : ℕ) (s : Server) (h : Running n s) where
   named : hub_named s.table ≡ true
   named = (obeyed s.table h.rules).sound.named
 
-  reads-status : (c : ℕ) (b j : Bytes) (o : Option ℕ) → request_in b ≡ get_status j → job_of s.table j ≡ o → Reads (sends c b) s (plain c 20 (status_of o j s.table))
+  reads_status : (c : ℕ) (b j : Bytes) (o : Option ℕ) → request_in b ≡ get_status j → job_of s.table j ≡ o → Reads (sends c b) s (plain c 20 (status_of o j s.table))
   unfolding has_handle every
-  reads-status c b j none q r = reads_plain _ s c 20 _ (status_sendable j _ _ false false (status_fits b j q) refl refl)
-  reads-status c b j (some p) q r =
+  reads_status c b j none q r = reads_plain _ s c 20 _ (status_sendable j _ _ false false (status_fits b j q) refl refl)
+  reads_status c b j (some p) q r =
       let f = found (λ x. has_handle s.table.hub j x.row) no_job s.table.jobs (some p) r in
       let x = texts n s h p f.inside (and_left (live (job_at s.table p).row) _ f.passes) in
       let k = job_at s.table p in
       reads_plain _ s c 20 _ (status_sendable j k.numerator k.denominator true (not (eqb k.row.holder 0)) (status_fits b j q) x.numerator x.denominator)
 
   -- each packet, by the reason why it is sent
-  reads-sent : {last : ℕ} {e : Event} {x : Send} → Sends s.table last e x → Reads e s x
+  reads_sent : {last : ℕ} {e : Event} {x : Send} → Sends s.table last e x → Reads e s x
   unfolding rules_of response_shape
-  reads-sent (Sends.an_error c b m r) = reads-error _ s c m r
-  reads-sent (Sends.no_job_lem c b uniq q r) = reads_plain _ s c 10 [] (empty_sendable 10 refl refl)
-  reads-sent (Sends.the_job c b uniq q p r) =
+  reads_sent (Sends.an_error c b m r) = reads_error _ s c m r
+  reads_sent (Sends.no_job_lem c b uniq q r) = reads_plain _ s c 10 [] (empty_sendable 10 refl refl)
+  reads_sent (Sends.the_job c b uniq q p r) =
       let (i, g) = best_found s.table c p r in
       let l = and_left (live (job_at s.table p).row) _ (and_left (queued (job_at s.table p).row) _ g) in
-      reads-assigned _ s c p (texts n s h p i l) uniq
-  reads-sent (Sends.handle_joined c b priority background f u size q p r) = reads-created _ s named c _
-  reads-sent (Sends.handle_made c b priority background f u size q l m) = reads-created _ s named c _
-  reads-sent (Sends.a_copy c b how kind j x y q p r l m w) = reads-work c b s how kind j x y q l
-  reads-sent (Sends.a_failure c b how kind j x y q p r l m w) = reads_plain _ s l 14 _ (handle-sendable s.table.hub named 14 refl (job_at s.table p).row.serial)
-  reads-sent (Sends.a_status c b j q o r) = reads-status c b j o q r
-  reads-sent (Sends.an_option_lem c b name q r) = reads_plain _ s c 27 _ (option_sendable name r)
-  reads-sent (Sends.an_echo c b q) = reads-echo c b s q
-  reads-sent (Sends.a_noop l) = reads_plain _ s l 6 [] (empty_sendable 6 refl refl)
+      reads_assigned _ s c p (texts n s h p i l) uniq
+  reads_sent (Sends.handle_joined c b priority background f u size q p r) = reads_created _ s named c _
+  reads_sent (Sends.handle_made c b priority background f u size q l m) = reads_created _ s named c _
+  reads_sent (Sends.a_copy c b how kind j x y q p r l m w) = reads_work c b s how kind j x y q l
+  reads_sent (Sends.a_failure c b how kind j x y q p r l m w) = reads_plain _ s l 14 _ (handle_sendable s.table.hub named 14 refl (job_at s.table p).row.serial)
+  reads_sent (Sends.a_status c b j q o r) = reads_status c b j o q r
+  reads_sent (Sends.an_option_lem c b name q r) = reads_plain _ s c 27 _ (option_sendable name r)
+  reads_sent (Sends.an_echo c b q) = reads_echo c b s q
+  reads_sent (Sends.a_noop l) = reads_plain _ s l 6 [] (empty_sendable 6 refl refl)
 
 pub all_read : (n : ℕ) (e : Event) (s : Server) → Running n s → All (Reads e s) (decided e s).packets
-all_read n e s h = all_more (λ x q. reads-sent n s h q) (why_sent e s)
+all_read n e s h = all_more (λ x q. reads_sent n s h q) (why_sent e s)

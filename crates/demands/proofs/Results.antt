@@ -17,7 +17,7 @@ use Rattle.sets.specs.Sets.{has}
 use Rattle.packet.specs.Packet.{Reading, refused, got, read, requests}
 use Rattle.lists.specs.Lists.{implies}
 use Rattle.lists.proofs.Cases.{All}
-use Rattle.lists.proofs.Rows.{clash, never, or_left, any-imp, replicate_default}
+use Rattle.lists.proofs.Rows.{clash, never, or_left, any_imp, replicate_default}
 use Rattle.lists.proofs.Maps.{map_each}
 use Rattle.lists.proofs.Searches.{found}
 use Rattle.server.specs.declared.Connection.{Connection}
@@ -30,7 +30,7 @@ use Rattle.server.specs.Call.{server_in}
 use Rattle.server_laws.proofs.Places.{place_changed, Untouched, Becomes, stays, begins, joins, taken}
 use Rattle.server_laws.proofs.Places as P
 use Rattle.server_laws.proofs.Fates.{ends_job, fates}
-use Rattle.server_words.proofs.Telling.{ToldOnce, work-told}
+use Rattle.server_words.proofs.Telling.{ToldOnce, work_told}
 use Rattle.server_calls.specs.History.{Call, Memory, calls, leaves}
 use Rattle.server_calls.proofs.Follows.{Running}
 use Rattle.server_calls.proofs.Histories.{LongOutputs}
@@ -41,10 +41,10 @@ use Rattle.demands.specs.Conditions.{type_of}
 use Rattle.demands.specs.Listening.{created_is, tells_created, submits, turns, heard_after, heard, listens, catches, option_in, wants, result_for, EachOnce}
 use Rattle.demands.proofs.Given.{At, stands_at, at_stands}
 use Rattle.demands.proofs.Numbers.{throwing}
-use Rattle.demands.proofs.Gone.{Used, given_used, stands_used, used-next, made_newest, inside_live, hub_before, AsksWork, asks_work}
-use Rattle.demands.proofs.Hubs.{hub_fresh, fresh_server, hub-runs, call-number, call-tells, call-hub, call_next, calls-hub}
-use Rattle.demands.proofs.Options.{calls-option}
-use Rattle.demands.proofs.Listeners.{handle-place, listens-at, nobody-listens, listener-inside, step_heard}
+use Rattle.demands.proofs.Gone.{Used, given_used, stands_used, used_next, made_newest, inside_live, hub_before, AsksWork, asks_work}
+use Rattle.demands.proofs.Hubs.{hub_fresh, fresh_server, hub_runs, call_number, call_tells, call_hub, call_next, calls_hub}
+use Rattle.demands.proofs.Options.{calls_option}
+use Rattle.demands.proofs.Listeners.{handle_place, listens_at, nobody_listens, listener_inside, step_heard}
 
 -- ---- who was told has heard of a used handle
 
@@ -55,11 +55,11 @@ created_gives h (got kind args) e =
 
 tells_given : (c : ℕ) (h : Bytes) (ms : List Message) → tells_created c h ms ≡ true → given h ms ≡ true
 unfolding tells_created given
-tells_given c h ms e = any-imp (λ m. eqb m.to c && created_is h m.says) (λ m. reading_gives h m.says) (λ m z. created_gives h m.says (and_right (eqb m.to c) _ z)) ms e
+tells_given c h ms e = any_imp (λ m. eqb m.to c && created_is h m.says) (λ m. reading_gives h m.says) (λ m z. created_gives h m.says (and_right (eqb m.to c) _ z)) ms e
 
 listens_stands : (c : ℕ) (h : Bytes) (t : Table) → listens c h t ≡ true → stands h t ≡ true
 unfolding listens stands
-listens_stands c h t e = any-imp (λ j. has_handle t.hub h j.row && has j.row.listeners c) (λ j. has_handle t.hub h j.row) (λ j z. and_left (has_handle t.hub h j.row) _ z) t.jobs e
+listens_stands c h t e = any_imp (λ j. has_handle t.hub h j.row && has j.row.listeners c) (λ j. has_handle t.hub h j.row) (λ j z. and_left (has_handle t.hub h j.row) _ z) t.jobs e
 
 heard_used : (n : ℕ) (e : Event) (s : Server) → Running n s → (c : ℕ) (h : Bytes) (x : Bool) → (x ≡ true → Used h s.table)
     → heard_after c h x e (answer e s).number (messages_of e s) ≡ true → Used h (next e s).table
@@ -67,49 +67,49 @@ heard_used n e s r c h x f = by (eqb (answer e s).number 0 && turns c e) x refl
   where
     by : (b y : Bool) → y ≡ x → cond b false (y || (submits c e && tells_created c h (messages_of e s))) ≡ true → Used h (next e s).table
     by true y q z = clash z refl
-    by false true q z = used-next e s h (f (sym q))
+    by false true q z = used_next e s h (f (sym q))
     by false false q z = given_used n e s r h (tells_given c h (messages_of e s) (and_right (submits c e) _ z))
 
 -- ---- over a history
 
 module _ (n : ℕ) (c : ℕ) (h : Bytes) where
   -- before a job stands whose handle somebody has not heard of, nobody listens
-  heard-before : (e : Event) (s : Server) → Running n s → (x : Bool) → (stands h s.table ≡ true → listens c h s.table ≡ x) → (x ≡ true → Used h s.table)
+  heard_before : (e : Event) (s : Server) → Running n s → (x : Bool) → (stands h s.table ≡ true → listens c h s.table ≡ x) → (x ≡ true → Used h s.table)
       → stands h (next e s).table ≡ true → listens c h s.table ≡ x
-  heard-before e s r x a u y = by (stands h s.table) refl
+  heard_before e s r x a u y = by (stands h s.table) refl
     where
       by : (b : Bool) → stands h s.table ≡ b → listens c h s.table ≡ x
       by true q = a q
-      by false q = nobody-listens n s r c h (λ z. clash z q) ∙ sym (never x (λ z.
+      by false q = nobody_listens n s r c h (λ z. clash z q) ∙ sym (never x (λ z.
           let v = u z in
           let (k, room) = made_newest e s h (and_both (stands h (next e s).table) _ y (rw q)) in
           let w : v.serial ≡ suc s.table.last = handle_one_to_one s.table.hub _ _ (omega (arith, v.past)) room (sym v.is ∙ k) in
           omega (arith, v.past)))
 
-  history-heard : (xs : List Call) (m : Memory) → Hub n m → LongOutputs n xs → (x : Bool) → (stands h (server_of n m).table ≡ true → listens c h (server_of n m).table ≡ x)
+  history_heard : (xs : List Call) (m : Memory) → Hub n m → LongOutputs n xs → (x : Bool) → (stands h (server_of n m).table ≡ true → listens c h (server_of n m).table ≡ x)
       → (x ≡ true → Used h (server_of n m).table)
       → stands h (server_of n (after_calls n xs m)).table ≡ true → listens c h (server_of n (after_calls n xs m)).table ≡ heard c h x xs (results_of n xs m)
   unfolding heard calls leaves
-  history-heard [] m hub All.none x a u y = a y
-  history-heard (z ∷ xs) m hub (All.more l ls) x a u y =
+  history_heard [] m hub All.none x a u y = a y
+  history_heard (z ∷ xs) m hub (All.more l ls) x a u y =
       let e = z.event in
       let s = server_of n m in
-      let r = hub-runs n m hub in
+      let r = hub_runs n m hub in
       let k = kept (call_on n m z) in
       let q : server_of n k ≡ next e s = call_next n m hub z l in
-      let same : heard_after c h x e (call_on n m z).number (told (call_on n m z)) ≡ heard_after c h x e (answer e s).number (messages_of e s) = ap₂ (heard_after c h x e) (call-number n m hub z l) (call-tells n m hub z l) in
-      history-heard xs k (call-hub n m hub z l) ls (heard_after c h x e (call_on n m z).number (told (call_on n m z)))
+      let same : heard_after c h x e (call_on n m z).number (told (call_on n m z)) ≡ heard_after c h x e (answer e s).number (messages_of e s) = ap₂ (heard_after c h x e) (call_number n m hub z l) (call_tells n m hub z l) in
+      history_heard xs k (call_hub n m hub z l) ls (heard_after c h x e (call_on n m z).number (told (call_on n m z)))
       (λ w. let v : stands h (next e s).table ≡ true = subst (λ (o : Server). stands h o.table ≡ true) q w in
-      ap (λ (o : Server). listens c h o.table) q ∙ step_heard n s r c h e v ∙ ap (λ (b : Bool). heard_after c h b e (answer e s).number (messages_of e s)) (heard-before e s r x a u v) ∙ sym same)
+      ap (λ (o : Server). listens c h o.table) q ∙ step_heard n s r c h e v ∙ ap (λ (b : Bool). heard_after c h b e (answer e s).number (messages_of e s)) (heard_before e s r x a u v) ∙ sym same)
       (λ w. subst (λ (o : Server). Used h o.table) (sym q) (heard_used n e s r c h x u (sym same ∙ w)))
       y
 
   -- from any memory: those who listen in it count as told
-  pub calls-heard : (xs : List Call) (m : Memory) → Hub n m → LongOutputs n xs → stands h (table_in n (after_calls n xs m)) ≡ true
+  pub calls_heard : (xs : List Call) (m : Memory) → Hub n m → LongOutputs n xs → stands h (table_in n (after_calls n xs m)) ≡ true
       → listens c h (table_in n (after_calls n xs m)) ≡ heard c h (listens c h (table_in n m)) xs (results_of n xs m)
   unfolding server_in
-  calls-heard xs m hub l y =
-      history-heard xs m hub l (listens c h (server_of n m).table) (λ z. refl) (λ z. stands_used n (server_of n m) (hub-runs n m hub) h (listens_stands c h (server_of n m).table z)) y
+  calls_heard xs m hub l y =
+      history_heard xs m hub l (listens c h (server_of n m).table) (λ z. refl) (λ z. stands_used n (server_of n m) (hub_runs n m hub) h (listens_stands c h (server_of n m).table z)) y
 
 -- ---- a worker packet that is taken
 
@@ -139,15 +139,15 @@ ended_row throws n d j e = refl
 
 -- what each of them is told
 module _ (e : Event) (s : Server) (how : Work) (kind p : ℕ) (h : Bytes) (t : throwing how ≡ eqb kind 25) (q : h ≡ handle s.table.hub (job_at s.table p).row.serial) where
-  told-one : (l : ℕ) (b : Bool) → message_of e s (cond b (copy l kind) (failure s.table.hub (job_at s.table p).row.serial l)) ≡ record { to = l; says = cond b (got kind (arguments_of e)) (got 14 (h ∷ [])) }
+  told_one : (l : ℕ) (b : Bool) → message_of e s (cond b (copy l kind) (failure s.table.hub (job_at s.table p).row.serial l)) ≡ record { to = l; says = cond b (got kind (arguments_of e)) (got 14 (h ∷ [])) }
   unfolding message_of
-  told-one l true = refl
-  told-one l false = rw q
+  told_one l true = refl
+  told_one l false = rw q
 
-  map-told : (ls : List ℕ) → map (message_of e s) (map (to_listener how kind s.table (job_at s.table p).row) ls) ≡ map (λ l. record { to = l; says = result_for (option_in s.table) kind (arguments_of e) h l }) ls
-  map-told [] = refl
-  map-told (l ∷ ls) =
-      ap₂ ◌∷◌ (told-one l (hears how s.table l) ∙ ap (λ (b : Bool). record { to = l; says = cond b (got kind (arguments_of e)) (got 14 (h ∷ [])) }) (hears_wants how kind s.table l t)) (map-told ls)
+  map_told : (ls : List ℕ) → map (message_of e s) (map (to_listener how kind s.table (job_at s.table p).row) ls) ≡ map (λ l. record { to = l; says = result_for (option_in s.table) kind (arguments_of e) h l }) ls
+  map_told [] = refl
+  map_told (l ∷ ls) =
+      ap₂ ◌∷◌ (told_one l (hears how s.table l) ∙ ap (λ (b : Bool). record { to = l; says = cond b (got kind (arguments_of e)) (got 14 (h ∷ [])) }) (hears_wants how kind s.table l t)) (map_told ls)
 
 module _ (n : ℕ) (s : Server) (r : Running n s) (d : ℕ) (b h : Bytes) (w : reading_tells h (read requests b) ≡ true) (z : (answer (sends d b) s).number ≡ 0) where
   abbrev t : Table
@@ -161,13 +161,13 @@ module _ (n : ℕ) (s : Server) (r : Running n s) (d : ℕ) (b h : Bytes) (w : r
   unfolding answer decided
   opened = open_done (ltb d (length t.connections)) (is_open t d) t (served d (request_in b) t) z
 
-  decided-is : decided (sends d b) s ≡ served d (work asked.how asked.kind h asked.n asked.d) t
+  decided_is : decided (sends d b) s ≡ served d (work asked.how asked.kind h asked.n asked.d) t
   unfolding decided only_if_open
-  decided-is = rw (opened.0, opened.1) (ap (λ (q : Request). served d q t) asked.is)
+  decided_is = rw (opened.0, opened.1) (ap (λ (q : Request). served d q t) asked.is)
 
   held : (p : ℕ) × (held_job_of t d h ≡ some p)
   unfolding answer served
-  held = work_done (held_job_of t d h) asked.how asked.kind d asked.n asked.d t (sym (ap (λ (x : Decision). x.number) decided-is) ∙ z)
+  held = work_done (held_job_of t d h) asked.how asked.kind d asked.n asked.d t (sym (ap (λ (x : Decision). x.number) decided_is) ∙ z)
 
   held_at : At h t
   unfolding holds_handle has_handle
@@ -178,52 +178,52 @@ module _ (n : ℕ) (s : Server) (r : Running n s) (d : ℕ) (b h : Bytes) (w : r
       let x : has_handle t.hub h row ≡ true = and_right (held_by d row) _ f.passes in
       record { place = p; inside = f.inside; live' = and_left (live row) _ x; is = sym (same_is _ _ (and_right (live row) _ x)) }
 
-  held-is : h ≡ handle t.hub (job_at t held.0).row.serial
+  held_is : h ≡ handle t.hub (job_at t held.0).row.serial
   unfolding held_at
-  held-is = held_at.is
+  held_is = held_at.is
 
-  held-listens : (l : ℕ) → ltb l (length t.connections) && has (job_at t held.0).row.listeners l ≡ listens l h t
+  held_listens : (l : ℕ) → ltb l (length t.connections) && has (job_at t held.0).row.listeners l ≡ listens l h t
   unfolding held_at
-  held-listens l = by (has (job_at t held.0).row.listeners l) refl ∙ sym (listens-at n s r l h held_at)
+  held_listens l = by (has (job_at t held.0).row.listeners l) refl ∙ sym (listens_at n s r l h held_at)
     where
       by : (x : Bool) → has (job_at t held.0).row.listeners l ≡ x → ltb l (length t.connections) && x ≡ has (job_at t held.0).row.listeners l
-      by true e = rw (listener-inside n s r l held.0 e, e)
+      by true e = rw (listener_inside n s r l held.0 e, e)
       by false e = and_false (ltb l (length t.connections)) ∙ sym e
 
-  pub held-stands : stands h t ≡ true
-  held-stands = at_stands h t held_at
+  pub held_stands : stands h t ≡ true
+  held_stands = at_stands h t held_at
 
-  pub tells-each : EachOnce (λ l. listens l h t) (result_for (option_in t) (type_of b) (arguments_of (sends d b)) h) (messages_of (sends d b) s)
+  pub tells_each : EachOnce (λ l. listens l h t) (result_for (option_in t) (type_of b) (arguments_of (sends d b)) h) (messages_of (sends d b) s)
   unfolding messages_of
-  tells-each =
+  tells_each =
       let a = asked in
       let (p, q) = held in
-      let o : ToldOnce t a.how a.kind p (served d (work a.how a.kind h a.n a.d) t) = work-told t d a.how a.kind h a.n a.d p q r.rules in
+      let o : ToldOnce t a.how a.kind p (served d (work a.how a.kind h a.n a.d) t) = work_told t d a.how a.kind h a.n a.d p q r.rules in
       record {
         to = o.listeners;
-        packets = ap (λ (x : Decision). map (message_of (sends d b) s) x.packets) decided-is ∙ ap (map (message_of (sends d b) s)) o.packets ∙ map-told (sends d b) s a.how a.kind p h a.thrown held-is o.listeners ∙ rw a.typed;
+        packets = ap (λ (x : Decision). map (message_of (sends d b) s) x.packets) decided_is ∙ ap (map (message_of (sends d b) s)) o.packets ∙ map_told (sends d b) s a.how a.kind p h a.thrown held_is o.listeners ∙ rw a.typed;
         rising = o.rising;
-        exactly = λ l. o.exactly l ∙ held-listens l;
+        exactly = λ l. o.exactly l ∙ held_listens l;
       }
 
   -- a job that it ends stands no more: what stands afterwards with its handle would be a job that it did not touch
-  not-untouched : (i : ℕ) → i < length t.jobs → live (job_at t i).row ≡ true → h ≡ handle t.hub (job_at t i).row.serial → ¬ Untouched t i (sends d b)
+  not_untouched : (i : ℕ) → i < length t.jobs → live (job_at t i).row ≡ true → h ≡ handle t.hub (job_at t i).row.serial → ¬ Untouched t i (sends d b)
   unfolding held_at place_changed
-  not-untouched i j l q u =
+  not_untouched i j l q u =
       let (p, f) = held in
-      let e : i ≡ p = handle-place n s r h held_at i j l q in
+      let e : i ≡ p = handle_place n s r h held_at i j l q in
       u (record { inside = ltb-true d (length t.connections) opened.0; state = opened.1 }) (ap (place_changed d t) asked.is ∙ f ∙ ap some (sym e))
 
   ended_at : ends_job asked.how ≡ true → (i : ℕ) {last : ℕ} {k : Job} → Becomes t last i (job_at t i) (sends d b) k → live k.row ≡ true → ¬ (h ≡ handle t.hub k.row.serial)
-  ended_at z i (stays e u) l g = not-untouched i (inside_live t i l) l g u
+  ended_at z i (stays e u) l g = not_untouched i (inside_live t i l) l g u
   ended_at z i (begins d b priority background f w size x o a y r₁ r₂ r₃ m e) l g = let q : ◌≡◌ {A = ℕ} 0 1 = cc (sym a ∙ asked.is) in omega arith
   ended_at z i (joins d b priority background f w size o a y) l g = let q : ◌≡◌ {A = ℕ} 0 1 = cc (sym a ∙ asked.is) in omega arith
   ended_at z i (taken d b uniq o a y) l g = let q : ◌≡◌ {A = ℕ} 0 1 = cc (sym a ∙ asked.is) in omega arith
   ended_at z i (P.told d b how kind j x y o a w) l g = clash l (ended_row how x y (job_at t i) (let q : how ≡ asked.how = cc (sym a ∙ asked.is) in ap ends_job q ∙ z))
 
-  pub job-ended : ends_job asked.how ≡ true → stands h (next (sends d b) s).table ≡ false
+  pub job_ended : ends_job asked.how ≡ true → stands h (next (sends d b) s).table ≡ false
   unfolding next
-  job-ended z = never _ (λ y. let a = stands_at h (decided (sends d b) s).table y in ended_at z a.place (fates (sends d b) s r.rules a.place) a.live' (hub_before (sends d b) s h a))
+  job_ended z = never _ (λ y. let a = stands_at h (decided (sends d b) s).table y in ended_at z a.place (fates (sends d b) s r.rules a.place) a.live' (hub_before (sends d b) s h a))
 
 -- ---- over calls
 
@@ -233,9 +233,9 @@ pub call_tells_each : (n : ℕ) (m : Memory) → Hub n m → (x : Call) → Long
 unfolding server_in
 call_tells_each n m hub x l d b h e w z =
     let s = server_of n m in
-    let y : (answer (sends d b) s).number ≡ 0 = sym (ap (λ (v : Event). (answer v s).number) e) ∙ sym (call-number n m hub x l) ∙ z in
-    subst (EachOnce (λ i. listens i h (table_in n m)) (result_for (option_in (table_in n m)) (type_of b) (arguments_of (sends d b)) h)) (sym (call-tells n m hub x l ∙ ap (λ (v : Event). messages_of v s) e))
-    (tells-each n s (hub-runs n m hub) d b h w y)
+    let y : (answer (sends d b) s).number ≡ 0 = sym (ap (λ (v : Event). (answer v s).number) e) ∙ sym (call_number n m hub x l) ∙ z in
+    subst (EachOnce (λ i. listens i h (table_in n m)) (result_for (option_in (table_in n m)) (type_of b) (arguments_of (sends d b)) h)) (sym (call_tells n m hub x l ∙ ap (λ (v : Event). messages_of v s) e))
+    (tells_each n s (hub_runs n m hub) d b h w y)
 
 -- after a call with a worker packet that ends its job, if it is done
 pub call_ends : (n : ℕ) (m : Memory) → Hub n m → (x : Call) → Long n x → (d : ℕ) (b h : Bytes) → x.event ≡ sends d b → reading_tells h (read requests b) ≡ true → is_ending (type_of b) ≡ true
@@ -244,15 +244,15 @@ unfolding server_in
 call_ends n m hub x l d b h e w i z =
     let s = server_of n m in
     let a = asks_work b h w in
-    let y : (answer (sends d b) s).number ≡ 0 = sym (ap (λ (v : Event). (answer v s).number) e) ∙ sym (call-number n m hub x l) ∙ z in
-    ap (λ (v : Server). stands h v.table) (call_next n m hub x l ∙ ap (λ (v : Event). next v s) e) ∙ job-ended n s (hub-runs n m hub) d b h w y (a.ending ∙ ap is_ending a.typed ∙ i)
+    let y : (answer (sends d b) s).number ≡ 0 = sym (ap (λ (v : Event). (answer v s).number) e) ∙ sym (call_number n m hub x l) ∙ z in
+    ap (λ (v : Server). stands h v.table) (call_next n m hub x l ∙ ap (λ (v : Event). next v s) e) ∙ job_ended n s (hub_runs n m hub) d b h w y (a.ending ∙ ap is_ending a.typed ∙ i)
 
 pub call_held_stands : (n : ℕ) (m : Memory) → Hub n m → (x : Call) → Long n x → (d : ℕ) (b h : Bytes) → x.event ≡ sends d b → reading_tells h (read requests b) ≡ true → (call_on n m x).number ≡ 0
     → stands h (table_in n m) ≡ true
 unfolding server_in
 call_held_stands n m hub x l d b h e w z =
     let s = server_of n m in
-    held-stands n s (hub-runs n m hub) d b h w (sym (ap (λ (v : Event). (answer v s).number) e) ∙ sym (call-number n m hub x l) ∙ z)
+    held_stands n s (hub_runs n m hub) d b h w (sym (ap (λ (v : Event). (answer v s).number) e) ∙ sym (call_number n m hub x l) ∙ z)
 
 -- after calls from a memory in which nobody listens to the job and nobody has set the option, as in a fresh one: exactly those who were
 -- told, and the exception to those who asked for it
@@ -261,15 +261,15 @@ pub results_told : (n : ℕ) (xs : List Call) (m : Memory) → Hub n m → LongO
     → EachOnce (λ l. heard l h false xs (results_of n xs m)) (result_for (λ l. catches l false xs (results_of n xs m)) (type_of b) (arguments_of (sends d b)) h) (told (call_on n u x))
 results_told n xs m hub ls h f g x l d b e w z =
     let u = after_calls n xs m in
-    let hu = calls-hub n xs m hub ls in
+    let hu = calls_hub n xs m hub ls in
     let y = call_held_stands n u hu x l d b h e w z in
     let o = call_tells_each n u hu x l d b h e w z in
-    let set : (i : ℕ) → option_in (table_in n u) i ≡ catches i false xs (results_of n xs m) = λ i. calls-option i n xs m hub ls ∙ ap (λ (q : Bool). catches i q xs (results_of n xs m)) (g i) in
+    let set : (i : ℕ) → option_in (table_in n u) i ≡ catches i false xs (results_of n xs m) = λ i. calls_option i n xs m hub ls ∙ ap (λ (q : Bool). catches i q xs (results_of n xs m)) (g i) in
     record {
       to = o.to;
       packets = o.packets ∙ map_each _ _ (λ i. ap (λ (q : Bool). record { to = i; says = cond (implies (eqb (type_of b) 25) q) (got (type_of b) (arguments_of (sends d b))) (got 14 (h ∷ [])) }) (set i)) o.to;
       rising = o.rising;
-      exactly = λ i. o.exactly i ∙ calls-heard n i h xs m hub ls y ∙ ap (λ (q : Bool). heard i h q xs (results_of n xs m)) (f i);
+      exactly = λ i. o.exactly i ∙ calls_heard n i h xs m hub ls y ∙ ap (λ (q : Bool). heard i h q xs (results_of n xs m)) (f i);
     }
 
 -- in a fresh memory nobody listens, and nobody has set the option

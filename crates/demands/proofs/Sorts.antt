@@ -8,7 +8,7 @@ use lib.Dec.{eqb}
 use Rattle.octets.specs.Bytes.{Bytes}
 use Rattle.packet.specs.Layout.{is_own, request_shape}
 use Rattle.packet.specs.Packet.{Reading, refused, got, read, requests}
-use Rattle.packet_laws.proofs.Packets.{read-got}
+use Rattle.packet_laws.proofs.Packets.{read_got}
 use Rattle.lists.proofs.Rows.{clash}
 use Rattle.server.specs.Requests.{Request, reset, pre_sleep, echo, can_do, cant_do, identify, grab, submit, work, get_status, option, requested, from_reading, request_in}
 use Rattle.server.specs.Requests as R
@@ -86,6 +86,6 @@ packet_typed b = by (read requests b) refl
     by : (r : Reading) → read requests b ≡ r → Typed b
     by (refused n) e = unread n (request_read b ∙ ap from_reading e)
     by (got kind args) e =
-        let g = read-got requests b kind args e in
+        let g = read_got requests b kind args e in
         let s : Sorted kind (request_in b) = subst (Sorted kind) (sym (request_read b ∙ ap from_reading e)) (asks_sorted kind (get_or args 0 []) (get_or args 1 []) (get_or args 2 []) g.own) in
         typed (rw g.typed s)

@@ -13,7 +13,7 @@ use Rattle.octets.proofs.Strings.{and_false, and_left, and_right, same_is}
 use Rattle.handle.specs.Handle.{handle}
 use Rattle.packet.specs.Layout.{background_of}
 use Rattle.packet.specs.Packet.{Reading, refused, got, read, requests}
-use Rattle.packet_laws.proofs.Packets.{read-got}
+use Rattle.packet_laws.proofs.Packets.{read_got}
 use Rattle.lists.specs.Lists.{any}
 use Rattle.lists.proofs.Rows.{clash, or_off, replicate_default}
 use Rattle.server.specs.Table.{Table, job_at, set_job, with_row, live, room_for, free_place, joins, joined}
@@ -96,7 +96,7 @@ foreground_asks b priority background f u size q = by (read requests b) refl (sy
     by : (r : Reading) → read requests b ≡ r → from_reading r ≡ submit priority background f u size → is_foreground (type_of b) ≡ not background
     by (refused n) e z = let y : ◌≡◌ {A = ℕ} 0 1 = cc in absurd (omega arith)
     by (got kind args) e z =
-        let g = read-got requests b kind args e in
+        let g = read_got requests b kind args e in
         let i : is_submission kind ≡ true = (asks_sorted kind (get_or args 0 []) (get_or args 1 []) (get_or args 2 []) g.own).submits ∙ ap is_submit z in
         let m : background ≡ background_of kind = sym (ap (mark_in (background_of kind)) z) ∙ requested_mark kind (get_or args 0 []) (get_or args 1 []) (get_or args 2 []) in
         rw (g.typed, m) (foreground_or kind i)
@@ -124,26 +124,26 @@ tells_created_lem c h e s d k ls q = rw (q, any_noops c h e s ls) (or_off (eqb d
 
 -- a submission that joins the job at place p, and one that makes a job
 module _ (s : Server) (d : ℕ) (b : Bytes) (o : Stands s.table d true) (priority : ℕ) (background : Bool) (f u : Bytes) (size : ℕ) (q : request_in b ≡ submit priority background f u size) where
-  join-decided : (p : ℕ) → joined s.table f u ≡ some p
+  join_decided : (p : ℕ) → joined s.table f u ≡ some p
       → decided (sends d b) s ≡ settle (created s.table.hub d (job_at s.table p).row.serial ∷ []) (set_job s.table p (with_row (submitted_by d background (job_at s.table p).row) (job_at s.table p)))
   unfolding decided only_if_open served submit_to
-  join-decided p r = rw (lt-ltb d (length s.table.connections) o.inside, o.state, q, r)
+  join_decided p r = rw (lt-ltb d (length s.table.connections) o.inside, o.state, q, r)
 
-  pub join-packets : (p : ℕ) → joined s.table f u ≡ some p → (ls : List ℕ) × ((decided (sends d b) s).packets ≡ created s.table.hub d (job_at s.table p).row.serial ∷ map noop ls)
+  pub join_packets : (p : ℕ) → joined s.table f u ≡ some p → (ls : List ℕ) × ((decided (sends d b) s).packets ≡ created s.table.hub d (job_at s.table p).row.serial ∷ map noop ls)
   unfolding settle
-  join-packets p r =
-      (to_wake (dropped (set_job s.table p (with_row (submitted_by d background (job_at s.table p).row) (job_at s.table p)))), ap (λ (x : Decision). x.packets) (join-decided p r))
+  join_packets p r =
+      (to_wake (dropped (set_job s.table p (with_row (submitted_by d background (job_at s.table p).row) (job_at s.table p)))), ap (λ (x : Decision). x.packets) (join_decided p r))
 
-  make-decided : (k p : ℕ) → joined s.table f u ≡ none → room_for s.table.functions f ≡ some k → free_place s.table ≡ some p → s.table.last < 4294967295
+  make_decided : (k p : ℕ) → joined s.table f u ≡ none → room_for s.table.functions f ≡ some k → free_place s.table ≡ some p → s.table.last < 4294967295
       → decided (sends d b) s ≡ settle (created s.table.hub d (suc s.table.last) ∷ []) (accepted k f p (new_job d priority background k u size (suc s.table.last)) s.table)
   unfolding decided only_if_open served submit_to submit_new
-  make-decided k p r₁ r₂ r₃ l = rw (lt-ltb d (length s.table.connections) o.inside, o.state, q, r₁, r₂, r₃, lt-ltb s.table.last 4294967295 l)
+  make_decided k p r₁ r₂ r₃ l = rw (lt-ltb d (length s.table.connections) o.inside, o.state, q, r₁, r₂, r₃, lt-ltb s.table.last 4294967295 l)
 
-  pub make-packets : (k p : ℕ) → joined s.table f u ≡ none → room_for s.table.functions f ≡ some k → free_place s.table ≡ some p → s.table.last < 4294967295
+  pub make_packets : (k p : ℕ) → joined s.table f u ≡ none → room_for s.table.functions f ≡ some k → free_place s.table ≡ some p → s.table.last < 4294967295
       → (ls : List ℕ) × ((decided (sends d b) s).packets ≡ created s.table.hub d (suc s.table.last) ∷ map noop ls)
   unfolding settle
-  make-packets k p r₁ r₂ r₃ l =
-      (to_wake (dropped (accepted k f p (new_job d priority background k u size (suc s.table.last)) s.table)), ap (λ (x : Decision). x.packets) (make-decided k p r₁ r₂ r₃ l))
+  make_packets k p r₁ r₂ r₃ l =
+      (to_wake (dropped (accepted k f p (new_job d priority background k u size (suc s.table.last)) s.table)), ap (λ (x : Decision). x.packets) (make_decided k p r₁ r₂ r₃ l))
 
 -- a refused packet tells nobody of a job
 refused_tells : (c : ℕ) (h : Bytes) (e : Event) (s : Server) (d n : ℕ) → any (λ m. eqb m.to c && created_is h m.says) (map (message_of e s) (refuse d n s.table).packets) ≡ false
@@ -171,39 +171,39 @@ module _ (c d : ℕ) (b h : Bytes) (s : Server) where
   quiet y q i z g = clash (and_left (is_foreground (type_of b)) _ g) (other_foreground b q i z)
 
   -- the first packet alone can be JOB_CREATED
-  first-told : (k : ℕ) (v : Table) → is_foreground (type_of b) && any (λ m. eqb m.to c && created_is h m.says) (map (message_of e s) (settle (created s.table.hub d k ∷ []) v).packets) ≡ true → h ≡ handle s.table.hub k
+  first_told : (k : ℕ) (v : Table) → is_foreground (type_of b) && any (λ m. eqb m.to c && created_is h m.says) (map (message_of e s) (settle (created s.table.hub d k ∷ []) v).packets) ≡ true → h ≡ handle s.table.hub k
   unfolding message_of settle
-  first-told k v g =
+  first_told k v g =
       let w : (eqb d c && same (handle s.table.hub k) h) || false ≡ true = rw (any_noops c h e s (to_wake (dropped v))) at (and_right (is_foreground (type_of b)) _ g) in
       sym (same_is _ _ (and_right (eqb d c) _ (sym (or_off _) ∙ w)))
 
-  says-change : {a : Request} {ss : List Send} {v : Table} → request_in b ≡ a → Stands s.table d true → Change d s.table a ss v → Says (settle ss v)
+  says_change : {a : Request} {ss : List Send} {v : Table} → request_in b ≡ a → Stands s.table d true → Change d s.table a ss v → Says (settle ss v)
   unfolding place_changed
-  says-change q o (Change.able f k r) = quiet _ q refl refl
-  says-change q o (Change.unknown f r) = quiet _ q refl refl
-  says-change q o (Change.disabled f k r) = quiet _ q refl refl
-  says-change q o (Change.identified i) = quiet _ q refl refl
-  says-change q o Change.cleared = quiet _ q refl refl
-  says-change q o Change.slept = quiet _ q refl refl
-  says-change q o (Change.no_job_for uniq r) = quiet _ q refl refl
-  says-change q o (Change.grabbed uniq p r) = quiet _ q refl refl
-  says-change q o (Change.joins priority background f u size p r) = λ g.
-      by_joining o p (ap (place_changed d s.table) q ∙ rw r) (joined_inside s.table f u p r) (joined_found s.table f u p r) (first-told _ _ g)
-  says-change q o (Change.accepts priority background f u size k p r₁ r₂ r₃ l) = λ g. by_making l (first-told _ _ g)
-  says-change q o (Change.worker how kind j x y p r) = quiet _ q refl refl
-  says-change q o (Change.status j i r) = quiet _ q refl refl
-  says-change q o (Change.optioned name r) = quiet _ q refl refl
-  says-change q o Change.echoed = quiet _ q refl refl
+  says_change q o (Change.able f k r) = quiet _ q refl refl
+  says_change q o (Change.unknown f r) = quiet _ q refl refl
+  says_change q o (Change.disabled f k r) = quiet _ q refl refl
+  says_change q o (Change.identified i) = quiet _ q refl refl
+  says_change q o Change.cleared = quiet _ q refl refl
+  says_change q o Change.slept = quiet _ q refl refl
+  says_change q o (Change.no_job_for uniq r) = quiet _ q refl refl
+  says_change q o (Change.grabbed uniq p r) = quiet _ q refl refl
+  says_change q o (Change.joins priority background f u size p r) = λ g.
+      by_joining o p (ap (place_changed d s.table) q ∙ rw r) (joined_inside s.table f u p r) (joined_found s.table f u p r) (first_told _ _ g)
+  says_change q o (Change.accepts priority background f u size k p r₁ r₂ r₃ l) = λ g. by_making l (first_told _ _ g)
+  says_change q o (Change.worker how kind j x y p r) = quiet _ q refl refl
+  says_change q o (Change.status j i r) = quiet _ q refl refl
+  says_change q o (Change.optioned name r) = quiet _ q refl refl
+  says_change q o Change.echoed = quiet _ q refl refl
 
-  says-served : {a : Request} {x : Decision} → request_in b ≡ a → Stands s.table d true → Served d s.table a x → Says x
-  says-served q o (Served.refused a n r) = λ g. clash (and_right (is_foreground (type_of b)) _ g) (refused_tells c h e s d n)
-  says-served q o (Served.done a ss v m) = says-change q o m
+  says_served : {a : Request} {x : Decision} → request_in b ≡ a → Stands s.table d true → Served d s.table a x → Says x
+  says_served q o (Served.refused a n r) = λ g. clash (and_right (is_foreground (type_of b)) _ g) (refused_tells c h e s d n)
+  says_served q o (Served.done a ss v m) = says_change q o m
 
-  says-outcome : {x : Decision} → Outcome s.table e x → Says x
+  says_outcome : {x : Decision} → Outcome s.table e x → Says x
   unfolding silence
-  says-outcome (Outcome.silenced f n r) = λ g. clash (and_right (is_foreground (type_of b)) _ g) refl
-  says-outcome (Outcome.serves d b x o r) = says-served refl o r
+  says_outcome (Outcome.silenced f n r) = λ g. clash (and_right (is_foreground (type_of b)) _ g) refl
+  says_outcome (Outcome.serves d b x o r) = says_served refl o r
 
-  pub created-known : is_foreground (type_of b) && tells_created c h (messages_of e s) ≡ true → Created d b s.table h
+  pub created_known : is_foreground (type_of b) && tells_created c h (messages_of e s) ≡ true → Created d b s.table h
   unfolding tells_created messages_of
-  created-known = says-outcome (outcome e s)
+  created_known = says_outcome (outcome e s)

@@ -12,9 +12,9 @@ use Rattle.packet.specs.Layout.{rules_of, request_shape, separators_of, priority
 use Rattle.packet.specs.Packet.{Reading, refused, got, read, requests}
 use Rattle.packet.specs.Opaque.{ends_opaque, opaque, masked, with_last, with_opaque}
 use Rattle.packet_laws.proofs.Splitting.{split_join, fit_length}
-use Rattle.packet_laws.proofs.Packets.{requests_well, read-got}
+use Rattle.packet_laws.proofs.Packets.{requests_well, read_got}
 use Rattle.packet_laws.proofs.Separators.{first_kept, size_kept}
-use Rattle.packet_laws.proofs.Blindness.{read-masked, masked-length, opaque-at}
+use Rattle.packet_laws.proofs.Blindness.{read_masked, masked_length, opaque_at}
 use Rattle.lists.proofs.Rows.{clash}
 use Rattle.server.specs.Requests.{Work, tells, ends, throws, Request, bad, submit, work, requested, from_reading, request_in}
 
@@ -68,7 +68,7 @@ module _ (kind : ℕ) (o : Bytes) (args : List Bytes) where
 
 pub request_read : (b : Bytes) → request_in b ≡ from_reading (read requests b)
 unfolding request_in with_opaque
-request_read b = by (read requests (masked requests b)) refl ∙ ap from_reading (sym (read-masked requests requests_well b))
+request_read b = by (read requests (masked requests b)) refl ∙ ap from_reading (sym (read_masked requests requests_well b))
   where
     by : (r : Reading) → read requests (masked requests b) ≡ r → from_reading (read requests (masked requests b)) ≡ from_reading (with_opaque requests (opaque requests b) (read requests (masked requests b)))
     by (refused n) e = rw e
@@ -77,8 +77,8 @@ request_read b = by (read requests (masked requests b)) refl ∙ ap from_reading
         last : (t : Bool) → ends_opaque (rules_of (request_shape kind)) ≡ t → asks kind args ≡ asks kind (cond t (with_last (opaque requests b) args) args)
         last false q = refl
         last true q =
-            let g = read-got requests (masked requests b) kind args e in
+            let g = read_got requests (masked requests b) kind args e in
             let f = (split_join (rules_of (request_shape kind)) (drop 12 (masked requests b)) args g.splits).1 in
             let l : length (get_or args (separators_of (request_shape kind)) []) ≡ length (opaque requests b)
-            = ap length (opaque-at requests requests_well (masked requests b) kind args e q) ∙ masked-length requests requests_well b in
+            = ap length (opaque_at requests requests_well (masked requests b) kind args e q) ∙ masked_length requests requests_well b in
             sym (unseen kind (opaque requests b) args q (fit_length _ args f) l)

@@ -12,7 +12,7 @@ use Rattle.octets.specs.Bytes.{Bytes, same, every, first_zero, within, zero_free
 use Rattle.octets.proofs.Strings.{and_left, and_right, same_refl, same_is}
 use Rattle.handle.specs.Handle.{decimal, handle, handle_most, is_hub_name, value, serial_of}
 use Rattle.handle.specs.declared.Serial.TheVariants.{Of, None}
-use Rattle.handle.proofs.Hubs.{hub-most, hub_zero_free}
+use Rattle.handle.proofs.Hubs.{hub_most_lem, hub_zero_free}
 use Rattle.handle.proofs.Decimal.{decimal_most, decimal_least, decimal_digits, decimal_one_to_one, value_decimal}
 
 -- ---- how long, and what follows the prefix
@@ -67,11 +67,11 @@ handle_zero_free name n e = eq-eqb _ _ (first_zero_handle name n (eqb-true (firs
 -- ---- at a hub
 
 module _ (name : Bytes) (good : is_hub_name name ≡ true) (n : ℕ) where
-  pub handle-bounded : length (handle name n) ≤ handle_most
-  handle-bounded = omega (arith, handle_most_lem name n, hub-most name good)
+  pub handle_bounded : length (handle name n) ≤ handle_most
+  handle_bounded = omega (arith, handle_most_lem name n, hub_most_lem name good)
 
-  pub handle-clean : zero_free (handle name n) ≡ true
-  handle-clean = handle_zero_free name n (hub_zero_free name good)
+  pub handle_clean : zero_free (handle name n) ≡ true
+  handle_clean = handle_zero_free name n (hub_zero_free name good)
 
 -- ---- a serial and its handle
 
@@ -104,21 +104,21 @@ handle_of_serial name t n e =
 -- ---- where the definitions compare texts, code may compare serials
 
 module _ (name t : Bytes) (s : ℕ) where
-  pub same-handle : 1 ≤ s → s < 2 ^ 32 → same (handle name s) t ≡ true → serial_of name t ≡ Of s
-  same-handle l h e = ap (serial_of name) (sym (same_is (handle name s) t e)) ∙ serial_of_handle name s l h
+  pub same_handle : 1 ≤ s → s < 2 ^ 32 → same (handle name s) t ≡ true → serial_of name t ≡ Of s
+  same_handle l h e = ap (serial_of name) (sym (same_is (handle name s) t e)) ∙ serial_of_handle name s l h
 
-  pub same-serial : serial_of name t ≡ Of s → same (handle name s) t ≡ true
-  same-serial e = let q : handle name s ≡ t = (handle_of_serial name t s e).0 in rw q (same_refl t)
+  pub same_serial : serial_of name t ≡ Of s → same (handle name s) t ≡ true
+  same_serial e = let q : handle name s ≡ t = (handle_of_serial name t s e).0 in rw q (same_refl t)
 
   other_step : (b : Bool) → (b ≡ true → ⊥) → b ≡ false
   other_step true n = absurd (n refl)
   other_step false n = refl
 
-  pub other-handle : 1 ≤ s → s < 2 ^ 32 → (serial_of name t ≡ Of s → ⊥) → same (handle name s) t ≡ false
-  other-handle l h n = other_step (same (handle name s) t) (λ e. n (same-handle l h e))
+  pub other_handle : 1 ≤ s → s < 2 ^ 32 → (serial_of name t ≡ Of s → ⊥) → same (handle name s) t ≡ false
+  other_handle l h n = other_step (same (handle name s) t) (λ e. n (same_handle l h e))
 
-  pub other-serial : (r : ℕ) → 1 ≤ s → s < 2 ^ 32 → serial_of name t ≡ Of r → (r ≡ s → ⊥) → same (handle name s) t ≡ false
-  other-serial r l h e n = other-handle l h (λ q. let p : r ≡ s = cc in n p)
+  pub other_serial : (r : ℕ) → 1 ≤ s → s < 2 ^ 32 → serial_of name t ≡ Of r → (r ≡ s → ⊥) → same (handle name s) t ≡ false
+  other_serial r l h e n = other_handle l h (λ q. let p : r ≡ s = cc in n p)
 
-  pub no-handle : 1 ≤ s → s < 2 ^ 32 → serial_of name t ≡ None → same (handle name s) t ≡ false
-  no-handle l h e = other-handle l h (λ q. let z : ◌≡◌ {A = ℕ} 0 1 = cc in absurd (omega arith))
+  pub no_handle : 1 ≤ s → s < 2 ^ 32 → serial_of name t ≡ None → same (handle name s) t ≡ false
+  no_handle l h e = other_handle l h (λ q. let z : ◌≡◌ {A = ℕ} 0 1 = cc in absurd (omega arith))

@@ -39,19 +39,19 @@ byte_no_colon x e q =
 -- ---- a whole name
 
 module _ (name : Bytes) (good : is_hub_name name ≡ true) where
-  hub-length : within 1 hub_most (length name) ≡ true
+  hub_length : within 1 hub_most (length name) ≡ true
   unfolding is_hub_name
-  hub-length = and_left (within 1 hub_most (length name)) (every is_hub_byte name) good
+  hub_length = and_left (within 1 hub_most (length name)) (every is_hub_byte name) good
 
-  pub hub-bytes : every is_hub_byte name ≡ true
+  pub hub_bytes : every is_hub_byte name ≡ true
   unfolding is_hub_name
-  hub-bytes = and_right (within 1 hub_most (length name)) (every is_hub_byte name) good
+  hub_bytes = and_right (within 1 hub_most (length name)) (every is_hub_byte name) good
 
-  pub hub-least : 1 ≤ length name
-  hub-least = (within_bounds 1 hub_most (length name) hub-length).0
+  pub hub_least : 1 ≤ length name
+  hub_least = (within_bounds 1 hub_most (length name) hub_length).0
 
-  pub hub-most : length name ≤ hub_most
-  hub-most = (within_bounds 1 hub_most (length name) hub-length).1
+  pub hub_most_lem : length name ≤ hub_most
+  hub_most_lem = (within_bounds 1 hub_most (length name) hub_length).1
 
 bytes_clean : (s : Bytes) → every is_hub_byte s ≡ true → first_zero s ≡ length s
 unfolding every first_zero
@@ -62,7 +62,7 @@ bytes_clean (x ∷ s) e =
     rw z (ap suc (bytes_clean s (and_right (is_hub_byte x) (every is_hub_byte s) e)))
 
 pub hub_zero_free : (name : Bytes) → is_hub_name name ≡ true → zero_free name ≡ true
-hub_zero_free name good = eq-eqb (first_zero name) (length name) (bytes_clean name (hub-bytes name good))
+hub_zero_free name good = eq-eqb (first_zero name) (length name) (bytes_clean name (hub_bytes name good))
 
 -- ---- handles of two hubs
 
@@ -82,7 +82,7 @@ pub one_hub : (a b : Bytes) (m n : ℕ) → is_hub_name a ≡ true → is_hub_na
 unfolding handle
 one_hub a b m n ga gb e =
     let q : a ++ (58 ∷ decimal m) ≡ b ++ (58 ∷ decimal n) = cc in
-    names_end a b (decimal m) (decimal n) (hub-bytes a ga) (hub-bytes b gb) q
+    names_end a b (decimal m) (decimal n) (hub_bytes a ga) (hub_bytes b gb) q
 
 -- ---- `is_hub_byte`
 
@@ -94,8 +94,8 @@ module _ (x : ℕ) where
       go true = refl
       go false = refl
 
-  pub middle-byte : 58 ≤ x → x < 97 → false ≡ is_hub_byte x
-  middle-byte l h = rw (lt-leb 97 x h, lt-leb x 57 (omega arith), and_false (leb 48 x))
+  pub middle_byte : 58 ≤ x → x < 97 → false ≡ is_hub_byte x
+  middle_byte l h = rw (lt-leb 97 x h, lt-leb x 57 (omega arith), and_false (leb 48 x))
 
   pub high_byte : 97 ≤ x → leb x 122 ≡ is_hub_byte x
   high_byte l = rw (le-leb 97 x l, lt-leb x 57 (omega arith), and_false (leb 48 x)) (go (leb x 122))
@@ -111,15 +111,15 @@ module _ (s : Bytes) (i : ℕ) (d : every is_hub_byte s ≡ every is_hub_byte (d
   unfolding every
   here h = d ∙ rw (drop-cons s i 0 h, add-one)
 
-  pub byte-bad : (b : Bool) → b ≡ is_hub_byte (get_or s i 0) → not b ≡ true → i < length s → false ≡ every is_hub_byte s
-  byte-bad b q n h = sym (here h ∙ rw (← q, not-true b n))
+  pub byte_bad : (b : Bool) → b ≡ is_hub_byte (get_or s i 0) → not b ≡ true → i < length s → false ≡ every is_hub_byte s
+  byte_bad b q n h = sym (here h ∙ rw (← q, not-true b n))
 
-  pub byte-on : (b : Bool) → b ≡ is_hub_byte (get_or s i 0) → not b ≡ false → i < length s → every is_hub_byte s ≡ every is_hub_byte (drop (i + 1) s)
-  byte-on b q n h = here h ∙ rw (← q, not-false b n)
+  pub byte_on : (b : Bool) → b ≡ is_hub_byte (get_or s i 0) → not b ≡ false → i < length s → every is_hub_byte s ≡ every is_hub_byte (drop (i + 1) s)
+  byte_on b q n h = here h ∙ rw (← q, not-false b n)
 
-  pub bytes-end : length s ≤ i → true ≡ every is_hub_byte s
+  pub bytes_end : length s ≤ i → true ≡ every is_hub_byte s
   unfolding every
-  bytes-end h = sym (d ∙ rw (drop_of_length-le s h))
+  bytes_end h = sym (d ∙ rw (drop_of_length-le s h))
 
 -- ---- `is_hub_name`
 
@@ -128,10 +128,10 @@ module _ (name : Bytes) where
   unfolding is_hub_name
   name_short h = rw (lt-leb 1 (length name) h)
 
-  pub name-long : 1 ≤ length name → hub_most < length name → false ≡ is_hub_name name
+  pub name_long : 1 ≤ length name → hub_most < length name → false ≡ is_hub_name name
   unfolding is_hub_name
-  name-long l h = rw (lt-leb (length name) hub_most h, le-leb 1 (length name) l)
+  name_long l h = rw (lt-leb (length name) hub_most h, le-leb 1 (length name) l)
 
-  pub name-bytes : (b : Bool) → 1 ≤ length name → length name ≤ hub_most → b ≡ every is_hub_byte name → b ≡ is_hub_name name
+  pub name_bytes : (b : Bool) → 1 ≤ length name → length name ≤ hub_most → b ≡ every is_hub_byte name → b ≡ is_hub_name name
   unfolding is_hub_name
-  name-bytes b l h e = rw (le-leb 1 (length name) l, le-leb (length name) hub_most h) e
+  name_bytes b l h e = rw (le-leb 1 (length name) l, le-leb (length name) hub_most h) e

@@ -16,7 +16,7 @@ use Rattle.octets.specs.Put.{put}
 use Rattle.octets.proofs.Laying.{put_none, put_front, put_put, put_start}
 use Rattle.handle.specs.Handle.{decimal_in, decimal, handle, handle_most, is_hub_name, padded, printed}
 use Rattle.handle.specs.declared.Handle.{Handle}
-use Rattle.handle.proofs.Handles.{length_handle, handle-bounded}
+use Rattle.handle.proofs.Handles.{length_handle, handle_bounded}
 
 -- ---- digits counted
 
@@ -37,17 +37,17 @@ count_none k n = let q : k - 0 ≡ k = omega arith in rw q (omega arith)
 
 -- the count: `count` digits are behind, and those of `left` are before
 module _ (most number left count : ℕ) (e : length (decimal_in most number) ≡ count + length (decimal_in (most - count) left)) where
-  pub count-last : count < most → left < 10 → count + 1 ≡ length (decimal_in most number)
-  count-last h l = omega (arith, count_one (most - count) left (λ z. omega arith) l)
+  pub count_last : count < most → left < 10 → count + 1 ≡ length (decimal_in most number)
+  count_last h l = omega (arith, count_one (most - count) left (λ z. omega arith) l)
 
-  pub count-on : count < most → 10 ≤ left → length (decimal_in most number) ≡ count + 1 + length (decimal_in (most - (count + 1)) (left / 10))
-  count-on h l =
+  pub count_on : count < most → 10 ≤ left → length (decimal_in most number) ≡ count + 1 + length (decimal_in (most - (count + 1)) (left / 10))
+  count_on h l =
       let q : most - count - 1 ≡ most - (count + 1) = omega arith in
       omega (arith, rw q at (count_more (most - count) left (λ z. omega arith) l))
 
-  pub count-end : most ≤ count → count ≡ length (decimal_in most number)
+  pub count_end : most ≤ count → count ≡ length (decimal_in most number)
   unfolding decimal_in
-  count-end h = let q : most - count ≡ 0 = omega arith in let n : length (decimal_in (most - count) left) ≡ 0 = rw q in omega arith
+  count_end h = let q : most - count ≡ 0 = omega arith in let n : length (decimal_in (most - count) left) ≡ 0 = rw q in omega arith
 
 -- ---- digits laid over a buffer, the last one first
 
@@ -85,21 +85,21 @@ last_step false d j n h t e = snoc_both (take j d) (decimal_in j (n / 10)) (get_
 
 -- what is before the last of i digits, and the last
 module _ (d : Bytes) (i n : ℕ) (h : i ≤ length d) (z : 0 < i) (e : take i d ≡ decimal_in i n) where
-  last-digit : (take (i - 1) d ≡ decimal_in (i - 1) (n / 10)) × (get_or d (i - 1) 0 ≡ n % 10 + 48)
+  last_digit : (take (i - 1) d ≡ decimal_in (i - 1) (n / 10)) × (get_or d (i - 1) 0 ≡ n % 10 + 48)
   unfolding decimal_in
-  last-digit =
+  last_digit =
       let q : i ≡ suc (i - 1) = omega arith in
       let s : take (suc (i - 1)) d ≡ decimal_in (suc (i - 1)) n = subst (λ (k : ℕ). take k d ≡ decimal_in k n) q e in
       last_step (ltb n 10) d (i - 1) n (omega arith) refl (sym (take-suc d (i - 1) 0 (omega arith)) ∙ s)
 
-  pub digits-left : take (i - 1) d ≡ decimal_in (i - 1) (n / 10)
-  digits-left = last-digit.0
+  pub digits_left : take (i - 1) d ≡ decimal_in (i - 1) (n / 10)
+  digits_left = last_digit.0
 
-  pub digit-laid : (at : ℕ) (o b : Bytes) → o ≡ put (at + i) (drop i d) b → set o (at + (i - 1)) (n % 10 + 48) ≡ put (at + (i - 1)) (drop (i - 1) d) b
-  digit-laid at o b eo =
+  pub digit_laid : (at : ℕ) (o b : Bytes) → o ≡ put (at + i) (drop i d) b → set o (at + (i - 1)) (n % 10 + 48) ≡ put (at + (i - 1)) (drop (i - 1) d) b
+  digit_laid at o b eo =
       let q : at + i ≡ at + (i - 1) + 1 = omega arith in
       let r : suc (i - 1) ≡ i = omega arith in
-      let c : drop (i - 1) d ≡ (n % 10 + 48) ∷ drop i d = drop-cons d (i - 1) 0 (omega arith) ∙ rw (r, last-digit.1) in
+      let c : drop (i - 1) d ≡ (n % 10 + 48) ∷ drop i d = drop-cons d (i - 1) 0 (omega arith) ∙ rw (r, last_digit.1) in
       rw (eo, q, c) (put_front (at + (i - 1)) (n % 10 + 48) (drop i d) b)
 
 -- at the start all digits are left, and at the end none
@@ -150,14 +150,14 @@ put_behind s t b n e = let q : n ≡ 0 + length s = omega arith in rw q (put_put
 
 module _ (name : Bytes) (good : is_hub_name name ≡ true) (n a b e : ℕ) (ha : a ≡ 2) (hb : b ≡ a + length name) (he : e ≡ b + 1) where
   -- each part lies behind the one before
-  pub handle-length : (r : ℕ) → r ≡ e + length (decimal_in 10 n) → r ≡ length (handle name n)
+  pub handle_length : (r : ℕ) → r ≡ e + length (decimal_in 10 n) → r ≡ length (handle name n)
   unfolding decimal
-  handle-length r hr = omega (arith, length_handle name n)
+  handle_length r hr = omega (arith, length_handle name n)
 
-  pub handle-text : (o p q x : Bytes) → o ≡ put 0 (72 ∷ 58 ∷ []) (zeros handle_most) → p ≡ put a name o → q ≡ put b (58 ∷ []) p → x ≡ put e (decimal_in 10 n) q
+  pub handle_text : (o p q x : Bytes) → o ≡ put 0 (72 ∷ 58 ∷ []) (zeros handle_most) → p ≡ put a name o → q ≡ put b (58 ∷ []) p → x ≡ put e (decimal_in 10 n) q
       → x ≡ padded handle_most (handle name n)
   unfolding handle decimal
-  handle-text o p q x ho hp hq hx =
+  handle_text o p q x ho hp hq hx =
       let z = zeros handle_most in
       let first : Bytes = 72 ∷ 58 ∷ [] in
       let p1 : p ≡ put 0 (first ++ name) z = hp ∙ rw ho (put_behind first name z a ha) in
@@ -165,7 +165,7 @@ module _ (name : Bytes) (good : is_hub_name name ≡ true) (n a b e : ℕ) (ha :
       let x1 : x ≡ put 0 (((first ++ name) ++ (58 ∷ [])) ++ decimal_in 10 n) z
       = hx ∙ rw q1 (put_behind ((first ++ name) ++ (58 ∷ [])) (decimal_in 10 n) z e (rw length-append (omega arith))) in
       let whole : ((first ++ name) ++ (58 ∷ [])) ++ decimal_in 10 n ≡ handle name n = simp append_assoc in
-      x1 ∙ rw whole (put_padded handle_most (handle name n) (handle-bounded name good n))
+      x1 ∙ rw whole (put_padded handle_most (handle name n) (handle_bounded name good n))
 
 pub printed_is : (s p : Bytes) (r : ℕ) → p ≡ padded handle_most s → r ≡ length s → ◌≡◌ {A = Handle} (record { text = p; length = r }) (printed s)
 unfolding printed
@@ -173,10 +173,10 @@ printed_is s p r e h = λ i. record { text = e i; length = h i }
 
 -- what `handle_of` answers: the first bytes of its text, as many as it says, are the handle
 module _ (name : Bytes) (good : is_hub_name name ≡ true) (w : Handle) (n : ℕ) (e : w ≡ printed (handle name n)) where
-  pub printed-fits : w.length ≤ length w.text
+  pub printed_fits : w.length ≤ length w.text
   unfolding printed
-  printed-fits = rw (e, length_padded) (handle-bounded name good n)
+  printed_fits = rw (e, length_padded) (handle_bounded name good n)
 
-  pub printed-front : take w.length w.text ≡ handle name n
+  pub printed_front : take w.length w.text ≡ handle name n
   unfolding printed
-  printed-front = rw e (take_padded handle_most (handle name n) (handle-bounded name good n))
+  printed_front = rw e (take_padded handle_most (handle name n) (handle_bounded name good n))

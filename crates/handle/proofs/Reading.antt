@@ -11,7 +11,7 @@ use lib.ListN.{length, get_or, take, drop, drop_of_length-le, length-append, len
 use lib.Dec.{leb}
 use lib.Seq.{drop-cons, get_or-append-add, get_or-drop}
 use Rattle.octets.specs.Bytes.{Bytes, every, starts_with, within}
-use Rattle.octets.proofs.Strings.{and_left, every-low, every-high, every-on, every-end, rest_part, starts_self, starts_is}
+use Rattle.octets.proofs.Strings.{and_left, every_low, every_high, every_on, every_end, rest_part, starts_self, starts_is}
 use Rattle.handle.specs.Handle.{decimal, handle, prefix, value, serial_of}
 use Rattle.handle.specs.declared.Serial.{Serial}
 use Rattle.handle.specs.declared.Serial.TheVariants.{Of, None}
@@ -25,22 +25,22 @@ abbrev pub number : Bytes → ℕ
 number s = cond (every (within 48 57) s) (value 0 s) 0
 
 module _ (s : Bytes) (a i : ℕ) (e : value 0 s ≡ value a (drop i s)) (d : every (within 48 57) s ≡ every (within 48 57) (drop i s)) where
-  pub number-low : i < length s → get_or s i 0 < 48 → 0 ≡ number s
-  number-low h l = rw (← every-low s 48 57 i d h l)
+  pub number_low : i < length s → get_or s i 0 < 48 → 0 ≡ number s
+  number_low h l = rw (← every_low s 48 57 i d h l)
 
-  pub number-high : i < length s → 48 ≤ get_or s i 0 → 57 < get_or s i 0 → 0 ≡ number s
-  number-high h l k = rw (← every-high s 48 57 i d h l k)
+  pub number_high : i < length s → 48 ≤ get_or s i 0 → 57 < get_or s i 0 → 0 ≡ number s
+  number_high h l k = rw (← every_high s 48 57 i d h l k)
 
   pub value_on : i < length s → value 0 s ≡ value (a * 10 + (get_or s i 0 - 48)) (drop (i + 1) s)
   unfolding value
   value_on h = e ∙ rw (drop-cons s i 0 h, add-one)
 
-  pub digits-on : i < length s → 48 ≤ get_or s i 0 → get_or s i 0 ≤ 57 → every (within 48 57) s ≡ every (within 48 57) (drop (i + 1) s)
-  digits-on h l k = every-on s 48 57 i d h l k
+  pub digits_on : i < length s → 48 ≤ get_or s i 0 → get_or s i 0 ≤ 57 → every (within 48 57) s ≡ every (within 48 57) (drop (i + 1) s)
+  digits_on h l k = every_on s 48 57 i d h l k
 
-  pub number-end : length s ≤ i → a ≡ number s
+  pub number_end : length s ≤ i → a ≡ number s
   unfolding value
-  number-end h = sym (rw (← every-end s 48 57 i d h) (e ∙ rw (drop_of_length-le s h)))
+  number_end h = sym (rw (← every_end s 48 57 i d h) (e ∙ rw (drop_of_length-le s h)))
 
 -- a first digit that is not `0`
 not_zero : (s : Bytes) → 1 ≤ length s → every (within 48 57) s ≡ true → (get_or s 0 0 ≡ 48 → ⊥) → 49 ≤ get_or s 0 0
@@ -61,15 +61,15 @@ power_ten i h = pow-le-pow_right {n = 10} (omega arith) {i = i} {j = 10} h
 
 module _ (name t : Bytes) (at : ℕ) (here : at ≡ 3 + length name) where
   -- a text that begins with the prefix has each of its parts at its place
-  starts-parts : starts_with t (prefix name) ≡ true → (starts_with t (72 ∷ 58 ∷ []) ≡ true) × (get_or t (at - 1) 0 ≡ 58) × (starts_with (drop 2 t) name ≡ true)
-  starts-parts e =
+  starts_parts : starts_with t (prefix name) ≡ true → (starts_with t (72 ∷ 58 ∷ []) ≡ true) × (get_or t (at - 1) 0 ≡ 58) × (starts_with (drop 2 t) name ≡ true)
+  starts_parts e =
       let r = drop (length (prefix name)) t in
       let whole : t ≡ 72 ∷ 58 ∷ (name ++ (58 ∷ r)) = starts_is t (prefix name) e ∙ ap (λ (l : Bytes). 72 ∷ 58 ∷ l) (append_assoc name (58 ∷ []) r) in
       let q : at - 1 ≡ suc (suc (length name + 0)) = omega arith in
       rw (whole, q) (starts_self (72 ∷ 58 ∷ []) (name ++ (58 ∷ r)), get_or-append-add name (58 ∷ r) 0 0, starts_self name (58 ∷ r))
 
-  not-starts : (starts_with t (prefix name) ≡ true → ⊥) → false ≡ starts_with t (prefix name)
-  not-starts n = go (starts_with t (prefix name)) n
+  not_starts : (starts_with t (prefix name) ≡ true → ⊥) → false ≡ starts_with t (prefix name)
+  not_starts n = go (starts_with t (prefix name)) n
     where
       go : (b : Bool) → (b ≡ true → ⊥) → false ≡ b
       go true n = absurd (n refl)
@@ -79,31 +79,31 @@ module _ (name t : Bytes) (at : ℕ) (here : at ≡ 3 + length name) where
   never true e h = let z : ◌≡◌ {A = ℕ} 0 1 = cc in omega arith
   never false e h = let z : ◌≡◌ {A = ℕ} 0 1 = cc in omega arith
 
-  pub hub-elsewhere : (b : Bool) → b ≡ starts_with t (72 ∷ 58 ∷ []) → not b ≡ true → false ≡ starts_with t (prefix name)
-  hub-elsewhere b e h = not-starts (λ q. never b (e ∙ (starts-parts q).0) h)
+  pub hub_elsewhere : (b : Bool) → b ≡ starts_with t (72 ∷ 58 ∷ []) → not b ≡ true → false ≡ starts_with t (prefix name)
+  hub_elsewhere b e h = not_starts (λ q. never b (e ∙ (starts_parts q).0) h)
 
-  pub hub-no-colon : (get_or t (at - 1) 0 ≡ 58 → ⊥) → false ≡ starts_with t (prefix name)
-  hub-no-colon h = not-starts (λ q. h (starts-parts q).1)
+  pub hub_no_colon : (get_or t (at - 1) 0 ≡ 58 → ⊥) → false ≡ starts_with t (prefix name)
+  hub_no_colon h = not_starts (λ q. h (starts_parts q).1)
 
-  pub hub-here : (b r : Bool) → b ≡ starts_with t (72 ∷ 58 ∷ []) → not b ≡ false → get_or t (at - 1) 0 ≡ 58 → r ≡ starts_with (take (length t - 2) (drop 2 t)) name → r ≡ starts_with t (prefix name)
-  hub-here b r eb nb colon er = by r (er ∙ ap (λ (s : Bytes). starts_with s name) (rest_part t 2))
+  pub hub_here : (b r : Bool) → b ≡ starts_with t (72 ∷ 58 ∷ []) → not b ≡ false → get_or t (at - 1) 0 ≡ 58 → r ≡ starts_with (take (length t - 2) (drop 2 t)) name → r ≡ starts_with t (prefix name)
+  hub_here b r eb nb colon er = by r (er ∙ ap (λ (s : Bytes). starts_with s name) (rest_part t 2))
     where
       first : t ≡ 72 ∷ 58 ∷ drop 2 t
       first = starts_is t (72 ∷ 58 ∷ []) (sym eb ∙ not-false b nb)
 
       by : (r : Bool) → r ≡ starts_with (drop 2 t) name → r ≡ starts_with t (prefix name)
-      by false e = not-starts (λ q. let z : false ≡ true = e ∙ (starts-parts q).2 in let o : ◌≡◌ {A = ℕ} 0 1 = cc in omega arith)
+      by false e = not_starts (λ q. let z : false ≡ true = e ∙ (starts_parts q).2 in let o : ◌≡◌ {A = ℕ} 0 1 = cc in omega arith)
       by true e =
           let r = drop (length name) (drop 2 t) in
           let whole : t ≡ 72 ∷ 58 ∷ (name ++ r) = first ∙ ap (λ (l : Bytes). 72 ∷ 58 ∷ l) (starts_is (drop 2 t) name (sym e)) in
           let q : at - 1 ≡ suc (suc (length name + 0)) = omega arith in
           let c : get_or r 0 0 ≡ 58 = sym (get_or-append-add name r 0 0) ∙ rw (whole, q) at colon in
-          let s : r ≡ 58 ∷ drop 1 r = colon-first r c in
+          let s : r ≡ 58 ∷ drop 1 r = colon_first r c in
           sym (rw (whole, s, ← append_assoc name (58 ∷ []) (drop 1 r)) (starts_self (prefix name) (drop 1 r)))
         where
-          colon-first : (r : Bytes) → get_or r 0 0 ≡ 58 → r ≡ 58 ∷ drop 1 r
-          colon-first [] c = absurd (omega arith)
-          colon-first (x ∷ r) c = ap (λ (y : ℕ). y ∷ r) c
+          colon_first : (r : Bytes) → get_or r 0 0 ≡ 58 → r ≡ 58 ∷ drop 1 r
+          colon_first [] c = absurd (omega arith)
+          colon_first (x ∷ r) c = ap (λ (y : ℕ). y ∷ r) c
 
 -- ---- the answers of `serial_of`
 
@@ -120,59 +120,59 @@ module _ (name t : Bytes) where
       by_answer None e = sym e
       by_answer (Of n) e = let h = handle_of_serial name t n e in absurd (never n h.1 h.2 h.0)
 
-  pub serial-short : length t < at + 1 → None ≡ serial_of name t
-  serial-short h = no_serial_lem (λ n l m e. omega (arith, handle_least name n, ap length e))
+  pub serial_short : length t < at + 1 → None ≡ serial_of name t
+  serial_short h = no_serial_lem (λ n l m e. omega (arith, handle_least name n, ap length e))
 
-  pub serial-long : at + 10 < length t → None ≡ serial_of name t
-  serial-long h = no_serial_lem (λ n l m e. omega (arith, handle_most_lem name n, ap length e))
+  pub serial_long : at + 10 < length t → None ≡ serial_of name t
+  serial_long h = no_serial_lem (λ n l m e. omega (arith, handle_most_lem name n, ap length e))
 
-  handle-parts : (n : ℕ) → handle name n ≡ prefix name ++ decimal n
+  handle_parts : (n : ℕ) → handle name n ≡ prefix name ++ decimal n
   unfolding handle
-  handle-parts n = ap (λ (l : Bytes). 72 ∷ 58 ∷ l) (sym (append_assoc name (58 ∷ []) (decimal n)))
+  handle_parts n = ap (λ (l : Bytes). 72 ∷ 58 ∷ l) (sym (append_assoc name (58 ∷ []) (decimal n)))
 
-  prefix-length : length (prefix name) ≡ at
-  prefix-length = rw length-append (omega arith)
+  prefix_length : length (prefix name) ≡ at
+  prefix_length = rw length-append (omega arith)
 
-  starts-handle : (n : ℕ) → handle name n ≡ t → starts_with t (prefix name) ≡ true
-  starts-handle n e = rw (← e, handle-parts n) (starts_self (prefix name) (decimal n))
+  starts_handle : (n : ℕ) → handle name n ≡ t → starts_with t (prefix name) ≡ true
+  starts_handle n e = rw (← e, handle_parts n) (starts_self (prefix name) (decimal n))
 
-  pub serial-elsewhere : (b : Bool) → b ≡ starts_with t (prefix name) → not b ≡ true → None ≡ serial_of name t
-  serial-elsewhere b e h = no_serial_lem (λ n l m q. let z : true ≡ false = sym (starts-handle n q) ∙ sym e ∙ not-true b h in let o : ◌≡◌ {A = ℕ} 0 1 = cc in omega arith)
+  pub serial_elsewhere : (b : Bool) → b ≡ starts_with t (prefix name) → not b ≡ true → None ≡ serial_of name t
+  serial_elsewhere b e h = no_serial_lem (λ n l m q. let z : true ≡ false = sym (starts_handle n q) ∙ sym e ∙ not-true b h in let o : ◌≡◌ {A = ℕ} 0 1 = cc in omega arith)
 
-  digits-handle : (n : ℕ) → handle name n ≡ t → drop at t ≡ decimal n
-  digits-handle n e = ap (drop at) (sym e) ∙ drop_handle name n
+  digits_handle : (n : ℕ) → handle name n ≡ t → drop at t ≡ decimal n
+  digits_handle n e = ap (drop at) (sym e) ∙ drop_handle name n
 
   digit_at : get_or (drop at t) 0 0 ≡ get_or t at 0
   digit_at = get_or-drop at t 0 0 ∙ rw add-zero
 
-  pub serial-leading : get_or t at 0 ≡ 48 → None ≡ serial_of name t
-  serial-leading z = no_serial_lem (λ n l m e. omega (arith, decimal_first n l (omega arith), ap (λ (x : Bytes). get_or x 0 0) (digits-handle n e), digit_at))
+  pub serial_leading : get_or t at 0 ≡ 48 → None ≡ serial_of name t
+  serial_leading z = no_serial_lem (λ n l m e. omega (arith, decimal_first n l (omega arith), ap (λ (x : Bytes). get_or x 0 0) (digits_handle n e), digit_at))
 
   -- the number that the bytes behind the prefix make
   module _ (r : ℕ) (e : r ≡ number (take (length t - at) (drop at t))) where
     number_is : r ≡ number (drop at t)
     number_is = e ∙ ap number (rest_part t at)
 
-    number-handle : (n : ℕ) → n < 2 ^ 32 → handle name n ≡ t → r ≡ n
-    number-handle n m q = number_is ∙ ap number (digits-handle n q) ∙ rw (decimal_digits n) (value_decimal n (omega arith))
+    number_handle : (n : ℕ) → n < 2 ^ 32 → handle name n ≡ t → r ≡ n
+    number_handle n m q = number_is ∙ ap number (digits_handle n q) ∙ rw (decimal_digits n) (value_decimal n (omega arith))
 
-    pub serial-low : r < 1 → None ≡ serial_of name t
-    serial-low h = no_serial_lem (λ n l m q. omega (arith, number-handle n m q))
+    pub serial_low : r < 1 → None ≡ serial_of name t
+    serial_low h = no_serial_lem (λ n l m q. omega (arith, number_handle n m q))
 
-    pub serial-high : 4294967295 < r → None ≡ serial_of name t
-    serial-high h = no_serial_lem (λ n l m q. omega (arith, number-handle n m q))
+    pub serial_high : 4294967295 < r → None ≡ serial_of name t
+    serial_high h = no_serial_lem (λ n l m q. omega (arith, number_handle n m q))
 
     digits_are : (b : Bool) (v : ℕ) → r ≡ cond b v 0 → 1 ≤ r → (b ≡ true) × (r ≡ v)
     digits_are true v q h = (refl, q)
     digits_are false v q h = absurd (omega arith)
 
-    pub serial-found : (b : Bool) → b ≡ starts_with t (prefix name) → not b ≡ false → at + 1 ≤ length t → length t ≤ at + 10 → (get_or t at 0 ≡ 48 → ⊥) → 1 ≤ r → r ≤ 4294967295
+    pub serial_found : (b : Bool) → b ≡ starts_with t (prefix name) → not b ≡ false → at + 1 ≤ length t → length t ≤ at + 10 → (get_or t at 0 ≡ 48 → ⊥) → 1 ≤ r → r ≤ 4294967295
         → Of r ≡ serial_of name t
-    serial-found b eb nb least most z lo hi =
+    serial_found b eb nb least most z lo hi =
         let d = digits_are (every (within 48 57) (drop at t)) (value 0 (drop at t)) number_is lo in
         let l = length-drop at t in
         let first : 49 ≤ get_or (drop at t) 0 0 = not_zero (drop at t) (omega arith) d.0 (λ q. z (sym digit_at ∙ q)) in
         let back : decimal (value 0 (drop at t)) ≡ drop at t = decimal_value (drop at t) (omega arith) (omega arith) d.0 first in
-        let whole : t ≡ prefix name ++ drop at t = starts_is t (prefix name) (sym eb ∙ not-false b nb) ∙ ap (λ (k : ℕ). prefix name ++ drop k t) prefix-length in
-        let same : handle name r ≡ t = handle-parts r ∙ rw (d.1, back) (sym whole) in
+        let whole : t ≡ prefix name ++ drop at t = starts_is t (prefix name) (sym eb ∙ not-false b nb) ∙ ap (λ (k : ℕ). prefix name ++ drop k t) prefix_length in
+        let same : handle name r ≡ t = handle_parts r ∙ rw (d.1, back) (sym whole) in
         sym (ap (serial_of name) (sym same) ∙ serial_of_handle name r lo (omega arith))

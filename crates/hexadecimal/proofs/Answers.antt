@@ -34,10 +34,10 @@ spelled none out o n e = let z : ◌≡◌ {A = S.Spelled} (SV.Bytes n) SV.Bad =
 spelled (some b) out o n e = let p = placed (leb (length b) (length out)) b out o n refl e in (p.0, ap some p.1)
 
 module _ (d out o : Bytes) (n : ℕ) (e : record { answer = SV.Bytes n; output = o } ≡ spelling d out) where
-  pub spelled-fits : n ≤ length o
+  pub spelled_fits : n ≤ length o
   unfolding spelling
-  spelled-fits = (spelled (unhex d) out o n e).0
+  spelled_fits = (spelled (unhex d) out o n e).0
 
-  pub spelled-bytes : unhex d ≡ some (take n o)
+  pub spelled_bytes : unhex d ≡ some (take n o)
   unfolding spelling
-  spelled-bytes = (spelled (unhex d) out o n e).1
+  spelled_bytes = (spelled (unhex d) out o n e).1

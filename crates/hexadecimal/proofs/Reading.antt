@@ -14,7 +14,7 @@ use lib.Seq.{drop-cons}
 use Rattle.octets.specs.Bytes.{Bytes, every}
 use Rattle.octets.specs.Put.{put}
 use Rattle.octets.proofs.Strings.{and_left, and_right}
-use Rattle.octets.proofs.Laying.{copy-none, copy_more, copy-all}
+use Rattle.octets.proofs.Laying.{copy_none, copy_more, copy_all}
 use Rattle.hexadecimal.specs.Hex.{digit_value, cons_byte, unhex}
 use Rattle.hexadecimal.specs.Spelling.{spelling, is_digit, pairs}
 use Rattle.hexadecimal.specs.declared.Spelled.TheVariants as SV
@@ -22,13 +22,13 @@ use Rattle.hexadecimal.specs.declared.Spelled.TheVariants as SV
 -- ---- each byte a digit: i bytes passed, each of them one
 
 module _ (s : Bytes) (i v : ℕ) (e : every is_digit s ≡ every is_digit (drop i s)) (h : i < length s) (q : v ≡ digit_value (get_or s i 0)) where
-  pub digits-stop : 15 < v → false ≡ every is_digit s
+  pub digits_stop : 15 < v → false ≡ every is_digit s
   unfolding every
-  digits-stop k = sym (e ∙ rw (drop-cons s i 0 h, ← q, lt-leb v 15 k))
+  digits_stop k = sym (e ∙ rw (drop-cons s i 0 h, ← q, lt-leb v 15 k))
 
-  pub digits-on : v ≤ 15 → every is_digit s ≡ every is_digit (drop (i + 1) s)
+  pub digits_on : v ≤ 15 → every is_digit s ≡ every is_digit (drop (i + 1) s)
   unfolding every
-  digits-on k = e ∙ rw (drop-cons s i 0 h, ← q, le-leb v 15 k, add-one)
+  digits_on k = e ∙ rw (drop-cons s i 0 h, ← q, le-leb v 15 k, add-one)
 
 pub digits_end : (s : Bytes) (i : ℕ) → every is_digit s ≡ every is_digit (drop i s) → length s ≤ i → true ≡ every is_digit s
 unfolding every
@@ -74,14 +74,14 @@ module _ (s : Bytes) (i : ℕ) (k : 2 * i + 1 < length s) where
 
 -- the laying under way: i bytes of the pairs lie over the buffer
 module _ (b s : Bytes) (n : ℕ) (e : length s ≡ 2 * n) where
-  pub pairs-none : b ≡ put 0 (take 0 (pairs s)) b
-  pairs-none = copy-none b 0 (pairs s)
+  pub pairs_none : b ≡ put 0 (take 0 (pairs s)) b
+  pairs_none = copy_none b 0 (pairs s)
 
-  pub pairs-more : (o : Bytes) (i x : ℕ) → o ≡ put 0 (take i (pairs s)) b → i < n → x ≡ get_or (pairs s) i 0 → set o i x ≡ put 0 (take (i + 1) (pairs s)) b
-  pairs-more o i x eo k ex = rw ex (rw zero-add at (copy_more b 0 (pairs s) o i eo (omega (arith, pairs_length s n e))))
+  pub pairs_more : (o : Bytes) (i x : ℕ) → o ≡ put 0 (take i (pairs s)) b → i < n → x ≡ get_or (pairs s) i 0 → set o i x ≡ put 0 (take (i + 1) (pairs s)) b
+  pairs_more o i x eo k ex = rw ex (rw zero-add at (copy_more b 0 (pairs s) o i eo (omega (arith, pairs_length s n e))))
 
-  pub pairs-all : (o : Bytes) (i : ℕ) → o ≡ put 0 (take i (pairs s)) b → i ≤ n → n ≤ i → o ≡ put 0 (pairs s) b
-  pairs-all o i eo h k = copy-all b 0 (pairs s) o i eo (omega (arith, pairs_length s n e)) (omega (arith, pairs_length s n e))
+  pub pairs_all : (o : Bytes) (i : ℕ) → o ≡ put 0 (take i (pairs s)) b → i ≤ n → n ≤ i → o ≡ put 0 (pairs s) b
+  pairs_all o i eo h k = copy_all b 0 (pairs s) o i eo (omega (arith, pairs_length s n e)) (omega (arith, pairs_length s n e))
 
 -- ---- the bytes that the digits spell
 
@@ -126,29 +126,29 @@ unhex_pairs (x ∷ (y ∷ s)) (suc n) l e =
 -- ---- what `read_hex` answers
 
 module _ (d out : Bytes) where
-  pub spelling-odd : (length d % 2 ≡ 0 → ⊥) → record { answer = SV.Bad; output = out } ≡ spelling d out
+  pub spelling_odd : (length d % 2 ≡ 0 → ⊥) → record { answer = SV.Bad; output = out } ≡ spelling d out
   unfolding spelling
-  spelling-odd h = sym (rw (unhex_odd d (length d / 2) (omega arith)))
+  spelling_odd h = sym (rw (unhex_odd d (length d / 2) (omega arith)))
 
-  pub spelling-bad : (r : Bool) → r ≡ every is_digit d → not r ≡ true → record { answer = SV.Bad; output = out } ≡ spelling d out
+  pub spelling_bad : (r : Bool) → r ≡ every is_digit d → not r ≡ true → record { answer = SV.Bad; output = out } ≡ spelling d out
   unfolding spelling
-  spelling-bad r e h = sym (rw (unhex_bad d (sym e ∙ not-true r h)))
+  spelling_bad r e h = sym (rw (unhex_bad d (sym e ∙ not-true r h)))
 
-  pub spelling-even : (n : ℕ) → length d % 2 ≡ 0 → n ≡ length d / 2 → length d ≡ 2 * n
-  spelling-even n z m = omega arith
+  pub spelling_even : (n : ℕ) → length d % 2 ≡ 0 → n ≡ length d / 2 → length d ≡ 2 * n
+  spelling_even n z m = omega arith
 
   module _ (r : Bool) (e : r ≡ every is_digit d) (h : not r ≡ false) where
-    pub spelling-digits : every is_digit d ≡ true
-    spelling-digits = sym e ∙ not-false r h
+    pub spelling_digits : every is_digit d ≡ true
+    spelling_digits = sym e ∙ not-false r h
 
     module _ (n : ℕ) (z : length d % 2 ≡ 0) (m : n ≡ length d / 2) where
       even : length d ≡ 2 * n
-      even = spelling-even n z m
+      even = spelling_even n z m
 
-      pub spelling-long : length out < n → record { answer = SV.Bad; output = out } ≡ spelling d out
+      pub spelling_long : length out < n → record { answer = SV.Bad; output = out } ≡ spelling d out
       unfolding spelling
-      spelling-long k = sym (rw (unhex_pairs d n even spelling-digits, pairs_length d n even, lt-leb n (length out) k))
+      spelling_long k = sym (rw (unhex_pairs d n even spelling_digits, pairs_length d n even, lt-leb n (length out) k))
 
-      pub spelling-good : (o : Bytes) → n ≤ length out → o ≡ put 0 (pairs d) out → record { answer = SV.Bytes n; output = o } ≡ spelling d out
+      pub spelling_good : (o : Bytes) → n ≤ length out → o ≡ put 0 (pairs d) out → record { answer = SV.Bytes n; output = o } ≡ spelling d out
       unfolding spelling
-      spelling-good o k eo = sym (rw (unhex_pairs d n even spelling-digits, pairs_length d n even, le-leb n (length out) k, eo))
+      spelling_good o k eo = sym (rw (unhex_pairs d n even spelling_digits, pairs_length d n even, le-leb n (length out) k, eo))

@@ -12,7 +12,7 @@ use lib.Dec.{leb}
 use Rattle.octets.specs.Bytes.{Bytes}
 use Rattle.hexadecimal.specs.Hex.{digit_value, cons_byte, hex_digit, unhex, hex}
 use Rattle.hexadecimal.specs.Spelling.{is_digit}
-use Rattle.hexadecimal.proofs.Digits.{value-below, value_decimal, value-between, value-letter, value-above, digit-decimal, digit-letter}
+use Rattle.hexadecimal.proofs.Digits.{value_below, value_decimal, value_between, value_letter, value_above, digit_decimal, digit_letter}
 
 -- ---- one digit
 
@@ -28,30 +28,30 @@ at_most n k = split_at (leb n k) n k refl
 digit_value_lem : (n : ℕ) → n ≤ 15 → digit_value (hex_digit n) ≡ n
 digit_value_lem n h =
     ⊎_elim
-    (λ k. ap digit_value (sym (digit-decimal n (omega arith))) ∙ sym (value_decimal (n + 48) (omega arith) (omega arith)) ∙ omega arith)
-    (λ k. ap digit_value (sym (digit-letter n (omega arith))) ∙ sym (value-letter (n + 87) (omega arith) (omega arith)) ∙ omega arith)
+    (λ k. ap digit_value (sym (digit_decimal n (omega arith))) ∙ sym (value_decimal (n + 48) (omega arith) (omega arith)) ∙ omega arith)
+    (λ k. ap digit_value (sym (digit_letter n (omega arith))) ∙ sym (value_letter (n + 87) (omega arith) (omega arith)) ∙ omega arith)
     (at_most n 9)
 
 -- a digit is that of the number for which it stands
 module _ (x : ℕ) (h : digit_value x ≤ 15) where
   decimal_digit : 48 ≤ x → x ≤ 57 → hex_digit (digit_value x) ≡ x
-  decimal_digit k m = ap hex_digit (sym (value_decimal x k m)) ∙ sym (digit-decimal (x - 48) (omega arith)) ∙ omega arith
+  decimal_digit k m = ap hex_digit (sym (value_decimal x k m)) ∙ sym (digit_decimal (x - 48) (omega arith)) ∙ omega arith
 
-  letter-digit : 97 ≤ x → x ≤ 102 → hex_digit (digit_value x) ≡ x
-  letter-digit k m = ap hex_digit (sym (value-letter x k m)) ∙ sym (digit-letter (x - 87) (omega arith)) ∙ omega arith
+  letter_digit : 97 ≤ x → x ≤ 102 → hex_digit (digit_value x) ≡ x
+  letter_digit k m = ap hex_digit (sym (value_letter x k m)) ∙ sym (digit_letter (x - 87) (omega arith)) ∙ omega arith
 
-  above-57 : 57 < x → hex_digit (digit_value x) ≡ x
-  above-57 k =
+  above_57 : 57 < x → hex_digit (digit_value x) ≡ x
+  above_57 k =
       ⊎_elim
-      (λ m. absurd (omega (arith, value-between x k (omega arith))))
-      (λ m. ⊎_elim (letter-digit (omega arith)) (λ p. absurd (omega (arith, value-above x p))) (at_most x 102))
+      (λ m. absurd (omega (arith, value_between x k (omega arith))))
+      (λ m. ⊎_elim (letter_digit (omega arith)) (λ p. absurd (omega (arith, value_above x p))) (at_most x 102))
       (at_most x 96)
 
-  value-digit : hex_digit (digit_value x) ≡ x
-  value-digit =
+  value_digit : hex_digit (digit_value x) ≡ x
+  value_digit =
       ⊎_elim
-      (λ k. absurd (omega (arith, value-below x (omega arith))))
-      (λ k. ⊎_elim (decimal_digit (omega arith)) above-57 (at_most x 57))
+      (λ k. absurd (omega (arith, value_below x (omega arith))))
+      (λ k. ⊎_elim (decimal_digit (omega arith)) above_57 (at_most x 57))
       (at_most x 47)
 
 -- ---- bytes
@@ -92,4 +92,4 @@ hex_unhex (x ∷ (y ∷ d)) b e =
     let p = paired (is_digit x) (is_digit y) (h * 16 + l) (unhex d) b e in
     let hx : h ≤ 15 = leb-true h 15 p.0 in
     let hy : l ≤ 15 = leb-true l 15 p.1 in
-    fronted (h * 16 + l) d b (unhex d) (hex_unhex d) p.2 ∙ rw ((halves h l hx hy).0, (halves h l hx hy).1, value-digit x hx, value-digit y hy)
+    fronted (h * 16 + l) d b (unhex d) (hex_unhex d) p.2 ∙ rw ((halves h l hx hy).0, (halves h l hx hy).1, value_digit x hx, value_digit y hy)

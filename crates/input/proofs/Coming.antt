@@ -10,15 +10,15 @@ pub start_is : (l : Line) → l ≡ fresh → record { line = l; at = 0; end = 0
 start_is l e = rw e
 
 module _ (s : Input) where
-  pub line-broken : s.failed ≡ true → false ≡ has_line s
+  pub line_broken : s.failed ≡ true → false ≡ has_line s
   unfolding has_line
-  line-broken f = rw f
+  line_broken f = rw f
 
   module _ (f : s.failed ≡ false) where
-    pub line-last : (r : Bool) → s.over ≡ true → r ≡ is_open s.line → r ≡ has_line s
+    pub line_last : (r : Bool) → s.over ≡ true → r ≡ is_open s.line → r ≡ has_line s
     unfolding has_line
-    line-last r h e = rw (f, h) e
+    line_last r h e = rw (f, h) e
 
-    pub line-ended : s.over ≡ false → s.line.ended ≡ has_line s
+    pub line_ended : s.over ≡ false → s.line.ended ≡ has_line s
     unfolding has_line
-    line-ended h = rw (f, h)
+    line_ended h = rw (f, h)

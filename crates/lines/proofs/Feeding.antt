@@ -11,35 +11,35 @@ use Rattle.lines.specs.declared.Line.{Line}
 use Rattle.lines.specs.Lines.{fresh, begun, ending, longer, overflowing, added, fed, is_open}
 
 module _ (l : Line) where
-  pub begun-anew : (r : Line) → r ≡ fresh → l.ended ≡ true → r ≡ begun l
+  pub begun_anew : (r : Line) → r ≡ fresh → l.ended ≡ true → r ≡ begun l
   unfolding begun
-  begun-anew r e h = rw (h, e)
+  begun_anew r e h = rw (h, e)
 
-  pub begun-on : l.ended ≡ false → l ≡ begun l
+  pub begun_on : l.ended ≡ false → l ≡ begun l
   unfolding begun
-  begun-on h = rw h
+  begun_on h = rw h
 
 module _ (l k : Line) (e : k ≡ begun l) where
   pub open_begun : 0 < k.length → true ≡ is_open l
   unfolding is_open
   open_begun h = rw (← e, lt-ltb 0 k.length h)
 
-  pub open-over : k.length ≤ 0 → k.overlong ≡ is_open l
+  pub open_over : k.length ≤ 0 → k.overlong ≡ is_open l
   unfolding is_open
-  open-over h = rw (← e, le-ltb 0 k.length h)
+  open_over h = rw (← e, le-ltb 0 k.length h)
 
 module _ (l k : Line) (b : Bytes) (x : ℕ) (e : k ≡ begun l) where
-  pub fed-end : x ≡ 10 → ending k b ≡ fed l b x
+  pub fed_end : x ≡ 10 → ending k b ≡ fed l b x
   unfolding fed added
-  fed-end h = rw (← e, eq-eqb x 10 h)
+  fed_end h = rw (← e, eq-eqb x 10 h)
 
-  pub fed-longer : (x ≡ 10 → ⊥) → k.length < length b → longer k b x ≡ fed l b x
+  pub fed_longer : (x ≡ 10 → ⊥) → k.length < length b → longer k b x ≡ fed l b x
   unfolding fed added
-  fed-longer h m = rw (← e, ne_eqb x 10 h, lt-ltb k.length (length b) m)
+  fed_longer h m = rw (← e, ne_eqb x 10 h, lt-ltb k.length (length b) m)
 
-  pub fed-over : (x ≡ 10 → ⊥) → length b ≤ k.length → overflowing k b ≡ fed l b x
+  pub fed_over : (x ≡ 10 → ⊥) → length b ≤ k.length → overflowing k b ≡ fed l b x
   unfolding fed added
-  fed-over h m = rw (← e, ne_eqb x 10 h, le-ltb k.length (length b) m)
+  fed_over h m = rw (← e, ne_eqb x 10 h, le-ltb k.length (length b) m)
 
 -- the front of a string: its length, and all of the string where there is no more
 pub front_length : (b : Bytes) (n : ℕ) → n ≤ length b → n ≡ length (take n b)

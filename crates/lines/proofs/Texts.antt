@@ -45,8 +45,8 @@ module _ (room : ℕ) (h : Held) (s : Bytes) (x : ℕ) (st : Stands room h s) wh
   short : h.line.length < length h.buffer → length s < room
   short k = shorter room s (omega (arith, st.much, st.size))
 
-  stands-longer : h.line.length < length h.buffer → Stands room (longer h.line h.buffer x) (s ++ (x ∷ []))
-  stands-longer k =
+  stands_longer : h.line.length < length h.buffer → Stands room (longer h.line h.buffer x) (s ++ (x ∷ []))
+  stands_longer k =
       let n = h.line.length in
       let m : length s < room = short k in
       let all : take room s ≡ s = take_all room s (omega arith) in
@@ -61,8 +61,8 @@ module _ (room : ℕ) (h : Held) (s : Bytes) (x : ℕ) (st : Stands room h s) wh
         over = st.over ∙ le-ltb room (length s) (omega arith) ∙ sym (le-ltb room (length (s ++ (x ∷ []))) (omega arith));
       }
 
-  stands-over : length h.buffer ≤ h.line.length → Stands room (overflowing h.line h.buffer) (s ++ (x ∷ []))
-  stands-over k =
+  stands_over : length h.buffer ≤ h.line.length → Stands room (overflowing h.line h.buffer) (s ++ (x ∷ []))
+  stands_over k =
       let m : room ≤ length s = longer_than room s (omega (arith, st.much, st.size)) in
       let whole : length (s ++ (x ∷ [])) ≡ length s + 1 = length-append s (x ∷ []) in
       let same : take room (s ++ (x ∷ [])) ≡ take room s = take-append-le room s (x ∷ []) m in
@@ -109,8 +109,8 @@ module _ (room : ℕ) (h : Held) (s t : Bytes) (x : ℕ) (st : Stands room h s) 
   run_more : (fits : Bool) → ltb h.line.length (length h.buffer) ≡ fits
       → let g = cond fits (longer h.line h.buffer x) (overflowing h.line h.buffer) in
       shown_if g.line.ended g (run g t) ≡ map (cut room) (lines_from (s ++ (x ∷ [])) t)
-  run_more true e = ih (longer h.line h.buffer x) (stands-longer room h s x st (ltb-true _ _ e))
-  run_more false e = ih (overflowing h.line h.buffer) (stands-over room h s x st (ltb-false _ _ e))
+  run_more true e = ih (longer h.line h.buffer x) (stands_longer room h s x st (ltb-true _ _ e))
+  run_more false e = ih (overflowing h.line h.buffer) (stands_over room h s x st (ltb-false _ _ e))
 
 -- the byte is the line feed, or it is not
 run_byte : (feed : Bool) (room : ℕ) (h : Held) (s t : Bytes) (x : ℕ) → eqb x 10 ≡ feed → Stands room h s

@@ -42,10 +42,10 @@ pub find_by : {A : Type 0} (p q : A → Bool) → ((x : A) → p x ≡ q x) → 
 find_by p q e l = λ i. find (λ x. e x i) l
 
 module _ {A : Type 0} (p : A → Bool) (d : A) where
-  pub find-same : (q : A → Bool) (l : List A) → ((i : ℕ) → i < length l → p (get_or l i d) ≡ q (get_or l i d)) → find p l ≡ find q l
-  find-same q [] e = refl
-  find-same q (x ∷ l) e =
-      ap₂ (λ (b : Bool) (o : Option ℕ). cond b (some 0) (up o)) (e 0 (suc-le-suc zero-le)) (find-same q l (λ i h. e (suc i) (suc-le-suc h)))
+  pub find_same : (q : A → Bool) (l : List A) → ((i : ℕ) → i < length l → p (get_or l i d) ≡ q (get_or l i d)) → find p l ≡ find q l
+  find_same q [] e = refl
+  find_same q (x ∷ l) e =
+      ap₂ (λ (b : Bool) (o : Option ℕ). cond b (some 0) (up o)) (e 0 (suc-le-suc zero-le)) (find_same q l (λ i h. e (suc i) (suc-le-suc h)))
 
   pub find_nothing : (l : List A) → ((i : ℕ) → i < length l → p (get_or l i d) ≡ false) → find p l ≡ none
   find_nothing [] e = refl
@@ -70,7 +70,7 @@ find_narrow f g d l i e alone = go (g (get_or l i d)) refl
     asked b h k m t = ap (λ (n : ℕ). g (get_or l n d)) (alone k m t) ∙ h
 
     go : (b : Bool) → g (get_or l i d) ≡ b → find (λ x. f x && g x) l ≡ cond b (some i) none
-    go true h = find-same (λ x. f x && g x) d f l (λ k m. and_if (f (get_or l k d)) (g (get_or l k d)) (asked true h k m)) ∙ e
+    go true h = find_same (λ x. f x && g x) d f l (λ k m. and_if (f (get_or l k d)) (g (get_or l k d)) (asked true h k m)) ∙ e
     go false h = find_nothing (λ x. f x && g x) d l (λ k m. and_never (f (get_or l k d)) (g (get_or l k d)) (asked false h k m))
 
 -- ---- a row skipped: the test `not x && y`, where the code asks for what fails it

@@ -43,14 +43,14 @@ all_any f [] = All.none
 all_any f (x ∷ xs) = All.more (f x) (all_any f xs)
 
 module _ {A : Type 0} (R : A → A → Type 0) (same : (a : A) → R a a) where
-  all2-same : (xs : List A) → All2 R xs xs
-  all2-same [] = All2.none
-  all2-same (x ∷ xs) = All2.more (same x) (all2-same xs)
+  all2_same : (xs : List A) → All2 R xs xs
+  all2_same [] = All2.none
+  all2_same (x ∷ xs) = All2.more (same x) (all2_same xs)
 
-  pub all2-set : (xs : List A) (i : ℕ) (d y : A) → R (get_or xs i d) y → All2 R xs (set xs i y)
-  all2-set [] i d y r = All2.none
-  all2-set (x ∷ xs) zero d y r = All2.more r (all2-same xs)
-  all2-set (x ∷ xs) (suc i) d y r = All2.more (same x) (all2-set xs i d y r)
+  pub all2_set : (xs : List A) (i : ℕ) (d y : A) → R (get_or xs i d) y → All2 R xs (set xs i y)
+  all2_set [] i d y r = All2.none
+  all2_set (x ∷ xs) zero d y r = All2.more r (all2_same xs)
+  all2_set (x ∷ xs) (suc i) d y r = All2.more (same x) (all2_set xs i d y r)
 
 pub all2_map : {A : Type 0} (R : A → A → Type 0) (g : A → A) → ((a : A) → R a (g a)) → (xs : List A) → All2 R xs (map g xs)
 all2_map R g r [] = All2.none

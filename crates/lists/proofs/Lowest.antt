@@ -33,16 +33,16 @@ module _ {A : Type 0} (p : A → Bool) (l : List A) where
   lowest_start = up_by_zero (find p l)
 
   module _ (i : ℕ) (d : A) (e : find p l ≡ up_by i (find p (drop i l))) where
-    pub lowest-here : i < length l → p (get_or l i d) ≡ true → At i ≡ placed (find p l)
-    lowest-here h t = let s : up_by i (find p (drop i l)) ≡ some i = rw (drop-cons l i d h, t, add-zero) in sym (ap placed (e ∙ s))
+    pub lowest_here : i < length l → p (get_or l i d) ≡ true → At i ≡ placed (find p l)
+    lowest_here h t = let s : up_by i (find p (drop i l)) ≡ some i = rw (drop-cons l i d h, t, add-zero) in sym (ap placed (e ∙ s))
 
-    pub lowest-on : i < length l → p (get_or l i d) ≡ false → find p l ≡ up_by (i + 1) (find p (drop (i + 1) l))
-    lowest-on h f =
+    pub lowest_on : i < length l → p (get_or l i d) ≡ false → find p l ≡ up_by (i + 1) (find p (drop (i + 1) l))
+    lowest_on h f =
         let s : find p (drop i l) ≡ up (find p (drop (i + 1) l)) = rw (drop-cons l i d h, f, add-one) in
         e ∙ ap (up_by i) s ∙ up_by_up i (find p (drop (i + 1) l))
 
-    pub lowest-none : length l ≤ i → Nowhere ≡ placed (find p l)
-    lowest-none h = let s : up_by i (find p (drop i l)) ≡ none = rw (drop_of_length-le l h) in sym (ap placed (e ∙ s))
+    pub lowest_none : length l ≤ i → Nowhere ≡ placed (find p l)
+    lowest_none h = let s : up_by i (find p (drop i l)) ≡ none = rw (drop_of_length-le l h) in sym (ap placed (e ∙ s))
 
 -- ---- among the numbers below n
 
@@ -55,11 +55,11 @@ module _ (p : ℕ → Bool) (n i : ℕ) (e : find p (numbers 0 n) ≡ up_by i (f
   tested : {b : Bool} → i < n → p i ≡ b → p (get_or (numbers 0 n) i 0) ≡ b
   tested h t = rw (number_is 0 n i h, zero-add) t
 
-  pub number-here : i < n → p i ≡ true → At i ≡ placed (find p (numbers 0 n))
-  number-here h t = lowest-here p (numbers 0 n) i 0 e (rw (length_numbers 0 n) h) (tested h t)
+  pub number_here : i < n → p i ≡ true → At i ≡ placed (find p (numbers 0 n))
+  number_here h t = lowest_here p (numbers 0 n) i 0 e (rw (length_numbers 0 n) h) (tested h t)
 
-  pub number-on : i < n → p i ≡ false → find p (numbers 0 n) ≡ up_by (i + 1) (find p (drop (i + 1) (numbers 0 n)))
-  number-on h t = lowest-on p (numbers 0 n) i 0 e (rw (length_numbers 0 n) h) (tested h t)
+  pub number_on : i < n → p i ≡ false → find p (numbers 0 n) ≡ up_by (i + 1) (find p (drop (i + 1) (numbers 0 n)))
+  number_on h t = lowest_on p (numbers 0 n) i 0 e (rw (length_numbers 0 n) h) (tested h t)
 
-  pub number-none : n ≤ i → Nowhere ≡ placed (find p (numbers 0 n))
-  number-none h = lowest-none p (numbers 0 n) i 0 e (rw (length_numbers 0 n) h)
+  pub number_none : n ≤ i → Nowhere ≡ placed (find p (numbers 0 n))
+  number_none h = lowest_none p (numbers 0 n) i 0 e (rw (length_numbers 0 n) h)

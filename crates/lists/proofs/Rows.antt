@@ -81,9 +81,9 @@ module _ {A : Type 0} (p : A → Bool) where
   all_row (x ∷ l) zero d e q = and_left (p x) _ e
   all_row (x ∷ l) (suc i) d e q = all_row l i d (and_right (p x) _ e) q
 
-  pub all-by : (l : List A) (d : A) → ((i : ℕ) → i < length l → p (get_or l i d) ≡ true) → all p l ≡ true
-  all-by [] d f = refl
-  all-by (x ∷ l) d f = and_both (p x) _ (f 0 (suc-le-suc zero-le)) (all-by l d (λ i h. f (suc i) (suc-le-suc h)))
+  pub all_by : (l : List A) (d : A) → ((i : ℕ) → i < length l → p (get_or l i d) ≡ true) → all p l ≡ true
+  all_by [] d f = refl
+  all_by (x ∷ l) d f = and_both (p x) _ (f 0 (suc-le-suc zero-le)) (all_by l d (λ i h. f (suc i) (suc-le-suc h)))
 
   pub all_set : (l : List A) (i : ℕ) (x : A) → all p l ≡ true → p x ≡ true → all p (set l i x) ≡ true
   all_set [] i x e h = refl
@@ -119,26 +119,26 @@ all_kept p q f (All2.more {a = a} {b = b} r rs) e = and_both (q b) _ (f a b r (a
 -- ---- each two rows
 
 module _ {A : Type 0} (apart : A → A → Bool) where
-  pub pairwise-kept : {R : A → A → Type 0} → ((a b x y : A) → R a x → R b y → apart a b ≡ true → apart x y ≡ true)
+  pub pairwise_kept : {R : A → A → Type 0} → ((a b x y : A) → R a x → R b y → apart a b ≡ true → apart x y ≡ true)
       → {xs ys : List A} → All2 R xs ys → pairwise apart xs ≡ true → pairwise apart ys ≡ true
-  pairwise-kept f All2.none e = refl
-  pairwise-kept f (All2.more {a = a} {b = x} {xs = xs} {ys = ys} r rs) e =
+  pairwise_kept f All2.none e = refl
+  pairwise_kept f (All2.more {a = a} {b = x} {xs = xs} {ys = ys} r rs) e =
       and_both (all (apart x) ys) _ (all_kept (apart a) (apart x) (λ b y s h. f a b x y r s h) rs (and_left (all (apart a) xs) _ e))
-      (pairwise-kept f rs (and_right (all (apart a) xs) _ e))
+      (pairwise_kept f rs (and_right (all (apart a) xs) _ e))
 
   -- a row anew that is apart from every other
-  pub pairwise-set : (l : List A) (i : ℕ) (x : A) → pairwise apart l ≡ true → all (apart x) l ≡ true → all (λ y. apart y x) l ≡ true → pairwise apart (set l i x) ≡ true
-  pairwise-set [] i x e f g = refl
-  pairwise-set (y ∷ l) zero x e f g = and_both (all (apart x) l) _ (and_right (apart x y) _ f) (and_right (all (apart y) l) _ e)
-  pairwise-set (y ∷ l) (suc i) x e f g =
+  pub pairwise_set : (l : List A) (i : ℕ) (x : A) → pairwise apart l ≡ true → all (apart x) l ≡ true → all (λ y. apart y x) l ≡ true → pairwise apart (set l i x) ≡ true
+  pairwise_set [] i x e f g = refl
+  pairwise_set (y ∷ l) zero x e f g = and_both (all (apart x) l) _ (and_right (apart x y) _ f) (and_right (all (apart y) l) _ e)
+  pairwise_set (y ∷ l) (suc i) x e f g =
       and_both (all (apart y) (set l i x)) _ (all_set (apart y) l i x (and_left (all (apart y) l) _ e) (and_left (apart y x) _ g))
-      (pairwise-set l i x (and_right (all (apart y) l) _ e) (and_right (apart x y) _ f) (and_right (apart y x) _ g))
+      (pairwise_set l i x (and_right (all (apart y) l) _ e) (and_right (apart x y) _ f) (and_right (apart y x) _ g))
 
-  pub pairwise-at : (l : List A) (i k : ℕ) (d : A) → pairwise apart l ≡ true → i < k → k < length l → apart (get_or l i d) (get_or l k d) ≡ true
-  pairwise-at [] i k d e h g = absurd (not-suc-le-zero g)
-  pairwise-at (x ∷ l) i zero d e h g = absurd (not-suc-le-zero h)
-  pairwise-at (x ∷ l) zero (suc k) d e h g = all_at (apart x) l k d (and_left (all (apart x) l) _ e) (le_of_suc-le-suc g)
-  pairwise-at (x ∷ l) (suc i) (suc k) d e h g = pairwise-at l i k d (and_right (all (apart x) l) _ e) (le_of_suc-le-suc h) (le_of_suc-le-suc g)
+  pub pairwise_at : (l : List A) (i k : ℕ) (d : A) → pairwise apart l ≡ true → i < k → k < length l → apart (get_or l i d) (get_or l k d) ≡ true
+  pairwise_at [] i k d e h g = absurd (not-suc-le-zero g)
+  pairwise_at (x ∷ l) i zero d e h g = absurd (not-suc-le-zero h)
+  pairwise_at (x ∷ l) zero (suc k) d e h g = all_at (apart x) l k d (and_left (all (apart x) l) _ e) (le_of_suc-le-suc g)
+  pairwise_at (x ∷ l) (suc i) (suc k) d e h g = pairwise_at l i k d (and_right (all (apart x) l) _ e) (le_of_suc-le-suc h) (le_of_suc-le-suc g)
 
 -- ---- some row
 
@@ -148,9 +148,9 @@ module _ {A : Type 0} (p : A → Bool) where
   any_at (x ∷ l) zero d h e = or_left (p x) _ e
   any_at (x ∷ l) (suc i) d h e = or_right (p x) _ (any_at l i d (le_of_suc-le-suc h) e)
 
-  pub any-imp : (q : A → Bool) → ((x : A) → p x ≡ true → q x ≡ true) → (l : List A) → any p l ≡ true → any q l ≡ true
-  any-imp q f [] e = e
-  any-imp q f (x ∷ l) e = go (p x) refl e (any-imp q f l)
+  pub any_imp : (q : A → Bool) → ((x : A) → p x ≡ true → q x ≡ true) → (l : List A) → any p l ≡ true → any q l ≡ true
+  any_imp q f [] e = e
+  any_imp q f (x ∷ l) e = go (p x) refl e (any_imp q f l)
     where
       go : (b : Bool) → p x ≡ b → b || any p l ≡ true → (any p l ≡ true → any q l ≡ true) → q x || any q l ≡ true
       go true h g r = or_left (q x) _ (f x h)
@@ -169,9 +169,9 @@ module _ {A : Type 0} (p : A → Bool) where
 -- ---- rows made anew by place
 
 module _ {A : Type 0} {B : Type 0} (f : ℕ → A → B) where
-  pub length-mapFrom : (i : ℕ) (l : List A) → length (map_from f i l) ≡ length l
-  length-mapFrom i [] = refl
-  length-mapFrom i (x ∷ l) = ap suc (length-mapFrom (suc i) l)
+  pub length_map_from : (i : ℕ) (l : List A) → length (map_from f i l) ≡ length l
+  length_map_from i [] = refl
+  length_map_from i (x ∷ l) = ap suc (length_map_from (suc i) l)
 
 -- a row beyond the last stays the empty one
 map_from_row : {A : Type 0} (f : ℕ → A → A) (d : A) → ((i : ℕ) → f i d ≡ d) → (i : ℕ) (l : List A) (k : ℕ) → get_or (map_from f i l) k d ≡ f (i + k) (get_or l k d)
@@ -221,20 +221,20 @@ each_set P l i x d h p q k = elim (ℕ_discrete k i) [
 -- ---- numbers in a row
 
 module _ (p : ℕ → Bool) where
-  pub numbers-at : (i n k : ℕ) → all p (numbers i n) ≡ true → k < n → p (i + k) ≡ true
-  numbers-at i zero k e h = absurd (not-suc-le-zero h)
-  numbers-at i (suc n) zero e h = subst (λ (m : ℕ). p m ≡ true) (omega arith) (and_left (p i) _ e)
-  numbers-at i (suc n) (suc k) e h = subst (λ (m : ℕ). p m ≡ true) (omega arith) (numbers-at (suc i) n k (and_right (p i) _ e) (le_of_suc-le-suc h))
+  pub numbers_at : (i n k : ℕ) → all p (numbers i n) ≡ true → k < n → p (i + k) ≡ true
+  numbers_at i zero k e h = absurd (not-suc-le-zero h)
+  numbers_at i (suc n) zero e h = subst (λ (m : ℕ). p m ≡ true) (omega arith) (and_left (p i) _ e)
+  numbers_at i (suc n) (suc k) e h = subst (λ (m : ℕ). p m ≡ true) (omega arith) (numbers_at (suc i) n k (and_right (p i) _ e) (le_of_suc-le-suc h))
 
-  pub numbers-by : (i n : ℕ) → ((k : ℕ) → k < n → p (i + k) ≡ true) → all p (numbers i n) ≡ true
-  numbers-by i zero f = refl
-  numbers-by i (suc n) f =
+  pub numbers_by : (i n : ℕ) → ((k : ℕ) → k < n → p (i + k) ≡ true) → all p (numbers i n) ≡ true
+  numbers_by i zero f = refl
+  numbers_by i (suc n) f =
       and_both (p i) _ (subst (λ (m : ℕ). p m ≡ true) (omega arith) (f 0 (suc-le-suc zero-le)))
-      (numbers-by (suc i) n (λ k h. subst (λ (m : ℕ). p m ≡ true) (omega arith) (f (suc k) (suc-le-suc h))))
+      (numbers_by (suc i) n (λ k h. subst (λ (m : ℕ). p m ≡ true) (omega arith) (f (suc k) (suc-le-suc h))))
 
   -- the numbers below n
   pub below_at : (n k : ℕ) → all p (numbers 0 n) ≡ true → k < n → p k ≡ true
-  below_at n k e h = subst (λ (m : ℕ). p m ≡ true) (zero-add k) (numbers-at 0 n k e h)
+  below_at n k e h = subst (λ (m : ℕ). p m ≡ true) (zero-add k) (numbers_at 0 n k e h)
 
   pub below_by : (n : ℕ) → ((k : ℕ) → k < n → p k ≡ true) → all p (numbers 0 n) ≡ true
-  below_by n f = numbers-by 0 n (λ k h. subst (λ (m : ℕ). p m ≡ true) (sym (zero-add k)) (f k h))
+  below_by n f = numbers_by 0 n (λ k h. subst (λ (m : ℕ). p m ≡ true) (sym (zero-add k)) (f k h))

@@ -22,9 +22,9 @@ module _ {A : Type 0} (p : A → Bool) (d : A) where
   further x l none e f = rw e f
   further x l (some i) e f = record { passes = f.passes; inside = suc-le-suc f.inside }
 
-  search-says : (l : List A) → Found l (find p l)
-  search-says [] = refl
-  search-says (x ∷ l) = cond_cases (Found (x ∷ l)) (p x) (λ e. record { passes = e; inside = suc-le-suc zero-le }) (λ e. further x l (find p l) e (search-says l))
+  search_says : (l : List A) → Found l (find p l)
+  search_says [] = refl
+  search_says (x ∷ l) = cond_cases (Found (x ∷ l)) (p x) (λ e. record { passes = e; inside = suc-le-suc zero-le }) (λ e. further x l (find p l) e (search_says l))
 
   pub found : (l : List A) (o : Option ℕ) → find p l ≡ o → Found l o
-  found l o e = subst (Found l) e (search-says l)
+  found l o e = subst (Found l) e (search_says l)

@@ -74,14 +74,14 @@ put_start (x ∷ s) (y ∷ b) h = ap (λ (l : Bytes). x ∷ l) (put_start s b (l
 
 -- a copy under way: the first i bytes of s lie over b from `at` on
 module _ (b : Bytes) (at : ℕ) (s : Bytes) where
-  pub copy-none : b ≡ put at (take 0 s) b
-  copy-none = sym (put_none at b)
+  pub copy_none : b ≡ put at (take 0 s) b
+  copy_none = sym (put_none at b)
 
   pub copy_more : (o : Bytes) (i : ℕ) → o ≡ put at (take i s) b → i < length s → set o (at + i) (get_or s i 0) ≡ put at (take (i + 1) s) b
   copy_more o i e h = rw (e, add-one, take-suc s i 0) (put_more at (take i s) b i (get_or s i 0) (length-take-le i s (omega arith)))
 
-  pub copy-all : (o : Bytes) (i : ℕ) → o ≡ put at (take i s) b → i ≤ length s → length s ≤ i → o ≡ put at s b
-  copy-all o i e h k = let q : i ≡ length s = omega arith in rw (e, q, take-length)
+  pub copy_all : (o : Bytes) (i : ℕ) → o ≡ put at (take i s) b → i ≤ length s → length s ≤ i → o ≡ put at s b
+  copy_all o i e h k = let q : i ≡ length s = omega arith in rw (e, q, take-length)
 
 -- ---- a run written over one as long
 

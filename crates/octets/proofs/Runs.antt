@@ -27,20 +27,20 @@ room_first at x y n h = omega (arith, length-append x y)
 
 module _ (at : ℕ) (x y b : Bytes) where
   module _ (p : ℕ) (o : Bytes) (e : (p ≡ at + length x) × (o ≡ put at x b)) where
-    pub room-then : at + length (x ++ y) ≤ length b → p + length y ≤ length o
-    room-then h = omega (arith, length-append x y, e.0, ap length e.1 ∙ length_put at x b)
+    pub room_then : at + length (x ++ y) ≤ length b → p + length y ≤ length o
+    room_then h = omega (arith, length-append x y, e.0, ap length e.1 ∙ length_put at x b)
 
     pub laid_then : (r : ℕ) (z : Bytes) → (r ≡ p + length y) × (z ≡ put p y o) → (r ≡ at + length (x ++ y)) × (z ≡ put at (x ++ y) b)
     laid_then r z f = (omega (arith, length-append x y, e.0, f.0), rw (f.1, e.1, e.0) (put_put at x y b))
 
 -- x, then y, then z
 module _ (at : ℕ) (x y z b : Bytes) (p : ℕ) (o : Bytes) (e : (p ≡ at + length x) × (o ≡ put at x b)) where
-  pub room-second : at + length (x ++ (y ++ z)) ≤ length b → p + length y ≤ length o
-  room-second h = room_first p y z (length o) (room-then at x (y ++ z) b p o e h)
+  pub room_second : at + length (x ++ (y ++ z)) ≤ length b → p + length y ≤ length o
+  room_second h = room_first p y z (length o) (room_then at x (y ++ z) b p o e h)
 
   module _ (q : ℕ) (u : Bytes) (f : (q ≡ p + length y) × (u ≡ put p y o)) where
-    pub room-third : at + length (x ++ (y ++ z)) ≤ length b → q + length z ≤ length u
-    room-third h = room-then p y z o q u f (room-then at x (y ++ z) b p o e h)
+    pub room_third : at + length (x ++ (y ++ z)) ≤ length b → q + length z ≤ length u
+    room_third h = room_then p y z o q u f (room_then at x (y ++ z) b p o e h)
 
-    pub laid-third : (r : ℕ) (v : Bytes) → (r ≡ q + length z) × (v ≡ put q z u) → (r ≡ at + length (x ++ (y ++ z))) × (v ≡ put at (x ++ (y ++ z)) b)
-    laid-third r v g = laid_then at x (y ++ z) b p o e r v (laid_then p y z o q u f r v g)
+    pub laid_third : (r : ℕ) (v : Bytes) → (r ≡ q + length z) × (v ≡ put q z u) → (r ≡ at + length (x ++ (y ++ z))) × (v ≡ put at (x ++ (y ++ z)) b)
+    laid_third r v g = laid_then at x (y ++ z) b p o e r v (laid_then p y z o q u f r v g)

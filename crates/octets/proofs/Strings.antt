@@ -45,15 +45,15 @@ starts_short [] (y ∷ ys) h = refl
 starts_short (x ∷ xs) (y ∷ ys) h = rw (starts_short xs ys (le_of_suc-le-suc h)) (and_false (eqb x y))
 
 module _ (s p : Bytes) (i : ℕ) (hs : i < length s) (hp : i < length p) where
-  starts-step : starts_with (drop i s) (drop i p) ≡ eqb (get_or s i 0) (get_or p i 0) && starts_with (drop (i + 1) s) (drop (i + 1) p)
+  starts_step : starts_with (drop i s) (drop i p) ≡ eqb (get_or s i 0) (get_or p i 0) && starts_with (drop (i + 1) s) (drop (i + 1) p)
   unfolding starts_with
-  starts-step = rw (add-one, drop-cons s i 0, drop-cons p i 0)
+  starts_step = rw (add-one, drop-cons s i 0, drop-cons p i 0)
 
-  pub starts-equal : get_or s i 0 ≡ get_or p i 0 → starts_with (drop i s) (drop i p) ≡ starts_with (drop (i + 1) s) (drop (i + 1) p)
-  starts-equal e = starts-step ∙ simp (eq-eqb _ _ e)
+  pub starts_equal : get_or s i 0 ≡ get_or p i 0 → starts_with (drop i s) (drop i p) ≡ starts_with (drop (i + 1) s) (drop (i + 1) p)
+  starts_equal e = starts_step ∙ simp (eq-eqb _ _ e)
 
   pub starts_other : (get_or s i 0 ≡ get_or p i 0 → ⊥) → starts_with (drop i s) (drop i p) ≡ false
-  starts_other n = starts-step ∙ simp (ne_eqb _ _ n)
+  starts_other n = starts_step ∙ simp (ne_eqb _ _ n)
 
 pub starts_end : (s p : Bytes) (i : ℕ) → length p ≤ i → starts_with (drop i s) (drop i p) ≡ true
 unfolding starts_with
@@ -116,17 +116,17 @@ zero_le_length (x ∷ xs) = zero_le_step (eqb x 0) _ _ (zero_le_length xs)
 
 -- the scan: i bytes passed, none of them zero
 module _ (s : Bytes) (i : ℕ) (e : first_zero s ≡ i + first_zero (drop i s)) where
-  pub scan-found : i < length s → get_or s i 0 ≡ 0 → i ≡ first_zero s
+  pub scan_found : i < length s → get_or s i 0 ≡ 0 → i ≡ first_zero s
   unfolding first_zero
-  scan-found h z = let q : first_zero (drop i s) ≡ 0 = rw (drop-cons s i 0, eq-eqb _ _ z) in omega (arith, e, q)
+  scan_found h z = let q : first_zero (drop i s) ≡ 0 = rw (drop-cons s i 0, eq-eqb _ _ z) in omega (arith, e, q)
 
-  pub scan-on : i < length s → (get_or s i 0 ≡ 0 → ⊥) → first_zero s ≡ i + 1 + first_zero (drop (i + 1) s)
+  pub scan_on : i < length s → (get_or s i 0 ≡ 0 → ⊥) → first_zero s ≡ i + 1 + first_zero (drop (i + 1) s)
   unfolding first_zero
-  scan-on h n = let q : first_zero (drop i s) ≡ suc (first_zero (drop (i + 1) s)) = rw (drop-cons s i 0, ne_eqb _ _ n, add-one) in omega (arith, e, q)
+  scan_on h n = let q : first_zero (drop i s) ≡ suc (first_zero (drop (i + 1) s)) = rw (drop-cons s i 0, ne_eqb _ _ n, add-one) in omega (arith, e, q)
 
-  pub scan-end : length s ≤ i → i ≡ first_zero s
+  pub scan_end : length s ≤ i → i ≡ first_zero s
   unfolding first_zero
-  scan-end h = let q : first_zero (drop i s) ≡ 0 = rw (drop_of_length-le s h) in omega (arith, e, q)
+  scan_end h = let q : first_zero (drop i s) ≡ 0 = rw (drop_of_length-le s h) in omega (arith, e, q)
 
 zero_step : (x : ℕ) (xs : Bytes) (b : Bool) → eqb x 0 ≡ b → (first_zero xs < length xs → get_or xs (first_zero xs) 0 ≡ 0)
     → cond b 0 (suc (first_zero xs)) < suc (length xs) → get_or (x ∷ xs) (cond b 0 (suc (first_zero xs))) 0 ≡ 0
@@ -155,21 +155,21 @@ zero_after (x ∷ xs) r e =
 
 -- the walk: i bytes passed, each within lo and hi
 module _ (s : Bytes) (lo hi i : ℕ) (e : every (within lo hi) s ≡ every (within lo hi) (drop i s)) where
-  pub every-low : i < length s → get_or s i 0 < lo → false ≡ every (within lo hi) s
+  pub every_low : i < length s → get_or s i 0 < lo → false ≡ every (within lo hi) s
   unfolding every
-  every-low h l = sym (e ∙ rw (drop-cons s i 0 h, lt-leb _ _ l))
+  every_low h l = sym (e ∙ rw (drop-cons s i 0 h, lt-leb _ _ l))
 
-  pub every-high : i < length s → lo ≤ get_or s i 0 → hi < get_or s i 0 → false ≡ every (within lo hi) s
+  pub every_high : i < length s → lo ≤ get_or s i 0 → hi < get_or s i 0 → false ≡ every (within lo hi) s
   unfolding every
-  every-high h l k = sym (e ∙ rw (drop-cons s i 0 h, le-leb _ _ l, lt-leb _ _ k))
+  every_high h l k = sym (e ∙ rw (drop-cons s i 0 h, le-leb _ _ l, lt-leb _ _ k))
 
-  pub every-on : i < length s → lo ≤ get_or s i 0 → get_or s i 0 ≤ hi → every (within lo hi) s ≡ every (within lo hi) (drop (i + 1) s)
+  pub every_on : i < length s → lo ≤ get_or s i 0 → get_or s i 0 ≤ hi → every (within lo hi) s ≡ every (within lo hi) (drop (i + 1) s)
   unfolding every
-  every-on h l k = e ∙ rw (drop-cons s i 0 h, le-leb _ _ l, le-leb _ _ k, add-one)
+  every_on h l k = e ∙ rw (drop-cons s i 0 h, le-leb _ _ l, le-leb _ _ k, add-one)
 
-  pub every-end : length s ≤ i → true ≡ every (within lo hi) s
+  pub every_end : length s ≤ i → true ≡ every (within lo hi) s
   unfolding every
-  every-end h = sym (e ∙ rw (drop_of_length-le s h))
+  every_end h = sym (e ∙ rw (drop_of_length-le s h))
 
 -- ---- numbers in four bytes
 

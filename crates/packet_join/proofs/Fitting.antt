@@ -22,11 +22,11 @@ abbrev pub fits_at : List Rule → ℕ → Bytes → Bool
 fits_at rs i a = cond (leb (length rs) i) true (fits (get_or rs i Absent) a)
 
 module _ (rs : List Rule) (i n : ℕ) (a : Bytes) (e : n ≡ length rs) where
-  pub no-rule : n ≤ i → true ≡ fits_at rs i a
-  no-rule h = sym (rw (le-leb (length rs) i (omega arith)))
+  pub no_rule : n ≤ i → true ≡ fits_at rs i a
+  no_rule h = sym (rw (le-leb (length rs) i (omega arith)))
 
-  pub one-rule : i < n → (r : Bool) (p : Rule) → p ≡ get_or rs i Absent → r ≡ fits p a → r ≡ fits_at rs i a
-  one-rule h r p ep er = er ∙ rw (ep, lt-leb (length rs) i (omega arith))
+  pub one_rule : i < n → (r : Bool) (p : Rule) → p ≡ get_or rs i Absent → r ≡ fits p a → r ≡ fits_at rs i a
+  one_rule h r p ep er = er ∙ rw (ep, lt-leb (length rs) i (omega arith))
 
 -- there are as many arguments as rules
 fit_length : (rs : List Rule) (as' : List Bytes) → fit_all rs as' ≡ true → length as' ≡ length rs
@@ -41,29 +41,29 @@ otherwise true n = absurd (n refl)
 otherwise false n = refl
 
 module _ (a b c d e : Bytes) where
-  length-given : (count : ℕ) → length (given count a b c d e) ≡ count
+  length_given : (count : ℕ) → length (given count a b c d e) ≡ count
   unfolding given
-  length-given count = rw (length-take, length-replicate) (omega arith)
+  length_given count = rw (length-take, length-replicate) (omega arith)
 
-  fit-each : (rs : List Rule) → length rs ≤ 5
+  fit_each : (rs : List Rule) → length rs ≤ 5
       → fits_at rs 0 a && (fits_at rs 1 b && (fits_at rs 2 c && (fits_at rs 3 d && fits_at rs 4 e))) ≡ fit_all rs (given (length rs) a b c d e)
   unfolding fit_all given
-  fit-each [] h = refl
-  fit-each (p ∷ []) h = refl
-  fit-each (p ∷ q ∷ []) h = refl
-  fit-each (p ∷ q ∷ r ∷ []) h = refl
-  fit-each (p ∷ q ∷ r ∷ s ∷ []) h = refl
-  fit-each (p ∷ q ∷ r ∷ s ∷ t ∷ []) h = rw (and-true (fits t e))
-  fit-each (p ∷ q ∷ r ∷ s ∷ t ∷ u ∷ rs) h = absurd (omega arith)
+  fit_each [] h = refl
+  fit_each (p ∷ []) h = refl
+  fit_each (p ∷ q ∷ []) h = refl
+  fit_each (p ∷ q ∷ r ∷ []) h = refl
+  fit_each (p ∷ q ∷ r ∷ s ∷ []) h = refl
+  fit_each (p ∷ q ∷ r ∷ s ∷ t ∷ []) h = rw (and-true (fits t e))
+  fit_each (p ∷ q ∷ r ∷ s ∷ t ∷ u ∷ rs) h = absurd (omega arith)
 
   module _ (rs : List Rule) (count n : ℕ) (en : n ≡ length rs) where
-    pub fit-other : (count ≡ n → ⊥) → false ≡ fit_all rs (given count a b c d e)
-    fit-other ne = sym (otherwise _ (λ t. ne (sym (length-given count) ∙ fit_length rs (given count a b c d e) t ∙ sym en)))
+    pub fit_other : (count ≡ n → ⊥) → false ≡ fit_all rs (given count a b c d e)
+    fit_other ne = sym (otherwise _ (λ t. ne (sym (length_given count) ∙ fit_length rs (given count a b c d e) t ∙ sym en)))
 
     pub fit_same : count ≡ n → n ≤ 5 → (x y z v w : Bool) → x ≡ fits_at rs 0 a → y ≡ fits_at rs 1 b → z ≡ fits_at rs 2 c → v ≡ fits_at rs 3 d → w ≡ fits_at rs 4 e
         → x && (y && (z && (v && w))) ≡ fit_all rs (given count a b c d e)
-    fit_same ec h x y z v w ex ey ez ev ew = rw (ex, ey, ez, ev, ew, ec, en) (fit-each rs (omega arith))
+    fit_same ec h x y z v w ex ey ez ev ew = rw (ex, ey, ez, ev, ew, ec, en) (fit_each rs (omega arith))
 
   -- what fits a shape is at most five arguments
-  pub fit-few : (s : Shape) (count : ℕ) (r : Bool) → r ≡ fit_all (rules_of s) (given count a b c d e) → r ≡ true → count ≤ 5
-  fit-few s count r er t = omega (arith, length-given count, fit_length (rules_of s) (given count a b c d e) (sym er ∙ t), at_most_five s)
+  pub fit_few : (s : Shape) (count : ℕ) (r : Bool) → r ≡ fit_all (rules_of s) (given count a b c d e) → r ≡ true → count ≤ 5
+  fit_few s count r er t = omega (arith, length_given count, fit_length (rules_of s) (given count a b c d e) (sym er ∙ t), at_most_five s)

@@ -11,7 +11,7 @@ use Rattle.packet.specs.Layout.{rules_of}
 use Rattle.packet.specs.declared.Shape.{Shape}
 use Rattle.packet.specs.declared.Shape.TheVariants.{Foreign, Empty, Function, Submission, WorkStatus, WorkData, Handle, Echo, OptionName, ClientId, Assignment, UniqueAssignment, Error, StatusAnswer}
 use Rattle.packet.specs.contracts.Shape.{the_type}
-use Rattle.packet_kinds.proofs.Tests.{Equality, numbers, each, gives, key-arm, at_place}
+use Rattle.packet_kinds.proofs.Tests.{Equality, numbers, each, gives, key_arm, at_place}
 
 -- a shape's number is the tag by which a `match` tells it: its place in the order of src/
 abbrev pub number : Shape → ℕ
@@ -64,7 +64,7 @@ shapes =
 
 -- an arm of a `match` on a shape: f gives a at each of the shapes with the numbers ks
 pub shape_arm : {A : Type 0} (eq : Equality A) (f : Shape → A) (s : Shape) {a : A} (ks : List ℕ) → T (each (gives eq (λ k. f (numbered k)) a) ks) → OneOf ks (number s) → a ≡ f s
-shape_arm eq f s ks t o = key-arm eq (λ k. f (numbered k)) ks t (number s) o ∙ ap f (numbered_back s)
+shape_arm eq f s ks t o = key_arm eq (λ k. f (numbered k)) ks t (number s) o ∙ ap f (numbered_back s)
 
 -- each of the arm's shapes has n arguments
 pub count_arm : (s : Shape) {n : ℕ} (ks : List ℕ) → T (each (gives numbers (λ k. length (rules_of (numbered k))) n) ks) → OneOf ks (number s) → n ≡ length (rules_of s)

@@ -89,22 +89,22 @@ module _ {A : Type 0} (eq : Equality A) (layout : ℕ → A) where
   abbrev pub gives : A → ℕ → Bool
   gives a k = eq.same a (layout k)
 
-  abbrev pub gives-rest : List (List ℕ) → A → ℕ → Bool
-  gives-rest kss a k = keyed kss k || gives a k
+  abbrev pub gives_rest : List (List ℕ) → A → ℕ → Bool
+  gives_rest kss a k = keyed kss k || gives a k
 
   -- an arm of the single numbers ks. The arm's element a is the one that the goal has
-  pub key-arm : {a : A} (ks : List ℕ) → T (each (gives a) ks) → (k : ℕ) → OneOf ks k → a ≡ layout k
-  key-arm {a} ks t k o = eq.tells a (layout k) (in_list (gives a) ks t k o)
+  pub key_arm : {a : A} (ks : List ℕ) → T (each (gives a) ks) → (k : ℕ) → OneOf ks k → a ≡ layout k
+  key_arm {a} ks t k o = eq.tells a (layout k) (in_list (gives a) ks t k o)
 
   -- an arm of a range, or `_` between ranges: the n numbers from `low` on that are no arm's single numbers
-  pub range-arm :
-      {a : A} (kss : List (List ℕ)) (low n : ℕ) → T (passes (gives-rest kss a) low n) →
+  pub range_arm :
+      {a : A} (kss : List (List ℕ)) (low n : ℕ) → T (passes (gives_rest kss a) low n) →
       (k : ℕ) → Rest kss k → low ≤ k → k < low + n → a ≡ layout k
-  range-arm {a} kss low n t k r h l =
+  range_arm {a} kss low n t k r h l =
       ⊎_elim
       (λ g. absurd (unkeyed kss k r g))
       (eq.tells a (layout k))
-      (or_yes (keyed kss k) (gives a k) (in_run (gives-rest kss a) low n t k h l))
+      (or_yes (keyed kss k) (gives a k) (in_run (gives_rest kss a) low n t k h l))
 
 below_or_not : (k n : ℕ) → (k < n) ⊎ (n ≤ k)
 below_or_not k zero = inr zero-le
@@ -114,11 +114,11 @@ below_or_not (suc k) (suc n) = ⊎_elim (λ h. inl (suc-le-suc h)) (λ h. inr (s
 -- `_` from `low` on, where the layout is a list: its elements from there, and then its default
 pub last_arm :
     {A : Type 0} (eq : Equality A) (xs : List A) (d : A) (kss : List (List ℕ)) (low : ℕ) →
-    T (passes (gives-rest eq (λ k. get_or xs k d) kss d) low (length xs - low)) →
+    T (passes (gives_rest eq (λ k. get_or xs k d) kss d) low (length xs - low)) →
     (k : ℕ) → Rest kss k → low ≤ k → d ≡ get_or xs k d
 last_arm eq xs d kss low t k r h =
     ⊎_elim
-    (λ l. range-arm eq (λ k. get_or xs k d) kss low (length xs - low) t k r h (omega arith))
+    (λ l. range_arm eq (λ k. get_or xs k d) kss low (length xs - low) t k r h (omega arith))
     (λ l. sym (get_or-eq_default xs d l))
     (below_or_not k (length xs))
 
@@ -130,11 +130,11 @@ module _ {A : Type 0} (layout : ℕ → A) where
   tabulated low zero = []
   tabulated low (suc n) = layout low ∷ tabulated (suc low) n
 
-  entry-from : (low n k : ℕ) (d : A) → k < n → get_or (tabulated low n) k d ≡ layout (low + k)
-  entry-from low zero k d h = absurd (not-suc-le-zero h)
-  entry-from low (suc n) zero d h = ap layout (sym (add-zero low))
-  entry-from low (suc n) (suc k) d h =
-      entry-from (suc low) n k d (le_of_suc-le-suc h) ∙ ap layout (suc-add low k ∙ sym (add-suc low k))
+  entry_from : (low n k : ℕ) (d : A) → k < n → get_or (tabulated low n) k d ≡ layout (low + k)
+  entry_from low zero k d h = absurd (not-suc-le-zero h)
+  entry_from low (suc n) zero d h = ap layout (sym (add-zero low))
+  entry_from low (suc n) (suc k) d h =
+      entry_from (suc low) n k d (le_of_suc-le-suc h) ∙ ap layout (suc-add low k ∙ sym (add-suc low k))
 
   pub entry : (n k : ℕ) (d : A) → k < n → get_or (tabulated 0 n) k d ≡ layout k
-  entry n k d h = entry-from 0 n k d h ∙ ap layout (zero-add k)
+  entry n k d h = entry_from 0 n k d h ∙ ap layout (zero-add k)

@@ -84,6 +84,6 @@ module _ (w : Direction) (out : Bytes) (kind : ℕ) (args : List Bytes) where
   write_done e = finished_zero (write_refusal w.most (length out) (w.shape kind) args) _ out e
 
   -- with any other number nothing was written, and the length is 0
-  pub write-refused : (write_number (written w out kind args).answer ≡ 0 → ⊥) → (write_length (written w out kind args).answer ≡ 0) × ((written w out kind args).output ≡ out)
+  pub write_refused : (write_number (written w out kind args).answer ≡ 0 → ⊥) → (write_length (written w out kind args).answer ≡ 0) × ((written w out kind args).output ≡ out)
   unfolding writing
-  write-refused e = finished_other (write_refusal w.most (length out) (w.shape kind) args) (packet w.magic kind (join args)) out e
+  write_refused e = finished_other (write_refusal w.most (length out) (w.shape kind) args) (packet w.magic kind (join args)) out e

@@ -60,9 +60,9 @@ accepted_last true n e = refl
 accepted_last false n e = absurd (omega arith)
 
 module _ (magic : Bytes) (most : ℕ) (s : Bytes) where
-  pub header-good : header magic most s ≡ 0 → Headed magic most s
+  pub header_good : header magic most s ≡ 0 → Headed magic most s
   unfolding header
-  header-good e =
+  header_good e =
       let a = unrefused (ltb (length s) 12) 4 _ e in
       let b = unrefused (not (starts_with s magic)) 5 _ a.1 in
       let c = unrefused (ltb most (number_at s 8)) 6 _ b.1 in
@@ -73,9 +73,9 @@ module _ (magic : Bytes) (most : ℕ) (s : Bytes) where
         whole = eqb-true _ _ (accepted_last (eqb (length s) (12 + number_at s 8)) 7 c.1);
       }
 
-  pub good-header : Headed magic most s → header magic most s ≡ 0
+  pub good_header : Headed magic most s → header magic most s ≡ 0
   unfolding header
-  good-header h = rw (le-ltb _ _ h.long, h.starts, le-ltb _ _ h.limited, eq-eqb _ _ h.whole)
+  good_header h = rw (le-ltb _ _ h.long, h.starts, le-ltb _ _ h.limited, eq-eqb _ _ h.whole)
 
 -- ---- a packet that is read
 
@@ -98,9 +98,9 @@ own_good true r kind args e = (refl, e)
 own_good false r kind args e = let z : ◌≡◌ {A = ℕ} 0 1 = cc in absurd (omega arith)
 
 module _ (w : Direction) (s : Bytes) (kind : ℕ) (args : List Bytes) where
-  pub read-got : read w s ≡ got kind args → Got w s kind args
+  pub read_got : read w s ≡ got kind args → Got w s kind args
   unfolding read body
-  read-got e =
+  read_got e =
       let a = after_good (header w.magic w.most s) _ kind args e in
       let b = own_good (is_own (w.shape (number_at s 4))) _ kind args a.1 in
       let c = argued_good (number_at s 4) (split (rules_of (w.shape (number_at s 4))) (drop 12 s)) kind args b.1 in
@@ -119,18 +119,18 @@ pub record Accepted (most room : ℕ) (shape : Shape) (args : List Bytes) : Type
   pub fill : 12 + length (join args) ≤ room
 
 module _ (most room : ℕ) (shape : Shape) (args : List Bytes) where
-  pub unrefused-accepted : write_refusal most room shape args ≡ 0 → Accepted most room shape args
+  pub unrefused_accepted : write_refusal most room shape args ≡ 0 → Accepted most room shape args
   unfolding write_refusal
-  unrefused-accepted e =
+  unrefused_accepted e =
       let a = unrefused (not (is_own shape)) 8 _ e in
       let b = unrefused (not (fit_all (rules_of shape) args)) 9 _ a.1 in
       let c = unrefused (ltb most (length (join args))) 6 _ b.1 in
       let d = unrefused (ltb room (12 + length (join args))) 0 0 c.1 in
       record { own = not-false _ a.0; fit = not-false _ b.0; limited = ltb-false _ _ c.0; fill = ltb-false _ _ d.0 }
 
-  pub accepted-unrefused : Accepted most room shape args → write_refusal most room shape args ≡ 0
+  pub accepted_unrefused : Accepted most room shape args → write_refusal most room shape args ≡ 0
   unfolding write_refusal
-  accepted-unrefused h = rw (h.own, h.fit, le-ltb _ _ h.limited, le-ltb _ _ h.fill)
+  accepted_unrefused h = rw (h.own, h.fit, le-ltb _ _ h.limited, le-ltb _ _ h.fill)
 
 -- a length as the answer: nothing was refused, the packet has that length, and it was laid over the output
 pub finished_length : (m : ℕ) (p out : Bytes) (n : ℕ) (o : Bytes) → finished m p out ≡ record { answer = WV.Length n; output = o }

@@ -13,7 +13,7 @@ use Rattle.packet.specs.Arguments.{join, ends_from, ends_of}
 use Rattle.packet.specs.Packet.{Direction, got, read}
 use Rattle.packet.specs.Answers.{between, places, argument_at}
 use Rattle.packet_laws.proofs.Splitting.{split_join}
-use Rattle.packet_laws.proofs.Packets.{firsts, header-good, Got, read-got}
+use Rattle.packet_laws.proofs.Packets.{firsts, header_good, Got, read_got}
 
 -- nothing ends at place 0
 between_none : (s : Bytes) (before : ℕ) → between s before 0 ≡ []
@@ -68,7 +68,7 @@ pub argument_read : (w : Direction) (s : Bytes) (kind : ℕ) (args : List Bytes)
     → (i : ℕ) → i < 5 → argument_at s (ends_of 12 args) i ≡ get_or args i []
 unfolding argument_at
 argument_read w s kind args r i h =
-    let g : Got w s kind args = read-got w s kind args r in
-    let l : 12 ≤ length s = (header-good _ _ s g.headed).long in
+    let g : Got w s kind args = read_got w s kind args r in
+    let l : 12 ≤ length s = (header_good _ _ s g.headed).long in
     let e : join args ≡ drop 12 s = (split_join _ (drop 12 s) args g.splits).0 in
     rw (place_at args i (omega arith), place_at args (i + 1) (omega arith), add-one) (between_ends s args 11 i l (sym e))

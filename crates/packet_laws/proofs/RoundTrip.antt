@@ -16,70 +16,70 @@ use Rattle.packet.specs.Arguments.{fit_all, join, parts, split}
 use Rattle.packet.specs.Packet.{Direction, requests, responses, got, read, packet, write_refusal}
 use Rattle.packet.specs.Answers.{Writing, writing}
 use Rattle.packet_laws.proofs.Splitting.{shapes_plain, join_split, split_join}
-use Rattle.packet_laws.proofs.Packets.{Well, requests_well, responses_well, Laid, packet_laid, packet_again, Headed, header-good, good-header, Got, read-got, got_read, Accepted, unrefused-accepted, accepted-unrefused, finished_length}
+use Rattle.packet_laws.proofs.Packets.{Well, requests_well, responses_well, Laid, packet_laid, packet_again, Headed, header_good, good_header, Got, read_got, got_read, Accepted, unrefused_accepted, accepted_unrefused, finished_length}
 
 -- what a writer answers, and leaves in the output, for a packet of this direction
 abbrev pub written : Direction → Bytes → ℕ → List Bytes → Writing
 written w out kind args = writing w.magic w.most (w.shape kind) out kind args
 
 module _ (w : Direction) (well : Well w) where
-  own-laid : (kind : ℕ) (d : Bytes) → is_own (w.shape kind) ≡ true → length d ≤ w.most → Laid w.magic kind d
-  own-laid kind d o l = packet_laid w.magic kind d well.four (well.low kind o) (omega (arith, well.small))
+  own_laid : (kind : ℕ) (d : Bytes) → is_own (w.shape kind) ≡ true → length d ≤ w.most → Laid w.magic kind d
+  own_laid kind d o l = packet_laid w.magic kind d well.four (well.low kind o) (omega (arith, well.small))
 
   -- what is written reads back
-  pub packet-reads : (kind : ℕ) (args : List Bytes) → is_own (w.shape kind) ≡ true → fit_all (rules_of (w.shape kind)) args ≡ true
+  pub packet_reads : (kind : ℕ) (args : List Bytes) → is_own (w.shape kind) ≡ true → fit_all (rules_of (w.shape kind)) args ≡ true
       → length (join args) ≤ w.most → read w (packet w.magic kind (join args)) ≡ got kind args
-  packet-reads kind args o f l =
+  packet_reads kind args o f l =
       let s : Bytes = packet w.magic kind (join args) in
-      let p : Laid w.magic kind (join args) = own-laid kind (join args) o l in
+      let p : Laid w.magic kind (join args) = own_laid kind (join args) o l in
       let h : Headed w.magic w.most s = record { long = omega arith; starts = p.starts; limited = omega arith; whole = omega arith } in
       let d : split (rules_of (w.shape kind)) (drop 12 s) ≡ parts args = rw p.rest (join_split _ args f (shapes_plain (w.shape kind))) in
-      got_read w s kind args (record { headed = good-header _ _ s h; typed = p.typed; own = o; splits = d })
+      got_read w s kind args (record { headed = good_header _ _ s h; typed = p.typed; own = o; splits = d })
 
-  pub written-reads : (out : Bytes) (kind : ℕ) (args : List Bytes) (n : ℕ) (o : Bytes)
+  pub written_reads : (out : Bytes) (kind : ℕ) (args : List Bytes) (n : ℕ) (o : Bytes)
       → written w out kind args ≡ record { answer = WV.Length n; output = o } → read w (take n o) ≡ got kind args
   unfolding writing
-  written-reads out kind args n o e =
+  written_reads out kind args n o e =
       let p : Bytes = packet w.magic kind (join args) in
       let f = finished_length (write_refusal w.most (length out) (w.shape kind) args) p out n o e in
-      let a : Accepted w.most (length out) (w.shape kind) args = unrefused-accepted _ _ _ _ f.0 in
-      let l : Laid w.magic kind (join args) = own-laid kind (join args) a.own a.limited in
+      let a : Accepted w.most (length out) (w.shape kind) args = unrefused_accepted _ _ _ _ f.0 in
+      let l : Laid w.magic kind (join args) = own_laid kind (join args) a.own a.limited in
       let t : take n o ≡ p = rw (← f.1, ← f.2, put_start p out (omega arith), take-append_seam) in
-      rw t (packet-reads kind args a.own a.fit a.limited)
+      rw t (packet_reads kind args a.own a.fit a.limited)
 
   -- what is read writes back
-  pub read-packet : (s : Bytes) (kind : ℕ) (args : List Bytes) → ((i : ℕ) → get_or s i 0 < 256) → read w s ≡ got kind args
+  pub read_packet : (s : Bytes) (kind : ℕ) (args : List Bytes) → ((i : ℕ) → get_or s i 0 < 256) → read w s ≡ got kind args
       → packet w.magic kind (join args) ≡ s
-  read-packet s kind args h e =
-      let g : Got w s kind args = read-got w s kind args e in
-      rw ((split_join _ (drop 12 s) args g.splits).0, ← g.typed) (packet_again w.magic w.most s well.four h (header-good _ _ s g.headed))
+  read_packet s kind args h e =
+      let g : Got w s kind args = read_got w s kind args e in
+      rw ((split_join _ (drop 12 s) args g.splits).0, ← g.typed) (packet_again w.magic w.most s well.four h (header_good _ _ s g.headed))
 
-  pub read-writes : (s : Bytes) (kind : ℕ) (args : List Bytes) (out : Bytes) → ((i : ℕ) → get_or s i 0 < 256) → read w s ≡ got kind args → length s ≤ length out
+  pub read_writes : (s : Bytes) (kind : ℕ) (args : List Bytes) (out : Bytes) → ((i : ℕ) → get_or s i 0 < 256) → read w s ≡ got kind args → length s ≤ length out
       → written w out kind args ≡ record { answer = WV.Length (length s); output = put 0 s out }
   unfolding writing
-  read-writes s kind args out h e l =
-      let g : Got w s kind args = read-got w s kind args e in
+  read_writes s kind args out h e l =
+      let g : Got w s kind args = read_got w s kind args e in
       let j = split_join _ (drop 12 s) args g.splits in
-      let d : Headed w.magic w.most s = header-good _ _ s g.headed in
+      let d : Headed w.magic w.most s = header_good _ _ s g.headed in
       let n : length (join args) ≡ number_at s 8 = ap length j.0 ∙ omega (arith, length-drop 12 s, d.whole) in
       let a : write_refusal w.most (length out) (w.shape kind) args ≡ 0
-      = accepted-unrefused _ _ _ args (record { own = g.own; fit = j.1; limited = omega (arith, d.limited); fill = omega (arith, d.whole) }) in
-      rw (a, read-packet s kind args h e)
+      = accepted_unrefused _ _ _ args (record { own = g.own; fit = j.1; limited = omega (arith, d.limited); fill = omega (arith, d.whole) }) in
+      rw (a, read_packet s kind args h e)
 
 -- ---- for requests and for responses
 
 pub request_written_reads : (out : Bytes) (kind : ℕ) (args : List Bytes) (n : ℕ) (o : Bytes)
     → written requests out kind args ≡ record { answer = WV.Length n; output = o } → read requests (take n o) ≡ got kind args
-request_written_reads = written-reads requests requests_well
+request_written_reads = written_reads requests requests_well
 
 pub response_written_reads : (out : Bytes) (kind : ℕ) (args : List Bytes) (n : ℕ) (o : Bytes)
     → written responses out kind args ≡ record { answer = WV.Length n; output = o } → read responses (take n o) ≡ got kind args
-response_written_reads = written-reads responses responses_well
+response_written_reads = written_reads responses responses_well
 
 pub request_read_writes : (s : Bytes) (kind : ℕ) (args : List Bytes) (out : Bytes) → ((i : ℕ) → get_or s i 0 < 256) → read requests s ≡ got kind args
     → length s ≤ length out → written requests out kind args ≡ record { answer = WV.Length (length s); output = put 0 s out }
-request_read_writes = read-writes requests requests_well
+request_read_writes = read_writes requests requests_well
 
 pub response_read_writes : (s : Bytes) (kind : ℕ) (args : List Bytes) (out : Bytes) → ((i : ℕ) → get_or s i 0 < 256) → read responses s ≡ got kind args
     → length s ≤ length out → written responses out kind args ≡ record { answer = WV.Length (length s); output = put 0 s out }
-response_read_writes = read-writes responses responses_well
+response_read_writes = read_writes responses responses_well

@@ -16,7 +16,7 @@ use Rattle.packet.specs.declared.Rule.{Rule}
 use Rattle.packet.specs.declared.Rule.TheVariants.{Text, Digits, Flag, AnyText, Opaque, Absent}
 use Rattle.packet.specs.Arguments.{fits, bad, parts, front, split, ends_from}
 use Rattle.packet.specs.Opaque.{is_opaque, ends_opaque, has_zeros, past, with_last}
-use Rattle.packet_laws.proofs.Splitting.{zero-inside, past-zero, split_one, passed, fronted}
+use Rattle.packet_laws.proofs.Splitting.{zero_inside, past_zero, split_one, passed, fronted}
 
 -- n pieces without a zero byte, and a zero byte after each
 pub data Heads : ℕ → Bytes → Type 0 where
@@ -50,7 +50,7 @@ heads (suc n) d e =
 past_one : (n : ℕ) (a t : Bytes) → first_zero a ≡ length a
     → (has_zeros (suc n) (a ++ (0 ∷ t)) ≡ has_zeros n t) × (past (suc n) (a ++ (0 ∷ t)) ≡ length a + 1 + past n t)
 unfolding has_zeros past
-past_one n a t c = (rw (zero_after a t c, zero-inside a t, past-zero a t), rw (zero_after a t c, past-zero a t))
+past_one n a t c = (rw (zero_after a t c, zero_inside a t, past_zero a t), rw (zero_after a t c, past_zero a t))
 
 -- whatever follows them, they are the bytes up to the n-th zero byte
 pub heads_past : (n : ℕ) (v x : Bytes) → Heads n v → (has_zeros n (v ++ x) ≡ true) × (past n (v ++ x) ≡ length v)
@@ -80,13 +80,13 @@ opaque_fits Opaque x e = refl
 opaque_fits Absent x e = let z : ◌≡◌ {A = ℕ} 0 1 = cc in absurd (omega arith)
 
 module _ (r q : Rule) (rs : List Rule) (t a v : Bytes) (c : first_zero a ≡ length a) (e : t ≡ a ++ (0 ∷ v)) where
-  fate-one : (x : Bytes) → split (r ∷ (q ∷ rs)) (t ++ x) ≡ cond (fits r a) (front a (split (q ∷ rs) (v ++ x))) bad
-  fate-one x = rw (e, append_assoc) (split_one r q rs a (v ++ x) c)
+  fate_one : (x : Bytes) → split (r ∷ (q ∷ rs)) (t ++ x) ≡ cond (fits r a) (front a (split (q ∷ rs) (v ++ x))) bad
+  fate_one x = rw (e, append_assoc) (split_one r q rs a (v ++ x) c)
 
-  fate-more : (b : Bool) → fits r a ≡ b → Fate (q ∷ rs) v → Fate (r ∷ (q ∷ rs)) t
-  fate-more false f u = broken (λ x. fate-one x ∙ rw f)
-  fate-more true f (broken s) = broken (λ x. fate-one x ∙ rw (f, s x))
-  fate-more true f (kept bs s) = kept (a ∷ bs) (λ x. fate-one x ∙ rw (f, s x))
+  fate_more : (b : Bool) → fits r a ≡ b → Fate (q ∷ rs) v → Fate (r ∷ (q ∷ rs)) t
+  fate_more false f u = broken (λ x. fate_one x ∙ rw f)
+  fate_more true f (broken s) = broken (λ x. fate_one x ∙ rw (f, s x))
+  fate_more true f (kept bs s) = kept (a ∷ bs) (λ x. fate_one x ∙ rw (f, s x))
 
 pub fate : (rs : List Rule) (n : ℕ) (v : Bytes) → length rs ≡ suc n → ends_opaque rs ≡ true → Heads n v → Fate rs v
 unfolding split
@@ -94,7 +94,7 @@ fate [] n v l o h = absurd (omega arith)
 fate (r ∷ []) zero v l o none = kept [] (λ x. rw (opaque_fits r x o))
 fate (r ∷ []) (suc n) v l o h = absurd (omega arith)
 fate (r ∷ (q ∷ rs)) zero v l o h = absurd (omega arith)
-fate (r ∷ (q ∷ rs)) (suc n) t l o (more a v c e h) = fate-more r q rs t a v c e (fits r a) refl (fate (q ∷ rs) n v (omega arith) o h)
+fate (r ∷ (q ∷ rs)) (suc n) t l o (more a v c e h) = fate_more r q rs t a v c e (fits r a) refl (fate (q ∷ rs) n v (omega arith) o h)
 
 -- data that splits has a zero byte for each rule but the last
 pub split_zeros : (rs : List Rule) (n : ℕ) (d : Bytes) (args : List Bytes) → length rs ≡ suc n → split rs d ≡ parts args → has_zeros n d ≡ true

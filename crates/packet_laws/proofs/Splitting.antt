@@ -89,17 +89,17 @@ fit_length (r ∷ rs) (a ∷ args) e = ap suc (fit_length rs args (and_right (fi
 
 -- a zero byte after a: it lies inside, and t is what follows it
 module _ (a t : Bytes) where
-  pub zero-inside : ltb (length a) (length (a ++ (0 ∷ t))) ≡ true
-  zero-inside = let l : length a < length (a ++ (0 ∷ t)) = rw (length-append) (omega arith) in lt-ltb _ _ l
+  pub zero_inside : ltb (length a) (length (a ++ (0 ∷ t))) ≡ true
+  zero_inside = let l : length a < length (a ++ (0 ∷ t)) = rw (length-append) (omega arith) in lt-ltb _ _ l
 
-  pub past-zero : drop (length a + 1) (a ++ (0 ∷ t)) ≡ t
-  past-zero = drop-append-add a (0 ∷ t) 1
+  pub past_zero : drop (length a + 1) (a ++ (0 ∷ t)) ≡ t
+  past_zero = drop-append-add a (0 ∷ t) 1
 
 -- data that begins with an argument without a zero byte, and a zero byte
 pub split_one : (r q : Rule) (rs : List Rule) (a t : Bytes) → first_zero a ≡ length a
     → split (r ∷ (q ∷ rs)) (a ++ (0 ∷ t)) ≡ cond (fits r a) (front a (split (q ∷ rs) t)) bad
 unfolding split
-split_one r q rs a t h = rw (zero_after a t h, zero-inside a t, take-append_seam, past-zero a t)
+split_one r q rs a t h = rw (zero_after a t h, zero_inside a t, take-append_seam, past_zero a t)
 
 pub join_split : (rs : List Rule) (args : List Bytes) → fit_all rs args ≡ true → plain rs ≡ true → split rs (join args) ≡ parts args
 unfolding split join fit_all

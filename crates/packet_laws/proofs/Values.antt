@@ -16,7 +16,7 @@ use Rattle.packet.specs.Arguments.{ends_of}
 use Rattle.packet.specs.Packet.{Direction, Reading, refused, got, read}
 use Rattle.packet.specs.Answers.{answer_of, argument_at, arguments_from, values_of}
 use Rattle.packet_laws.proofs.Splitting.{split_join, fit_length}
-use Rattle.packet_laws.proofs.Packets.{Got, read-got}
+use Rattle.packet_laws.proofs.Packets.{Got, read_got}
 use Rattle.packet_laws.proofs.Places.{argument_read}
 
 -- at most five arguments
@@ -46,16 +46,16 @@ listed s ends (a ∷ as') i h =
 
 values_got : (w : Direction) (s : Bytes) (kind : ℕ) (args : List Bytes) → read w s ≡ got kind args → arguments_from s (ends_of 12 args) 0 (length (rules_of (w.shape kind))) ≡ args
 values_got w s kind args e =
-    let g : Got w s kind args = read-got w s kind args e in
+    let g : Got w s kind args = read_got w s kind args e in
     let n : length args ≡ length (rules_of (w.shape kind)) = fit_length (rules_of (w.shape kind)) args (split_join _ (drop 12 s) args g.splits).1 in
     let few : length (rules_of (w.shape kind)) ≤ 5 = rules_few (w.shape kind) in
     ap (arguments_from s (ends_of 12 args) 0) (sym n) ∙ listed s (ends_of 12 args) args 0 (λ k l. ap (argument_at s (ends_of 12 args)) (zero-add k) ∙ argument_read w s kind args e k (omega arith))
 
-values_of : (w : Direction) (s : Bytes) (r : Reading) → read w s ≡ r → values_of w s (answer_of r) ≡ r
+values_of_lem : (w : Direction) (s : Bytes) (r : Reading) → read w s ≡ r → values_of w s (answer_of r) ≡ r
 unfolding values_of answer_of
-values_of w s (refused n) e = refl
-values_of w s (got kind args) e = ap (got kind) (values_got w s kind args e)
+values_of_lem w s (refused n) e = refl
+values_of_lem w s (got kind args) e = ap (got kind) (values_got w s kind args e)
 
 -- of an answer as the readers' contracts fix it
 pub read_values : (w : Direction) (s : Bytes) (r : R.Read) → r ≡ answer_of (read w s) → values_of w s r ≡ read w s
-read_values w s r e = ap (values_of w s) e ∙ values_of w s (read w s) refl
+read_values w s r e = ap (values_of w s) e ∙ values_of_lem w s (read w s) refl

@@ -25,27 +25,27 @@ use Rattle.packet_read.specs.Directions.{side}
 -- ---- the header
 
 module _ (magic : Bytes) (most : ℕ) (s : Bytes) where
-  pub header-5 : length s < 12 → HV.Refused 5 ≡ header_of magic most s
+  pub header_5 : length s < 12 → HV.Refused 5 ≡ header_of magic most s
   unfolding header_of header
-  header-5 h = rw (lt-ltb _ _ h)
+  header_5 h = rw (lt-ltb _ _ h)
 
   module _ (h5 : 12 ≤ length s) (r : Bool) (e6 : r ≡ starts_with s magic) where
-    pub header-6 : not r ≡ true → HV.Refused 6 ≡ header_of magic most s
+    pub header_6 : not r ≡ true → HV.Refused 6 ≡ header_of magic most s
     unfolding header_of header
-    header-6 h = rw (le-ltb _ _ h5, ← e6, h)
+    header_6 h = rw (le-ltb _ _ h5, ← e6, h)
 
     module _ (h6 : not r ≡ false) (z : ℕ) (e7 : z ≡ number_at s 8) where
-      pub header-7 : most < z → HV.Refused 7 ≡ header_of magic most s
+      pub header_7 : most < z → HV.Refused 7 ≡ header_of magic most s
       unfolding header_of header
-      header-7 h = simp (le-ltb _ _ h5, ← e6, h6, ← e7, lt-ltb _ _ h)
+      header_7 h = simp (le-ltb _ _ h5, ← e6, h6, ← e7, lt-ltb _ _ h)
 
-      pub header-8 : z ≤ most → (length s ≡ 12 + z → ⊥) → HV.Refused 8 ≡ header_of magic most s
+      pub header_8 : z ≤ most → (length s ≡ 12 + z → ⊥) → HV.Refused 8 ≡ header_of magic most s
       unfolding header_of header
-      header-8 h n = simp (le-ltb _ _ h5, ← e6, h6, ← e7, le-ltb _ _ h, ne_eqb _ _ n)
+      header_8 h n = simp (le-ltb _ _ h5, ← e6, h6, ← e7, le-ltb _ _ h, ne_eqb _ _ n)
 
-      pub header-good : (kind : ℕ) → z ≤ most → length s ≡ 12 + z → kind ≡ number_at s 4 → HV.Good kind ≡ header_of magic most s
+      pub header_good : (kind : ℕ) → z ≤ most → length s ≡ 12 + z → kind ≡ number_at s 4 → HV.Good kind ≡ header_of magic most s
       unfolding header_of header
-      header-good kind h e k = simp (le-ltb _ _ h5, ← e6, h6, ← e7, le-ltb _ _ h, eq-eqb _ _ e, ← k)
+      header_good kind h e k = simp (le-ltb _ _ h5, ← e6, h6, ← e7, le-ltb _ _ h, eq-eqb _ _ e, ← k)
 
 -- ---- what a header's answer says
 
@@ -84,9 +84,9 @@ argued_answer kind bad = refl
 argued_answer kind (parts as') = refl
 
 module _ (shape : Shape) (kind : ℕ) (d : Bytes) (own : Bool) (e : own ≡ is_own shape) where
-  pub body-foreign : not own ≡ true → RV.Refused 9 ≡ answer_of (body shape kind d)
+  pub body_foreign : not own ≡ true → RV.Refused 9 ≡ answer_of (body shape kind d)
   unfolding body answer_of
-  body-foreign h = rw (sym e ∙ not-true own h)
+  body_foreign h = rw (sym e ∙ not-true own h)
 
   pub body_own : not own ≡ false → (found : S.Split) → found ≡ answered 12 (split (rules_of shape) d) → split_answer kind found ≡ answer_of (body shape kind d)
   unfolding body
@@ -100,43 +100,43 @@ module _ (w : Direction) (s : Bytes) where
   unfolding read
   read_step n kind e k z = rw (e ∙ z, k)
 
-  refused-step : (n m : ℕ) → HV.Refused m ≡ headed n (number_at s 4) → header w.magic w.most s ≡ n → RV.Refused m ≡ answer_of (read w s)
+  refused_step : (n m : ℕ) → HV.Refused m ≡ headed n (number_at s 4) → header w.magic w.most s ≡ n → RV.Refused m ≡ answer_of (read w s)
   unfolding read answer_of
-  refused-step zero m e h = let z : ◌≡◌ {A = ℕ} 0 1 = cc in absurd (omega arith)
-  refused-step (suc n) m e h = let q : m ≡ suc n = cc in rw (h, q)
+  refused_step zero m e h = let z : ◌≡◌ {A = ℕ} 0 1 = cc in absurd (omega arith)
+  refused_step (suc n) m e h = let q : m ≡ suc n = cc in rw (h, q)
 
-  pub read-refused : (number : ℕ) → HV.Refused number ≡ header_of w.magic w.most s → RV.Refused number ≡ answer_of (read w s)
+  pub read_refused : (number : ℕ) → HV.Refused number ≡ header_of w.magic w.most s → RV.Refused number ≡ answer_of (read w s)
   unfolding header_of
-  read-refused number e = refused-step (header w.magic w.most s) number e refl
+  read_refused number e = refused_step (header w.magic w.most s) number e refl
 
-  pub read-good : (kind : ℕ) (shape : Shape) (r : R.Read) → HV.Good kind ≡ header_of w.magic w.most s → shape ≡ w.shape kind
+  pub read_good : (kind : ℕ) (shape : Shape) (r : R.Read) → HV.Good kind ≡ header_of w.magic w.most s → shape ≡ w.shape kind
       → r ≡ answer_of (body shape kind (take (length s - 12) (drop 12 s))) → r ≡ answer_of (read w s)
   unfolding header_of
-  read-good kind shape r e q h =
+  read_good kind shape r e q h =
       let k = headed_good (header w.magic w.most s) (number_at s 4) kind e in
       h ∙ rw (rest_part, q) (sym (read_step (header w.magic w.most s) kind refl k.1 k.0))
 
 -- ---- one argument
 
 module _ (s : Bytes) (before end : ℕ) where
-  pub part-empty : end ≤ before → [] ≡ between s before end
+  pub part_empty : end ≤ before → [] ≡ between s before end
   unfolding between
-  part-empty h = rw (le-ltb _ _ h)
+  part_empty h = rw (le-ltb _ _ h)
 
-  pub part-outside : before < end → length s < end → [] ≡ between s before end
+  pub part_outside : before < end → length s < end → [] ≡ between s before end
   unfolding between
-  part-outside h k = rw (lt-ltb _ _ h, lt-leb _ _ k)
+  part_outside h k = rw (lt-ltb _ _ h, lt-leb _ _ k)
 
-  pub part-inside : before < end → end ≤ length s → take (end - (before + 1)) (drop (before + 1) s) ≡ between s before end
+  pub part_inside : before < end → end ≤ length s → take (end - (before + 1)) (drop (before + 1) s) ≡ between s before end
   unfolding between
-  part-inside h k = rw (lt-ltb _ _ h, le-leb _ _ k)
+  part_inside h k = rw (lt-ltb _ _ h, le-leb _ _ k)
 
 -- no packet has a sixth argument
 pub argument_none : (s : Bytes) (ends : Ends) (i : ℕ) → 4 < i → [] ≡ argument_at s ends i
 unfolding argument_at
 argument_none s ends i h =
     let z : get_or (places ends) (i + 1) 0 ≡ 0 = get_or-eq_default (places ends) 0 {n = i + 1} (omega arith) in
-    rw z (part-empty s (get_or (places ends) i 0) 0 zero-le)
+    rw z (part_empty s (get_or (places ends) i 0) 0 zero-le)
 
 -- ---- what a reader asks of its parts
 

@@ -20,9 +20,9 @@ use Rattle.packet.specs.Arguments.{Parts, bad, parts, fits, front, split, ends_o
 -- ---- the last argument
 
 module _ (rule : Rule) (at : ℕ) (d : Bytes) (r : Bool) (e : r ≡ fits rule d) where
-  pub last-unfit : not r ≡ true → SV.Bad ≡ answered at (split (rule ∷ []) d)
+  pub last_unfit : not r ≡ true → SV.Bad ≡ answered at (split (rule ∷ []) d)
   unfolding split
-  last-unfit h = rw (sym e ∙ not-true r h)
+  last_unfit h = rw (sym e ∙ not-true r h)
 
   pub last_fit : not r ≡ false → SV.Good (record { first = at + length d; second = 0; third = 0; fourth = 0; fifth = 0 }) ≡ answered at (split (rule ∷ []) d)
   unfolding split ends_of
@@ -57,15 +57,15 @@ module _ (rs : List Rule) (i at : ℕ) (d : Bytes) (inside : i < length rs) (rul
     unfolding split more
     stepped = rw (opened, ← z, drop-cons rs (suc i) Absent (omega arith))
 
-    pub from-unseparated : end ≡ length d → SV.Bad ≡ answered at (split (drop i rs) d)
-    from-unseparated e = sym (stepped ∙ rw (le-ltb end (length d) (omega arith)))
+    pub from_unseparated : end ≡ length d → SV.Bad ≡ answered at (split (drop i rs) d)
+    from_unseparated e = sym (stepped ∙ rw (le-ltb end (length d) (omega arith)))
 
     module _ (f : Bool) (g : f ≡ fits rule (take end d)) (below : end ≤ length d) (apart : end ≡ length d → ⊥) where
       inner : end < length d
       inner = omega arith
 
-      pub from-unfit : not f ≡ true → SV.Bad ≡ answered at (split (drop i rs) d)
-      from-unfit h = sym (stepped ∙ rw (lt-ltb end (length d) inner, sym g ∙ not-true f h))
+      pub from_unfit : not f ≡ true → SV.Bad ≡ answered at (split (drop i rs) d)
+      from_unfit h = sym (stepped ∙ rw (lt-ltb end (length d) inner, sym g ∙ not-true f h))
 
       pub from_more : (rest r : S.Split) → not f ≡ false → rest ≡ answered (at + end + 1) (split (drop (i + 1) rs) (take (length d - (end + 1)) (drop (end + 1) d)))
           → r ≡ with_end (at + end) rest → r ≡ answered at (split (drop i rs) d)

@@ -12,7 +12,7 @@ use Rattle.packet.specs.declared.Shape.{Shape}
 use Rattle.packet.specs.Layout.{is_own, rules_of}
 use Rattle.packet.specs.Arguments.{fit_all, join}
 use Rattle.packet.specs.Packet.{given, write_refusal}
-use Rattle.packet_join.proofs.Fitting.{fit-few}
+use Rattle.packet_join.proofs.Fitting.{fit_few}
 
 -- the tests in their order: `own`, `fit` and `size` are what the code finds of the type, the arguments and their data
 module _ (most room : ℕ) (shape : Shape) (as' : List Bytes) (own : Bool) (eo : own ≡ is_own shape) where
@@ -38,13 +38,13 @@ module _ (most room : ℕ) (shape : Shape) (as' : List Bytes) (own : Bool) (eo :
         unfolding write_refusal
         too_short h = simp (← eo, ho, ← ef, hf, within_most, lt-ltb room (12 + length (join as')) (omega arith))
 
-        pub no-refusal : 12 + size ≤ room → 0 ≡ write_refusal most room shape as'
+        pub no_refusal : 12 + size ≤ room → 0 ≡ write_refusal most room shape as'
         unfolding write_refusal
-        no-refusal h = simp (← eo, ho, ← ef, hf, within_most, le-ltb room (12 + length (join as')) (omega arith))
+        no_refusal h = simp (← eo, ho, ← ef, hf, within_most, le-ltb room (12 + length (join as')) (omega arith))
 
 -- the arguments passed: their number is right
 pub fit_count : (a b c d e : Bytes) (shape : Shape) (count : ℕ) (fit : Bool) → fit ≡ fit_all (rules_of shape) (given count a b c d e) → not fit ≡ false → count ≤ 5
-fit_count a b c d e shape count fit ef h = fit-few a b c d e shape count fit ef (not-false fit h)
+fit_count a b c d e shape count fit ef h = fit_few a b c d e shape count fit ef (not-false fit h)
 
 tests_passed : (own fit much short : Bool) → ◌≡◌ {A = ℕ} 0 (cond (not own) 9 (cond (not fit) 10 (cond much 7 (cond short 1 0))))
     → (fit ≡ true) × (much ≡ false) × (short ≡ false)
@@ -61,11 +61,11 @@ module _ (most room : ℕ) (shape : Shape) (number : ℕ) (z : number ≡ 0) whe
   unfolding write_refusal
   passed as' e = tests_passed (is_own shape) (fit_all (rules_of shape) as') _ _ (sym z ∙ e)
 
-  pub passed-count : (a b c d e : Bytes) (count : ℕ) → number ≡ write_refusal most room shape (given count a b c d e) → count ≤ 5
-  passed-count a b c d e count en = fit-few a b c d e shape count _ refl (passed (given count a b c d e) en).0
+  pub passed_count : (a b c d e : Bytes) (count : ℕ) → number ≡ write_refusal most room shape (given count a b c d e) → count ≤ 5
+  passed_count a b c d e count en = fit_few a b c d e shape count _ refl (passed (given count a b c d e) en).0
 
-  pub passed-small : (as' : List Bytes) → number ≡ write_refusal most room shape as' → most < 65536 → length (join as') < 65536
-  passed-small as' e h = omega (arith, ltb-false most (length (join as')) (passed as' e).1)
+  pub passed_small : (as' : List Bytes) → number ≡ write_refusal most room shape as' → most < 65536 → length (join as') < 65536
+  passed_small as' e h = omega (arith, ltb-false most (length (join as')) (passed as' e).1)
 
-  pub passed-room : (as' : List Bytes) → number ≡ write_refusal most room shape as' → 12 + length (join as') ≤ room
-  passed-room as' e = ltb-false room (12 + length (join as')) (passed as' e).2
+  pub passed_room : (as' : List Bytes) → number ≡ write_refusal most room shape as' → 12 + length (join as') ≤ room
+  passed_room as' e = ltb-false room (12 + length (join as')) (passed as' e).2

@@ -36,14 +36,14 @@ finished_refused zero p out h = absurd (h refl)
 finished_refused (suc n) p out h = refl
 
 module _ (magic : Bytes) (most : ℕ) (shape : Shape) (out : Bytes) (kind : ℕ) (as' : List Bytes) (number : ℕ) (en : number ≡ write_refusal most (length out) shape as') where
-  pub writing-refused : (number ≡ 0 → ⊥) → record { answer = WV.Refused number; output = out } ≡ writing magic most shape out kind as'
+  pub writing_refused : (number ≡ 0 → ⊥) → record { answer = WV.Refused number; output = out } ≡ writing magic most shape out kind as'
   unfolding writing
-  writing-refused h = rw (← en) (finished_refused number (packet magic kind (join as')) out h)
+  writing_refused h = rw (← en) (finished_refused number (packet magic kind (join as')) out h)
 
-  pub writing-done : (n : ℕ) (o : Bytes) → number ≡ 0 → n ≡ length (packet magic kind (join as')) → o ≡ put 0 (packet magic kind (join as')) out
+  pub writing_done : (n : ℕ) (o : Bytes) → number ≡ 0 → n ≡ length (packet magic kind (join as')) → o ≡ put 0 (packet magic kind (join as')) out
       → record { answer = WV.Length n; output = o } ≡ writing magic most shape out kind as'
   unfolding writing
-  writing-done n o z el eo = rw (← en, z, el, eo)
+  writing_done n o z el eo = rw (← en, z, el, eo)
 
 -- the shape that the code found is the direction's
 pub writing_shape : (magic : Bytes) (most : ℕ) (s t : Shape) (out : Bytes) (kind : ℕ) (as' : List Bytes) (w : Writing) → s ≡ t → w ≡ writing magic most s out kind as' → w ≡ writing magic most t out kind as'

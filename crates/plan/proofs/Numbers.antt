@@ -14,7 +14,7 @@ use Rattle.octets.specs.Bytes.{Bytes, same}
 use Rattle.octets.proofs.Strings.{and_false, and_left, and_right}
 use Rattle.handle.specs.Handle.{handle, serial_of}
 use Rattle.handle.specs.declared.Serial.TheVariants.{Of, None}
-use Rattle.handle.proofs.Handles.{same-serial, other-serial, no-handle}
+use Rattle.handle.proofs.Handles.{same_serial, other_serial, no_handle}
 use Rattle.sets.specs.Sets.{is_empty}
 use Rattle.lists.specs.Lists.{all, up, find, map_from}
 use Rattle.lists.proofs.Lists.{number_made}
@@ -74,24 +74,24 @@ wanted_values t q h =
 -- ---- jobs by handle: where the definitions compare texts, the numbers compare serials
 
 module _ (hub h : Bytes) (s : ℕ) (e : serial_of hub h ≡ Of s) where
-  same-as-serial : (n : ℕ) → 1 ≤ n → n < 2 ^ 32 → same (handle hub n) h ≡ eqb n s
-  same-as-serial n l k = go (eqb n s) refl
+  same_as_serial : (n : ℕ) → 1 ≤ n → n < 2 ^ 32 → same (handle hub n) h ≡ eqb n s
+  same_as_serial n l k = go (eqb n s) refl
     where
       go : (b : Bool) → eqb n s ≡ b → same (handle hub n) h ≡ b
-      go true q = let p : n ≡ s = eqb-true n s q in rw p (same-serial hub h s e)
-      go false q = let p : n ≡ s → ⊥ = eqb-false n s q in other-serial hub h n s l k e (λ z. p (sym z))
+      go true q = let p : n ≡ s = eqb-true n s q in rw p (same_serial hub h s e)
+      go false q = let p : n ≡ s → ⊥ = eqb-false n s q in other_serial hub h n s l k e (λ z. p (sym z))
 
-  has-serial : (r : JobRow) → r.serial < 2 ^ 32 → has_handle hub h r ≡ live r && eqb r.serial s
+  has_serial : (r : JobRow) → r.serial < 2 ^ 32 → has_handle hub h r ≡ live r && eqb r.serial s
   unfolding has_handle
-  has-serial r k = go (eqb r.serial 0) refl
+  has_serial r k = go (eqb r.serial 0) refl
     where
       go : (b : Bool) → eqb r.serial 0 ≡ b → not b && same (handle hub r.serial) h ≡ not b && eqb r.serial s
       go true q = refl
-      go false q = let p : r.serial ≡ 0 → ⊥ = eqb-false r.serial 0 q in same-as-serial r.serial (omega arith) k
+      go false q = let p : r.serial ≡ 0 → ⊥ = eqb-false r.serial 0 q in same_as_serial r.serial (omega arith) k
 
-  holds-serial : (c : ℕ) (r : JobRow) → r.serial < 2 ^ 32 → holds_handle hub c h r ≡ held_by c r && eqb r.serial s
+  holds_serial : (c : ℕ) (r : JobRow) → r.serial < 2 ^ 32 → holds_handle hub c h r ≡ held_by c r && eqb r.serial s
   unfolding holds_handle
-  holds-serial c r k = ap (λ (b : Bool). held_by c r && b) (has-serial r k) ∙ go (live r) (eqb r.holder (suc c)) (eqb r.serial s)
+  holds_serial c r k = ap (λ (b : Bool). held_by c r && b) (has_serial r k) ∙ go (live r) (eqb r.holder (suc c)) (eqb r.serial s)
     where
       go : (a b d : Bool) → (a && b) && (a && d) ≡ (a && b) && d
       go true b d = refl
@@ -103,15 +103,15 @@ no_serial_lem hub h e r k = go (eqb r.serial 0) refl
   where
     go : (b : Bool) → eqb r.serial 0 ≡ b → not b && same (handle hub r.serial) h ≡ false
     go true q = refl
-    go false q = let p : r.serial ≡ 0 → ⊥ = eqb-false r.serial 0 q in no-handle hub h r.serial (omega arith) k e
+    go false q = let p : r.serial ≡ 0 → ⊥ = eqb-false r.serial 0 q in no_handle hub h r.serial (omega arith) k e
 
 -- tests of rows that say the same where serials are small
 module _ (p q : JobRow → Bool) (n : ℕ) (f : (r : JobRow) → r.serial ≤ n → p r ≡ q r) where
-  find-same : (js : List Job) → all (λ j. leb j.row.serial n) js ≡ true → find (λ j. p j.row) js ≡ find q (map (λ j. j.row) js)
-  find-same [] a = refl
-  find-same (j ∷ js) a =
+  find_same : (js : List Job) → all (λ j. leb j.row.serial n) js ≡ true → find (λ j. p j.row) js ≡ find q (map (λ j. j.row) js)
+  find_same [] a = refl
+  find_same (j ∷ js) a =
       let h = leb-true j.row.serial n (and_left (leb j.row.serial n) _ a) in
-      ap₂ (λ (b : Bool) (o : Option ℕ). cond b (some 0) (up o)) (f j.row h) (find-same js (and_right (leb j.row.serial n) _ a))
+      ap₂ (λ (b : Bool) (o : Option ℕ). cond b (some 0) (up o)) (f j.row h) (find_same js (and_right (leb j.row.serial n) _ a))
 
 find_nothing : (rs : List JobRow) → find (λ r. false) rs ≡ none
 find_nothing [] = refl
@@ -121,21 +121,21 @@ module _ (t : Table) (h : Bytes) (small : next_small t ≡ true) (below : serial
   fits : (r : JobRow) → r.serial ≤ t.last → r.serial < 2 ^ 32
   fits r l = let k = ltb-true t.last 4294967296 small in omega arith
 
-  pub serial-values : (s : ℕ) → serial_of t.hub h ≡ Of s → job_of t h ≡ serial_row s (rows_of t)
+  pub serial_values : (s : ℕ) → serial_of t.hub h ≡ Of s → job_of t h ≡ serial_row s (rows_of t)
   unfolding serial_row
-  serial-values s e = find-same (has_handle t.hub h) (λ r. live r && eqb r.serial s) t.last (λ r l. has-serial t.hub h s e r (fits r l)) t.jobs below
+  serial_values s e = find_same (has_handle t.hub h) (λ r. live r && eqb r.serial s) t.last (λ r l. has_serial t.hub h s e r (fits r l)) t.jobs below
 
-  pub held-values : (c s : ℕ) → serial_of t.hub h ≡ Of s → held_job_of t c h ≡ held_row c s (rows_of t)
+  pub held_values : (c s : ℕ) → serial_of t.hub h ≡ Of s → held_job_of t c h ≡ held_row c s (rows_of t)
   unfolding held_row
-  held-values c s e =
-      find-same (holds_handle t.hub c h) (λ r. held_by c r && eqb r.serial s) t.last (λ r l. holds-serial t.hub h s e c r (fits r l)) t.jobs below
+  held_values c s e =
+      find_same (holds_handle t.hub c h) (λ r. held_by c r && eqb r.serial s) t.last (λ r l. holds_serial t.hub h s e c r (fits r l)) t.jobs below
 
   module _ (e : serial_of t.hub h ≡ None) where
-    pub serial-none : job_of t h ≡ none
-    serial-none = find-same (has_handle t.hub h) (λ r. false) t.last (λ r l. no_serial_lem t.hub h e r (fits r l)) t.jobs below ∙ find_nothing (rows_of t)
+    pub serial_none : job_of t h ≡ none
+    serial_none = find_same (has_handle t.hub h) (λ r. false) t.last (λ r l. no_serial_lem t.hub h e r (fits r l)) t.jobs below ∙ find_nothing (rows_of t)
 
     pub held_none : (c : ℕ) → held_job_of t c h ≡ none
     unfolding holds_handle
     held_none c =
-        find-same (holds_handle t.hub c h) (λ r. false) t.last (λ r l. ap (λ (b : Bool). held_by c r && b) (no_serial_lem t.hub h e r (fits r l)) ∙ and_false (held_by c r)) t.jobs below
+        find_same (holds_handle t.hub c h) (λ r. false) t.last (λ r l. ap (λ (b : Bool). held_by c r && b) (no_serial_lem t.hub h e r (fits r l)) ∙ and_false (held_by c r)) t.jobs below
         ∙ find_nothing (rows_of t)

@@ -24,27 +24,27 @@ use Rattle.plan.proofs.Sizes.{rows_long}
 -- ---- some entry: what was found before place i, or some entry from i on
 
 module _ {A : Type 0} (f : A → Bool) (l : List A) (n i : ℕ) (r : Bool) (long : length l ≡ n) (e : any f l ≡ r || any f (drop i l)) where
-  pub any-turn : (d : A) (v : Bool) → i < n → v ≡ f (get_or l i d) → any f l ≡ (r || v) || any f (drop (i + 1) l)
-  any-turn d v h q =
+  pub any_turn : (d : A) (v : Bool) → i < n → v ≡ f (get_or l i d) → any f l ≡ (r || v) || any f (drop (i + 1) l)
+  any_turn d v h q =
       let c : drop i l ≡ get_or l i d ∷ drop (i + 1) l = rw add-one (drop-cons l i d (omega arith)) in
       e ∙ ap (λ (x : List A). r || any f x) c ∙ ap (λ (b : Bool). r || (b || any f (drop (i + 1) l))) (sym q) ∙ sym (or_assoc r v (any f (drop (i + 1) l)))
 
-  pub any-end : n ≤ i → r ≡ any f l
-  any-end h = sym (e ∙ ap (λ (x : List A). r || any f x) (drop_of_length-le l {i = i} (omega arith)) ∙ or_none_lem r)
+  pub any_end : n ≤ i → r ≡ any f l
+  any_end h = sym (e ∙ ap (λ (x : List A). r || any f x) (drop_of_length-le l {i = i} (omega arith)) ∙ or_none_lem r)
 
 -- ---- the rows of a table, with one over
 
 module _ (b : Bytes) where
-  pub left-long : (p : ℕ) → length (set (values_of (table_of connection_count b)).rows p no_row) ≡ 32
-  left-long p = length-set (values_of (table_of connection_count b)).rows p no_row ∙ rows_long b
+  pub left_long : (p : ℕ) → length (set (values_of (table_of connection_count b)).rows p no_row) ≡ 32
+  left_long p = length-set (values_of (table_of connection_count b)).rows p no_row ∙ rows_long b
 
   -- place 32 is none
   pub none_over : set (values_of (table_of connection_count b)).rows 32 no_row ≡ (values_of (table_of connection_count b)).rows
   none_over = set_out (values_of (table_of connection_count b)).rows 32 no_row (omega (arith, rows_long b))
 
 module _ (rs : List JobRow) (q over i : ℕ) where
-  pub names-none : i < length rs → i ≡ over → false ≡ names q (get_or (set rs over no_row) i no_row)
-  names-none h e =
+  pub names_none : i < length rs → i ≡ over → false ≡ names q (get_or (set rs over no_row) i no_row)
+  names_none h e =
       let g : get_or (set rs over no_row) i no_row ≡ no_row = rw e (get_or-set_same rs over no_row no_row (rw e at h)) in
       sym (ap (names q) g)
 

@@ -51,9 +51,9 @@ module _ {A : Type 0} (f : A → ℕ) where
 
   -- ---- one entry more at the end
 
-  top-more : (l : List A) (x : A) → top (l ++ (x ∷ [])) ≡ max (top l) (f x)
-  top-more [] x = omega arith
-  top-more (y ∷ l) x = let r = top-more l x in omega arith
+  top_more : (l : List A) (x : A) → top (l ++ (x ∷ [])) ≡ max (top l) (f x)
+  top_more [] x = omega arith
+  top_more (y ∷ l) x = let r = top_more l x in omega arith
 
   -- a rank above every other is first found there
   above : (m : ℕ) (l : List A) (x : A) → top l < m → f x ≡ m → find (ranks m) (l ++ (x ∷ [])) ≡ some (length l)
@@ -65,25 +65,25 @@ module _ {A : Type 0} (f : A → ℕ) where
       rw (n, r) (rw z)
 
   -- any other is not
-  not-above : (m : ℕ) (l : List A) (x : A) → m ≡ top l → any (ranks m) l ≡ false → ranks m x ≡ false
-  not-above m l x e = go (eqb m 0) refl
+  not_above : (m : ℕ) (l : List A) (x : A) → m ≡ top l → any (ranks m) l ≡ false → ranks m x ≡ false
+  not_above m l x e = go (eqb m 0) refl
     where
       go : (b : Bool) → eqb m 0 ≡ b → any (λ y. not b && eqb (f y) m) l ≡ false → not b && eqb (f x) m ≡ false
       go true z n = refl
       go false z n = absurd (eqb-false m 0 z (reached m l n e))
 
-  best-more : (l : List A) (x : A) → best (l ++ (x ∷ [])) ≡ cond (ltb (top l) (f x)) (some (length l)) (best l)
-  best-more l x = go (ltb (top l) (f x)) refl
+  best_more : (l : List A) (x : A) → best (l ++ (x ∷ [])) ≡ cond (ltb (top l) (f x)) (some (length l)) (best l)
+  best_more l x = go (ltb (top l) (f x)) refl
     where
       go : (b : Bool) → ltb (top l) (f x) ≡ b → best (l ++ (x ∷ [])) ≡ cond b (some (length l)) (best l)
       go true h =
           let g = ltb-true (top l) (f x) h in
-          let e : top (l ++ (x ∷ [])) ≡ f x = top-more l x ∙ omega arith in
+          let e : top (l ++ (x ∷ [])) ≡ f x = top_more l x ∙ omega arith in
           ap (λ (m : ℕ). find (ranks m) (l ++ (x ∷ []))) e ∙ above (f x) l x g refl
       go false h =
           let g = ltb-false (top l) (f x) h in
-          let e : top (l ++ (x ∷ [])) ≡ top l = top-more l x ∙ omega arith in
-          ap (λ (m : ℕ). find (ranks m) (l ++ (x ∷ []))) e ∙ found_before (ranks (top l)) l x (not-above (top l) l x refl)
+          let e : top (l ++ (x ∷ [])) ≡ top l = top_more l x ∙ omega arith in
+          ap (λ (m : ℕ). find (ranks m) (l ++ (x ∷ []))) e ∙ found_before (ranks (top l)) l x (not_above (top l) l x refl)
 
   -- ---- the next entry of a walk, and the entry that is found
 
@@ -94,24 +94,24 @@ module _ {A : Type 0} (f : A → ℕ) where
     -- it is no better than the best so far
     module _ (g : f (get_or l i d) ≤ m) where
       pub top_kept : m ≡ top (take (i + 1) l)
-      top_kept = rw more (omega (arith, top-more (take i l) (get_or l i d)))
+      top_kept = rw more (omega (arith, top_more (take i l) (get_or l i d)))
 
-      pub best-kept : best (take (i + 1) l) ≡ best (take i l)
-      best-kept = rw (more, best-more (take i l) (get_or l i d), le-ltb (top (take i l)) (f (get_or l i d)) (omega arith))
+      pub best_kept : best (take (i + 1) l) ≡ best (take i l)
+      best_kept = rw (more, best_more (take i l) (get_or l i d), le-ltb (top (take i l)) (f (get_or l i d)) (omega arith))
 
     -- it is better
     module _ (g : m < f (get_or l i d)) where
-      pub top-rises : f (get_or l i d) ≡ top (take (i + 1) l)
-      top-rises = rw more (omega (arith, top-more (take i l) (get_or l i d)))
+      pub top_rises : f (get_or l i d) ≡ top (take (i + 1) l)
+      top_rises = rw more (omega (arith, top_more (take i l) (get_or l i d)))
 
-      pub best-moves : best (take (i + 1) l) ≡ some i
-      best-moves =
-          rw (more, best-more (take i l) (get_or l i d), lt-ltb (top (take i l)) (f (get_or l i d)) (omega arith))
+      pub best_moves : best (take (i + 1) l) ≡ some i
+      best_moves =
+          rw (more, best_more (take i l) (get_or l i d), lt-ltb (top (take i l)) (f (get_or l i d)) (omega arith))
           (ap some (length-take-le i l (omega arith)))
 
   -- where there is a best entry, its rank is the greatest, and not 0
-  pub best-says : (d : A) (l : List A) (p : ℕ) → best l ≡ some p → (p < length l) × (f (get_or l p d) ≡ top l) × (top l ≡ 0 → ⊥)
-  best-says d l p e =
+  pub best_says : (d : A) (l : List A) (p : ℕ) → best l ≡ some p → (p < length l) × (f (get_or l p d) ≡ top l) × (top l ≡ 0 → ⊥)
+  best_says d l p e =
       let hit = found (ranks (top l)) d l (some p) e in
       let z : not (eqb (top l) 0) ≡ true = and_left (not (eqb (top l) 0)) _ hit.passes in (
         hit.inside,

@@ -15,17 +15,17 @@ use Rattle.server.specs.Table.{queued, grabbable, rank}
 use Rattle.plan_find_rows.specs.Queue.{rank_of, stays_behind}
 
 module _ (ables : List ℕ) (c : ℕ) (r : JobRow) where
-  pub rank-idle : queued r ≡ false → rank ables c r ≡ 0
+  pub rank_idle : queued r ≡ false → rank ables c r ≡ 0
   unfolding rank
-  rank-idle e = rw e
+  rank_idle e = rw e
 
-  pub rank-unable : has (get_or ables r.function 0) c ≡ false → rank ables c r ≡ 0
+  pub rank_unable : has (get_or ables r.function 0) c ≡ false → rank ables c r ≡ 0
   unfolding rank
-  rank-unable e = rw (e, and_false (queued r))
+  rank_unable e = rw (e, and_false (queued r))
 
-  pub rank-able : queued r ≡ true → has (get_or ables r.function 0) c ≡ true → rank ables c r ≡ rank_of r
+  pub rank_able : queued r ≡ true → has (get_or ables r.function 0) c ≡ true → rank ables c r ≡ rank_of r
   unfolding rank
-  rank-able e g = rw (e, g)
+  rank_able e g = rw (e, g)
 
   -- at most what its priority and serial give
   pub rank_most : rank ables c r ≤ rank_of r
@@ -37,9 +37,9 @@ module _ (ables : List ℕ) (c : ℕ) (r : JobRow) where
       go false = omega arith
 
   -- and no less, if it is ranked at all
-  pub rank-some : (rank ables c r ≡ 0 → ⊥) → rank ables c r ≡ rank_of r
+  pub rank_some : (rank ables c r ≡ 0 → ⊥) → rank ables c r ≡ rank_of r
   unfolding rank
-  rank-some = go (grabbable ables c r)
+  rank_some = go (grabbable ables c r)
     where
       go : (t : Bool) → (cond t (rank_of r) 0 ≡ 0 → ⊥) → cond t (rank_of r) 0 ≡ rank_of r
       go true n = refl

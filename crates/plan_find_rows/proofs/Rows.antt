@@ -20,16 +20,16 @@ use Rattle.server.specs.Table.{Job, no_row, no_job, job_at, live, rows_of, free_
 use Rattle.server.specs.Rules.{serials_apart, serials_distinct}
 use Rattle.server.specs.Layout.{little_at, row_in, job_in, table_of, is_image, serials_at}
 use Rattle.server.specs.Call.{is_sound}
-use Rattle.table_laws.proofs.Columns.{length-places}
+use Rattle.table_laws.proofs.Columns.{length_places}
 use Rattle.lists.proofs.Searches.{found}
-use Rattle.lists.proofs.Rows.{clash, all_at, pairwise-at}
+use Rattle.lists.proofs.Rows.{clash, all_at, pairwise_at}
 use Rattle.server_laws.proofs.Obeyed.{obeyed}
 use Rattle.lists.specs.declared.Place.{Place}
 use Rattle.lists.specs.declared.Place.TheVariants.{At, Nowhere}
 use Rattle.lists.specs.Places.{placed}
 use Rattle.plan.specs.Values.{serial_row, held_row, values_of}
 use Rattle.plan.specs.Parts as P
-use Rattle.table_rows.proofs.Reading.{rows_are, column-at}
+use Rattle.table_rows.proofs.Reading.{rows_are, column_at}
 use Rattle.lists.proofs.Alike.{placed_at, placed_nowhere, find_numbers, find_by, find_nothing, find_narrow}
 
 -- ---- by serial
@@ -62,23 +62,23 @@ none_numbered rs s e =
 
 -- the column of serials, searched
 module _ (b : Bytes) (s : ℕ) (l : List ℕ) (p : Place) (e : l ≡ map (λ k. little_at 4 b (serials_at + 4 * k)) (numbers 0 job_count)) (g : p ≡ placed (find (λ k. eqb (get_or l k 0) s) (numbers 0 job_count))) where
-  in-column : p ≡ placed (find (λ r. eqb r.serial s) (rows_of (table_of connection_count b)))
-  in-column =
+  in_column : p ≡ placed (find (λ r. eqb r.serial s) (rows_of (table_of connection_count b)))
+  in_column =
       let q : find (λ k. eqb (get_or l k 0) s) (numbers 0 job_count) ≡ find (λ r. eqb r.serial s) (rows_of (table_of connection_count b))
       = rw (rows_are b) (find_numbers (λ k. eqb (get_or l k 0) s) (λ (r : JobRow). eqb r.serial s) (row_in connection_count b) 32
-      (λ k h. ap (λ (x : ℕ). eqb x s) (column-at (λ k. little_at 4 b (serials_at + 4 * k)) 0 32 l k e h))) in
+      (λ k h. ap (λ (x : ℕ). eqb x s) (column_at (λ k. little_at 4 b (serials_at + 4 * k)) 0 32 l k e h))) in
       g ∙ ap placed q
 
-  pub free-found : s ≡ 0 → p ≡ placed (free_row (rows_of (table_of connection_count b)))
+  pub free_found : s ≡ 0 → p ≡ placed (free_row (rows_of (table_of connection_count b)))
   unfolding free_row
-  free-found z =
+  free_found z =
       let q : find (λ r. eqb r.serial s) (rows_of (table_of connection_count b)) ≡ find (λ r. not (live r)) (rows_of (table_of connection_count b))
       = rw z (find_by (λ r. eqb r.serial 0) (λ r. not (live r)) (λ r. not_not (eqb r.serial 0)) (rows_of (table_of connection_count b))) in
-      in-column ∙ ap placed q
+      in_column ∙ ap placed q
 
-  pub serial-found : (s ≡ 0 → ⊥) → p ≡ placed (serial_row s (rows_of (table_of connection_count b)))
+  pub serial_found : (s ≡ 0 → ⊥) → p ≡ placed (serial_row s (rows_of (table_of connection_count b)))
   unfolding serial_row
-  serial-found n = in-column ∙ ap placed (find_by (λ r. eqb r.serial s) (numbered s) (λ r. serial_some r.serial s n) (rows_of (table_of connection_count b)))
+  serial_found n = in_column ∙ ap placed (find_by (λ r. eqb r.serial s) (numbered s) (λ r. serial_some r.serial s n) (rows_of (table_of connection_count b)))
 
 -- ---- by serial and holder
 
@@ -96,13 +96,13 @@ placed_if false p = refl
 module _ (b : Bytes) where
   thirty_two : length (table_of connection_count b).jobs ≡ 32
   unfolding table_of
-  thirty_two = length-places (job_in connection_count b) 0 32
+  thirty_two = length_places (job_in connection_count b) 0 32
 
   pub rows_long : length (rows_of (table_of connection_count b)) ≡ 32
   rows_long = length-map (table_of connection_count b).jobs (λ j. j.row) ∙ thirty_two
 
-  job-row : (i : ℕ) → get_or (rows_of (table_of connection_count b)) i no_row ≡ (job_at (table_of connection_count b) i).row
-  job-row i = get_or-map (λ (j : Job). j.row) (table_of connection_count b).jobs i no_job
+  job_row : (i : ℕ) → get_or (rows_of (table_of connection_count b)) i no_row ≡ (job_at (table_of connection_count b) i).row
+  job_row i = get_or-map (λ (j : Job). j.row) (table_of connection_count b).jobs i no_job
 
 module _ (b : Bytes) (sound : is_sound connection_count b ≡ true) where
   distinct : serials_distinct (table_of connection_count b) ≡ true
@@ -110,22 +110,22 @@ module _ (b : Bytes) (sound : is_sound connection_count b ≡ true) where
   distinct = (obeyed (table_of connection_count b) (and_right (is_image connection_count b) _ sound)).sound.serials
 
   -- two rows of one serial
-  serials-clash : (s i k : ℕ) → i < k → k < job_count → numbered s (job_at (table_of connection_count b) i).row ≡ true → numbered s (job_at (table_of connection_count b) k).row ≡ true → ⊥
-  serials-clash s i k l m x y =
+  serials_clash : (s i k : ℕ) → i < k → k < job_count → numbered s (job_at (table_of connection_count b) i).row ≡ true → numbered s (job_at (table_of connection_count b) k).row ≡ true → ⊥
+  serials_clash s i k l m x y =
       let j = (job_at (table_of connection_count b) i).row in
       let n = (job_at (table_of connection_count b) k).row in
       let a : serials_apart (job_at (table_of connection_count b) i) (job_at (table_of connection_count b) k) ≡ true
-      = pairwise-at serials_apart (table_of connection_count b).jobs i k no_job distinct l (rw (thirty_two b) m) in
+      = pairwise_at serials_apart (table_of connection_count b).jobs i k no_job distinct l (rw (thirty_two b) m) in
       let f : j.serial ≡ s = eqb-true _ _ (and_right (live j) _ x) in
       let g : n.serial ≡ s = eqb-true _ _ (and_right (live n) _ y) in
       clash a (rw (and_left (live j) _ x, f, g, eq-eqb s s refl))
 
-  one-row : (s i k : ℕ) → i < job_count → k < job_count → numbered s (get_or (rows_of (table_of connection_count b)) i no_row) ≡ true → numbered s (get_or (rows_of (table_of connection_count b)) k no_row) ≡ true → k ≡ i
-  one-row s i k h m x y =
-      let f : numbered s (job_at (table_of connection_count b) i).row ≡ true = rw (job-row b i) at x in
-      let g : numbered s (job_at (table_of connection_count b) k).row ≡ true = rw (job-row b k) at y in
-      let p : i < k → ⊥ = λ l. serials-clash s i k l m f g in
-      let q : k < i → ⊥ = λ l. serials-clash s k i l h g f in
+  one_row : (s i k : ℕ) → i < job_count → k < job_count → numbered s (get_or (rows_of (table_of connection_count b)) i no_row) ≡ true → numbered s (get_or (rows_of (table_of connection_count b)) k no_row) ≡ true → k ≡ i
+  one_row s i k h m x y =
+      let f : numbered s (job_at (table_of connection_count b) i).row ≡ true = rw (job_row b i) at x in
+      let g : numbered s (job_at (table_of connection_count b) k).row ≡ true = rw (job_row b k) at y in
+      let p : i < k → ⊥ = λ l. serials_clash s i k l m f g in
+      let q : k < i → ⊥ = λ l. serials_clash s k i l h g f in
       omega arith
 
   module _ (c s : ℕ) (o : Place) (e : o ≡ placed (serial_row s (rows_of (table_of connection_count b)))) where
@@ -136,9 +136,9 @@ module _ (b : Bytes) (sound : is_sound connection_count b ≡ true) where
     unfolding held_row
     held = find_by _ _ (λ r. reordered (live r) (eqb r.holder (suc c)) (eqb r.serial s)) rs
 
-    pub held-nowhere : o ≡ Nowhere → Nowhere ≡ placed (held_row c s rs)
+    pub held_nowhere : o ≡ Nowhere → Nowhere ≡ placed (held_row c s rs)
     unfolding serial_row
-    held-nowhere g =
+    held_nowhere g =
         let q : serial_row s rs ≡ none = placed_nowhere _ (sym e ∙ g) in
         let n : find (λ r. numbered s r && eqb r.holder (suc c)) rs ≡ none
         = find_nothing (λ r. numbered s r && eqb r.holder (suc c)) no_row rs
@@ -152,5 +152,5 @@ module _ (b : Bytes) (sound : is_sound connection_count b ≡ true) where
         let q : serial_row s rs ≡ some p = placed_at _ p (sym e ∙ g) in
         let hit = found (numbered s) no_row rs (some p) q in
         let n : length rs ≡ 32 = rows_long b in
-        let one = find_narrow (numbered s) (λ r. eqb r.holder (suc c)) no_row rs p q (λ i h t. one-row s p i (omega (arith, hit.inside)) (omega arith) hit.passes t) in
+        let one = find_narrow (numbered s) (λ r. eqb r.holder (suc c)) no_row rs p q (λ i h t. one_row s p i (omega (arith, hit.inside)) (omega arith) hit.passes t) in
         m ∙ rw (k, add-one) (sym (ap placed (held ∙ one) ∙ placed_if (eqb (get_or rs p no_row).holder (suc c)) p))

@@ -21,16 +21,16 @@ use Rattle.server.specs.Layout.{little_at, row_in, table_of, serials_at, able_at
 use Rattle.lists.specs.declared.Place.TheVariants.{At, Nowhere}
 use Rattle.lists.specs.Places.{placed}
 use Rattle.plan.specs.Values.{values_of}
-use Rattle.table_rows.proofs.Reading.{row-place, able-inside, able-beyond}
+use Rattle.table_rows.proofs.Reading.{row_place, able_inside, able_beyond}
 use Rattle.lists.proofs.Alike.{placed_at}
 use Rattle.table_passes.specs.Unions.{Joined}
 use Rattle.lists.proofs.Rows.{below_at}
-use Rattle.table_passes.proofs.Tests.{some-by}
+use Rattle.table_passes.proofs.Tests.{some_by}
 use Rattle.table_passes.proofs.Rows.{free_rows}
 use Rattle.plan_find_rows.specs.declared.queue.Best as Q'
 use Rattle.plan_find_rows.specs.Queue.{rank_of, stays_behind, BestOf}
-use Rattle.plan_find_rows.proofs.Greatest.{top_kept, best-kept, top-rises, best-moves, best-says}
-use Rattle.plan_find_rows.proofs.Ranks.{rank-idle, rank-unable, rank-able, rank_most, rank-some, behind}
+use Rattle.plan_find_rows.proofs.Greatest.{top_kept, best_kept, top_rises, best_moves, best_says}
+use Rattle.plan_find_rows.proofs.Ranks.{rank_idle, rank_unable, rank_able, rank_most, rank_some, behind}
 use Rattle.plan_find_rows.proofs.Rows.{rows_long}
 
 module _ (b : Bytes) (c : ℕ) where
@@ -49,79 +49,79 @@ module _ (b : Bytes) (c : ℕ) where
     here : i < length rs
     here = rw (rows_long b) h
 
-    row-passed : rank_here (row_in connection_count b i) ≤ v.rank → BestOf b c (i + 1) v
+    row_passed : rank_here (row_in connection_count b i) ≤ v.rank → BestOf b c (i + 1) v
     unfolding best_row
-    row-passed m =
-        let k : rank_here (get_or rs i no_row) ≤ v.rank = rw (row-place b i h) m in
-        (top_kept rank_here rs i no_row here v.rank g.0 k, g.1 ∙ ap placed (sym (best-kept rank_here rs i no_row here v.rank g.0 k)))
+    row_passed m =
+        let k : rank_here (get_or rs i no_row) ≤ v.rank = rw (row_place b i h) m in
+        (top_kept rank_here rs i no_row here v.rank g.0 k, g.1 ∙ ap placed (sym (best_kept rank_here rs i no_row here v.rank g.0 k)))
 
-    row-taken : (k : ℕ) → k ≡ rank_here (row_in connection_count b i) → v.rank < k → BestOf b c (i + 1) (record { place = At i; rank = k })
+    row_taken : (k : ℕ) → k ≡ rank_here (row_in connection_count b i) → v.rank < k → BestOf b c (i + 1) (record { place = At i; rank = k })
     unfolding best_row
-    row-taken k e m =
-        let q : k ≡ rank_here (get_or rs i no_row) = rw (row-place b i h) e in
+    row_taken k e m =
+        let q : k ≡ rank_here (get_or rs i no_row) = rw (row_place b i h) e in
         let l : v.rank < rank_here (get_or rs i no_row) = omega arith in
-        (q ∙ top-rises rank_here rs i no_row here v.rank g.0 l, ap placed (sym (best-moves rank_here rs i no_row here v.rank g.0 l)))
+        (q ∙ top_rises rank_here rs i no_row here v.rank g.0 l, ap placed (sym (best_moves rank_here rs i no_row here v.rank g.0 l)))
 
     -- what the code asks of a row, in its order
-    pub row-idle : (q : Bool) → q ≡ queued (row_in connection_count b i) → not q ≡ true → BestOf b c (i + 1) v
-    row-idle q e n = row-passed (rw (rank-idle ables c (row_in connection_count b i) (sym e ∙ not-true q n)) (omega arith))
+    pub row_idle : (q : Bool) → q ≡ queued (row_in connection_count b i) → not q ≡ true → BestOf b c (i + 1) v
+    row_idle q e n = row_passed (rw (rank_idle ables c (row_in connection_count b i) (sym e ∙ not-true q n)) (omega arith))
 
-    pub row-worse : (k : ℕ) → k ≡ rank_of (row_in connection_count b i) → k ≤ v.rank → BestOf b c (i + 1) v
-    row-worse k e m = row-passed (omega (arith, rank_most ables c (row_in connection_count b i)))
+    pub row_worse : (k : ℕ) → k ≡ rank_of (row_in connection_count b i) → k ≤ v.rank → BestOf b c (i + 1) v
+    row_worse k e m = row_passed (omega (arith, rank_most ables c (row_in connection_count b i)))
 
     module _ (a : Bool) (ea : a ≡ has (get_or ables (row_in connection_count b i).function 0) c) where
-      pub row-unable : a ≡ false → BestOf b c (i + 1) v
-      row-unable n = row-passed (rw (rank-unable ables c (row_in connection_count b i) (sym ea ∙ n)) (omega arith))
+      pub row_unable : a ≡ false → BestOf b c (i + 1) v
+      row_unable n = row_passed (rw (rank_unable ables c (row_in connection_count b i) (sym ea ∙ n)) (omega arith))
 
-      pub row-best : (q : Bool) (k : ℕ) → q ≡ queued (row_in connection_count b i) → not q ≡ false → k ≡ rank_of (row_in connection_count b i) → v.rank < k → a ≡ true
+      pub row_best : (q : Bool) (k : ℕ) → q ≡ queued (row_in connection_count b i) → not q ≡ false → k ≡ rank_of (row_in connection_count b i) → v.rank < k → a ≡ true
           → BestOf b c (i + 1) (record { place = At i; rank = k })
-      row-best q k eq n ek m t = row-taken k (ek ∙ sym (rank-able ables c (row_in connection_count b i) (sym eq ∙ not-false q n) (sym ea ∙ t))) m
+      row_best q k eq n ek m t = row_taken k (ek ∙ sym (rank_able ables c (row_in connection_count b i) (sym eq ∙ not-false q n) (sym ea ∙ t))) m
 
   -- n rows that are no better
-  rows-passed : (n i : ℕ) (v : Q'.Best) → i + n ≤ 32 → BestOf b c i v → ((k : ℕ) → k < n → rank_here (row_in connection_count b (i + k)) ≤ v.rank) → BestOf b c (i + n) v
-  rows-passed zero i v h g m = rw add-zero g
-  rows-passed (suc n) i v h g m =
+  rows_passed : (n i : ℕ) (v : Q'.Best) → i + n ≤ 32 → BestOf b c i v → ((k : ℕ) → k < n → rank_here (row_in connection_count b (i + k)) ≤ v.rank) → BestOf b c (i + n) v
+  rows_passed zero i v h g m = rw add-zero g
+  rows_passed (suc n) i v h g m =
       let e : i + suc n ≡ i + n + 1 = omega arith in
-      rw e (row-passed (i + n) v (omega arith) (rows-passed n i v (omega arith) g (λ k l. m k (omega arith))) (m n (omega arith)))
+      rw e (row_passed (i + n) v (omega arith) (rows_passed n i v (omega arith) g (λ k l. m k (omega arith))) (m n (omega arith)))
 
   -- ---- eight rows passed
 
   module _ (p : ℕ) (v : Q'.Best) (h : p + 8 ≤ 32) (g : BestOf b c p v) where
-    pub free-passed : all (λ k. eqb (get_or b (serials_at + 4 * p + k) 0) 0) (numbers 0 job_count) ≡ true → BestOf b c (p + 8) v
-    free-passed z = rows-passed 8 p v h g (λ k l. rw (rank-idle ables c (row_in connection_count b (p + k)) (rw (free_rows b p z k l))) (omega arith))
+    pub free_passed : all (λ k. eqb (get_or b (serials_at + 4 * p + k) 0) 0) (numbers 0 job_count) ≡ true → BestOf b c (p + 8) v
+    free_passed z = rows_passed 8 p v h g (λ k l. rw (rank_idle ables c (row_in connection_count b (p + k)) (rw (free_rows b p z k l))) (omega arith))
 
     -- the best so far
-    pub best-there : (i : ℕ) → v.place ≡ At i → (i < job_count) × (v.rank ≡ rank_of (row_in connection_count b i))
+    pub best_there : (i : ℕ) → v.place ≡ At i → (i < job_count) × (v.rank ≡ rank_of (row_in connection_count b i))
     unfolding best_row
-    best-there i e =
+    best_there i e =
         let n : length (take p rs) ≡ p = length-take-le p rs (omega (arith, rows_long b)) in
-        let (inside, same, some-rank) = best-says rank_here no_row (take p rs) i (placed_at _ i (sym g.1 ∙ e)) in
+        let (inside, same, some_rank) = best_says rank_here no_row (take p rs) i (placed_at _ i (sym g.1 ∙ e)) in
         let l : i < p = omega arith in
-        let r : get_or (take p rs) i no_row ≡ row_in connection_count b i = get_or-take p rs i no_row l ∙ row-place b i (omega arith) in
+        let r : get_or (take p rs) i no_row ≡ row_in connection_count b i = get_or-take p rs i no_row l ∙ row_place b i (omega arith) in
         let q : rank_here (row_in connection_count b i) ≡ v.rank = ap rank_here (sym r) ∙ same ∙ sym g.0 in
-        (omega arith, sym q ∙ rank-some ables c (row_in connection_count b i) (λ z. some-rank (omega arith)))
+        (omega arith, sym q ∙ rank_some ables c (row_in connection_count b i) (λ z. some_rank (omega arith)))
 
     -- none of them goes before it
-    pub behind-passed : (i : ℕ) → v.place ≡ At i → all (λ k. stays_behind (row_in connection_count b i).priority (row_in connection_count b i).serial (row_in connection_count b (p + k))) (numbers 0 8) ≡ true
+    pub behind_passed : (i : ℕ) → v.place ≡ At i → all (λ k. stays_behind (row_in connection_count b i).priority (row_in connection_count b i).serial (row_in connection_count b (p + k))) (numbers 0 8) ≡ true
         → BestOf b c (p + 8) v
-    behind-passed i e a =
-        rows-passed 8 p v h g
+    behind_passed i e a =
+        rows_passed 8 p v h g
         (λ k l. omega (
           arith,
           rank_most ables c (row_in connection_count b (p + k)),
-          (best-there i e).1,
+          (best_there i e).1,
           behind (row_in connection_count b i).priority (row_in connection_count b i).serial (row_in connection_count b (p + k))
               (below_at (λ k. stays_behind (row_in connection_count b i).priority (row_in connection_count b i).serial (row_in connection_count b (p + k))) 8 k a l),
         ))
 
   -- ---- the walk's start and end
 
-  pub best-start : BestOf b c 0 (record { place = Nowhere; rank = 0 })
+  pub best_start : BestOf b c 0 (record { place = Nowhere; rank = 0 })
   unfolding best_row
-  best-start = (refl, refl)
+  best_start = (refl, refl)
 
-  pub best-end : (v : Q'.Best) → BestOf b c 32 v → v.place ≡ placed (best_row ables rs c)
-  best-end v g = g.1 ∙ ap (λ (l : List JobRow). placed (best_row ables l c)) (take_all 32 rs (omega (arith, rows_long b)))
+  pub best_end : (v : Q'.Best) → BestOf b c 32 v → v.place ≡ placed (best_row ables rs c)
+  best_end v g = g.1 ∙ ap (λ (l : List JobRow). placed (best_row ables l c)) (take_all 32 rs (omega (arith, rows_long b)))
 
   -- ---- a connection that can do nothing: no function's set has it, so that every row is passed
 
@@ -131,17 +131,17 @@ module _ (b : Bytes) (c : ℕ) where
     unable q = go (ltb q 16) refl
       where
         lacks : (t : Bool) → has (little_at 4 b (able_at + 4 * q)) c ≡ t → q < function_count → t ≡ false
-        lacks true e h = absurd (true≢false (sym (j c ∙ some-by (λ q. has (little_at 4 b (able_at + 4 * q)) c) 16 q h e) ∙ n))
+        lacks true e h = absurd (true≢false (sym (j c ∙ some_by (λ q. has (little_at 4 b (able_at + 4 * q)) c) 16 q h e) ∙ n))
         lacks false e h = refl
 
         go : (t : Bool) → ltb q 16 ≡ t → has (get_or ables q 0) c ≡ false
         go true e =
             let h = ltb-true q 16 e in
-            ap (λ (x : ℕ). has x c) (sym (able-inside b q _ h refl)) ∙ lacks _ refl h
-        go false e = ap (λ (x : ℕ). has x c) (sym (able-beyond b q 0 (ltb-false q 16 e) refl)) ∙ zero_has c
+            ap (λ (x : ℕ). has x c) (sym (able_inside b q _ h refl)) ∙ lacks _ refl h
+        go false e = ap (λ (x : ℕ). has x c) (sym (able_beyond b q 0 (ltb-false q 16 e) refl)) ∙ zero_has c
 
-    pub unable-nowhere : Nowhere ≡ placed (best_row ables rs c)
-    unable-nowhere =
-        best-end (record { place = Nowhere; rank = 0 })
-        (rows-passed 32 0 (record { place = Nowhere; rank = 0 }) (omega arith) best-start
-        (λ k l. rw (rank-unable ables c (row_in connection_count b (0 + k)) (unable (row_in connection_count b (0 + k)).function)) (omega arith)))
+    pub unable_nowhere : Nowhere ≡ placed (best_row ables rs c)
+    unable_nowhere =
+        best_end (record { place = Nowhere; rank = 0 })
+        (rows_passed 32 0 (record { place = Nowhere; rank = 0 }) (omega arith) best_start
+        (λ k l. rw (rank_unable ables c (row_in connection_count b (0 + k)) (unable (row_in connection_count b (0 + k)).function)) (omega arith)))

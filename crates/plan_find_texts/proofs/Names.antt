@@ -18,7 +18,7 @@ use Rattle.server.specs.Layout.{names_at, uniques_at, table_of, bytes_of, functi
 use Rattle.server.specs.Call.{is_sound}
 use Rattle.lists.proofs.Lists.{length_fit}
 use Rattle.table_laws.proofs.Fields.{Lies, lies_part, before_zero, fit_text}
-use Rattle.table_laws.proofs.Columns.{length-places, places-at, column-lies}
+use Rattle.table_laws.proofs.Columns.{length_places, places_at, column_lies}
 use Rattle.table_laws.proofs.Laid.{laid}
 use Rattle.table_laws.proofs.Image.{image_is}
 use Rattle.lists.proofs.Rows.{iff, implies_use, all_at}
@@ -56,74 +56,74 @@ place_agrees k place s f e a b = rw e (agree_same k (fit k s) (fit k f) (length_
 module _ (b : Bytes) where
   pub sixteen : length (table_of connection_count b).functions ≡ 16
   unfolding table_of
-  sixteen = length-places (function_in connection_count b) 0 16
+  sixteen = length_places (function_in connection_count b) 0 16
 
   thirty_two : length (table_of connection_count b).jobs ≡ 32
   unfolding table_of
-  thirty_two = length-places (job_in connection_count b) 0 32
+  thirty_two = length_places (job_in connection_count b) 0 32
 
-  function-in : (q : ℕ) → q < function_count → function_at (table_of connection_count b) q ≡ function_in connection_count b q
+  function_in_lem : (q : ℕ) → q < function_count → function_at (table_of connection_count b) q ≡ function_in connection_count b q
   unfolding table_of
-  function-in q h = places-at (function_in connection_count b) no_function 16 q h
+  function_in_lem q h = places_at (function_in connection_count b) no_function 16 q h
 
-  job-in : (p : ℕ) → p < job_count → job_at (table_of connection_count b) p ≡ job_in connection_count b p
+  job_in_lem : (p : ℕ) → p < job_count → job_at (table_of connection_count b) p ≡ job_in connection_count b p
   unfolding table_of
-  job-in p h = places-at (job_in connection_count b) no_job 32 p h
+  job_in_lem p h = places_at (job_in connection_count b) no_job 32 p h
 
 module _ (b : Bytes) (sound : is_sound connection_count b ≡ true) where
-  sound-image : is_image connection_count b ≡ true
+  sound_image : is_image connection_count b ≡ true
   unfolding is_sound
-  sound-image = and_left (is_image connection_count b) _ sound
+  sound_image = and_left (is_image connection_count b) _ sound
 
-  pub sound-table : Sound (table_of connection_count b)
+  pub sound_table : Sound (table_of connection_count b)
   unfolding is_sound
-  sound-table = (obeyed (table_of connection_count b) (and_right (is_image connection_count b) _ sound)).sound
+  sound_table = (obeyed (table_of connection_count b) (and_right (is_image connection_count b) _ sound)).sound
 
-  lies-image : Lies b 0 (bytes_of (table_of connection_count b))
-  lies-image = record { before = []; after = drop (table_size connection_count) b; whole = sym (take-append-drop (table_size connection_count) b) ∙ ap (λ (s : Bytes). s ++ drop (table_size connection_count) b) (sym (image_is connection_count b sound-image)); place = refl }
+  lies_image : Lies b 0 (bytes_of (table_of connection_count b))
+  lies_image = record { before = []; after = drop (table_size connection_count) b; whole = sym (take-append-drop (table_size connection_count) b) ∙ ap (λ (s : Bytes). s ++ drop (table_size connection_count) b) (sym (image_is connection_count b sound_image)); place = refl }
 
   -- a place holds the name and zeros
-  name-place : (q : ℕ) → q < function_count → name_in b q ≡ fit name_size (function_in connection_count b q).name
-  name-place q h =
+  name_place : (q : ℕ) → q < function_count → name_in b q ≡ fit name_size (function_in connection_count b q).name
+  name_place q h =
       let t = table_of connection_count b in
-      let l = column-lies (λ (x : Function). fit name_size x.name) 32 (λ x. length_fit 32 x.name) b names_at t.functions q no_function (laid t b (sixteen b) (thirty_two b) lies-image).name (omega (arith, sixteen b)) in
-      lies_part b (names_at + name_size * q) (fit name_size (function_at t q).name) 32 l (length_fit 32 (function_at t q).name) ∙ ap (λ (x : Function). fit name_size x.name) (function-in b q h)
+      let l = column_lies (λ (x : Function). fit name_size x.name) 32 (λ x. length_fit 32 x.name) b names_at t.functions q no_function (laid t b (sixteen b) (thirty_two b) lies_image).name (omega (arith, sixteen b)) in
+      lies_part b (names_at + name_size * q) (fit name_size (function_at t q).name) 32 l (length_fit 32 (function_at t q).name) ∙ ap (λ (x : Function). fit name_size x.name) (function_in_lem b q h)
 
   name_within : (q : ℕ) → q < function_count → text_within name_size (function_in connection_count b q).name ≡ true
   name_within q h =
       let t = table_of connection_count b in
-      rw (function-in b q h) at (all_at (λ x. text_within name_size x.name) t.functions q no_function sound-table.names (omega (arith, sixteen b)))
+      rw (function_in_lem b q h) at (all_at (λ x. text_within name_size x.name) t.functions q no_function sound_table.names (omega (arith, sixteen b)))
 
   -- a place holds the unique and zeros
-  pub unique-place : (p : ℕ) → p < job_count → take 64 (drop (uniques_at + unique_size * p) b) ≡ fit unique_size (job_in connection_count b p).unique
-  unique-place p h =
+  pub unique_place : (p : ℕ) → p < job_count → take 64 (drop (uniques_at + unique_size * p) b) ≡ fit unique_size (job_in connection_count b p).unique
+  unique_place p h =
       let t = table_of connection_count b in
-      let l = column-lies (λ (j : Job). fit unique_size j.unique) 64 (λ j. length_fit 64 j.unique) b uniques_at t.jobs p no_job (laid t b (sixteen b) (thirty_two b) lies-image).unique (omega (arith, thirty_two b)) in
-      lies_part b (uniques_at + unique_size * p) (fit unique_size (job_at t p).unique) 64 l (length_fit 64 (job_at t p).unique) ∙ ap (λ (j : Job). fit unique_size j.unique) (job-in b p h)
+      let l = column_lies (λ (j : Job). fit unique_size j.unique) 64 (λ j. length_fit 64 j.unique) b uniques_at t.jobs p no_job (laid t b (sixteen b) (thirty_two b) lies_image).unique (omega (arith, thirty_two b)) in
+      lies_part b (uniques_at + unique_size * p) (fit unique_size (job_at t p).unique) 64 l (length_fit 64 (job_at t p).unique) ∙ ap (λ (j : Job). fit unique_size j.unique) (job_in_lem b p h)
 
   pub unique_within : (p : ℕ) → p < job_count → live (job_in connection_count b p).row ≡ true → text_within unique_size (job_in connection_count b p).unique ≡ true
   unique_within p h v =
       let t = table_of connection_count b in
-      let w = rw (job-in b p h) at (all_at _ t.jobs p no_job sound-table.texts (omega (arith, thirty_two b))) in
+      let w = rw (job_in_lem b p h) at (all_at _ t.jobs p no_job sound_table.texts (omega (arith, thirty_two b))) in
       and_left (text_within unique_size (job_in connection_count b p).unique) _ (implies_use (live (job_in connection_count b p).row) _ w v)
 
   -- the place that holds the padded name is the place of the name
-  name-found : (f : Bytes) → text_within name_size f ≡ true → place_of (names_in b) (fit name_size f) ≡ known (table_of connection_count b).functions f
+  name_found : (f : Bytes) → text_within name_size f ≡ true → place_of (names_in b) (fit name_size f) ≡ known (table_of connection_count b).functions f
   unfolding names_in table_of
-  name-found f e =
+  name_found f e =
       find_numbers (λ q. agree 32 (get_or (names_in b) q []) (fit name_size f)) (λ x. same x.name f) (function_in connection_count b) 16
-      (λ q h. place_agrees 32 (get_or (names_in b) q []) (function_in connection_count b q).name f (places-at (name_in b) [] 16 q h ∙ name-place q h) (name_within q h) e)
+      (λ q h. place_agrees 32 (get_or (names_in b) q []) (function_in connection_count b q).name f (places_at (name_in b) [] 16 q h ∙ name_place q h) (name_within q h) e)
 
 -- ---- what the code finds among the names that it reads
 
 module _ (b : Bytes) (names : List Bytes) (sound : is_sound connection_count b ≡ true) (e : names ≡ names_in b)
     (f name : Bytes) (h : length f ≤ 32) (z : zero_free f ≡ true) (g : name ≡ fit name_size f) (p : Place) (k : p ≡ placed (place_of names name)) where
-  pub known-place : p ≡ placed (known (table_of connection_count b).functions f)
-  known-place = k ∙ rw (e, g) (ap placed (name-found b sound f (within_by 32 f h z)))
+  pub known_place : p ≡ placed (known (table_of connection_count b).functions f)
+  known_place = k ∙ rw (e, g) (ap placed (name_found b sound f (within_by 32 f h z)))
 
   -- a free place is one with the empty name
-  pub room-place : (r : Place) → r ≡ placed (or_else (unplaced p) (place_of names (fit name_size []))) → r ≡ placed (room_for (table_of connection_count b).functions f)
+  pub room_place : (r : Place) → r ≡ placed (or_else (unplaced p) (place_of names (fit name_size []))) → r ≡ placed (room_for (table_of connection_count b).functions f)
   unfolding first_zero
-  room-place r m =
-      let free : place_of names (fit name_size []) ≡ known (table_of connection_count b).functions [] = rw e (name-found b sound [] refl) in
-      m ∙ rw (searched (known (table_of connection_count b).functions f) p known-place, free)
+  room_place r m =
+      let free : place_of names (fit name_size []) ≡ known (table_of connection_count b).functions [] = rw e (name_found b sound [] refl) in
+      m ∙ rw (searched (known (table_of connection_count b).functions f) p known_place, free)

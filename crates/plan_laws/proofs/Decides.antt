@@ -20,7 +20,7 @@ use Rattle.server.specs.Rules.{obeys}
 use Rattle.server.specs.Requests.{Work, tells, reports, ends, throws, Request, reset, pre_sleep, echo, bad, can_do, cant_do, identify, grab, submit, work, get_status, option}
 use Rattle.server.specs.Events.{Send, plain, copy, Decision, refuse, noop, settle, opening, closing, left_by, deaf_to, unable, able_to, unable_to_all, sleeping, submitted_by, created, new_job, accepted, failure, to_listeners, worked, listeners_of, status_of, exceptions_name, catching, served, to_wake_in, held_job_of}
 use Rattle.server.specs.Refusals.{last_number}
-use Rattle.server_laws.proofs.Numbers.{row_at, able-at}
+use Rattle.server_laws.proofs.Numbers.{row_at, able_at_lem}
 use Rattle.server_laws.proofs.Going.{grabbed_live, joined_found, held_found}
 use Rattle.server_laws.proofs.Outcome.{Change, able, unknown, disabled, identified, cleared, slept, no_job_for, grabbed, joins, accepts, worker, status, optioned, echoed, Refuses, unread, no_room, no_place, no_serial, not_held, no_option}
 use Rattle.server_laws.proofs.Outcome as O
@@ -38,8 +38,8 @@ use Rattle.plan.specs.Parts.{left_row, new_row, heard, changed, final_table, ord
 use Rattle.plan.specs.Steps.{stepped}
 use Rattle.plan.specs.Plans as P
 use Rattle.plan.specs.Plans.{plan_can_do, plan_cant_do, plan_grab, plan_join, plan_work, plan_status, plan_served, plan_opening, plan_closing, refusal}
-use Rattle.plan_laws.proofs.Settled.{SameJob, SameTexts, settled-plan, final-values}
-use Rattle.plan_laws.proofs.Texts.{both-set, left-set, left-map, SameName, rowed_same, gone_same, live_same, own_texts, left_jobs}
+use Rattle.plan_laws.proofs.Settled.{SameJob, SameTexts, settled_plan, final_values}
+use Rattle.plan_laws.proofs.Texts.{both_set, left_set, left_map, SameName, rowed_same, gone_same, live_same, own_texts, left_jobs}
 use Rattle.plan_laws.proofs.Hearing.{told_option}
 use Rattle.plan_laws.proofs.Draws.{plan_of, Draws, refused, done, draws}
 
@@ -113,8 +113,8 @@ module _ (w : Words) (c : ℕ) (t : Table) where
         packets = l ++ map noop (to_wake_in x.able (dropped_rows x.rows) x.connections);
         table = final_table x (texts_after change);
       }) (sym e) o
-      ∙ sym (settled-plan u (texts_after change) same ss))
-      (carries step change order (subst (λ (x : V'.Values). values_of (final_table x (texts_after change)) ≡ settled_values x) e (final-values u (texts_after change) same)))
+      ∙ sym (settled_plan u (texts_after change) same ss))
+      (carries step change order (subst (λ (x : V'.Values). values_of (final_table x (texts_after change)) ≡ settled_values x) e (final_values u (texts_after change) same)))
 
 -- ---- each change
 
@@ -135,12 +135,12 @@ module _ (w : Words) (c : ℕ) (t : Table) (ok : obeys t ≡ true) where
       ∙ sym (map_map (λ (s : ℕ). remove s c) (λ (x : Function). x.able) (λ x. remove x.able c) (λ x. refl) t.functions)
 
   -- one function that other connections can do
-  able-values : (q : ℕ) (x : Function) (s : ℕ) → x.able ≡ s → with_ables (map (λ (y : Function). y.able) (set t.functions q x)) (values_of t) ≡ with_ables (set (ables_of t) q s) (values_of t)
-  able-values q x s e = ap (λ (l : List ℕ). with_ables l (values_of t)) (map_set (λ (y : Function). y.able) t.functions q x ∙ ap (set (ables_of t) q) e)
+  able_values : (q : ℕ) (x : Function) (s : ℕ) → x.able ≡ s → with_ables (map (λ (y : Function). y.able) (set t.functions q x)) (values_of t) ≡ with_ables (set (ables_of t) q s) (values_of t)
+  able_values q x s e = ap (λ (l : List ℕ). with_ables l (values_of t)) (map_set (λ (y : Function). y.able) t.functions q x ∙ ap (set (ables_of t) q) e)
 
   -- all listeners hear
-  to-all : (kind p : ℕ) → map (λ l. copy l kind) (members (length t.connections) (get_or (rows_of t) p no_row).listeners) ≡ map (λ l. copy l kind) (listeners_of t (job_at t p).row)
-  to-all kind p = ap (λ (r : JobRow). map (λ l. copy l kind) (members (length t.connections) r.listeners)) (row_at t p)
+  to_all : (kind p : ℕ) → map (λ l. copy l kind) (members (length t.connections) (get_or (rows_of t) p no_row).listeners) ≡ map (λ l. copy l kind) (listeners_of t (job_at t p).row)
+  to_all kind p = ap (λ (r : JobRow). map (λ l. copy l kind) (members (length t.connections) r.listeners)) (row_at t p)
 
   -- those with the option hear, and the others are told of a failure
   to_some : (kind p : ℕ) → let r = get_or (rows_of t) p no_row in
@@ -151,65 +151,65 @@ module _ (w : Words) (c : ℕ) (t : Table) (ok : obeys t ≡ true) where
   same_rows : (p : ℕ) (j : Job) → j.row ≡ (job_at t p).row → with_rows (map (λ (k : Job). k.row) (set t.jobs p j)) (values_of t) ≡ with_rows (rows_of t) (values_of t)
   same_rows p j e = ap (λ (l : List JobRow). with_rows l (values_of t)) (map-set_same (λ (k : Job). k.row) t.jobs p j no_job e)
 
-  other-rows : (v : V'.Values) (p : ℕ) (j : Job) (r : JobRow) → j.row ≡ r → with_rows (map (λ (k : Job). k.row) (set t.jobs p j)) v ≡ with_rows (set (rows_of t) p r) v
-  other-rows v p j r e = ap (λ (l : List JobRow). with_rows l v) (map_set (λ (k : Job). k.row) t.jobs p j ∙ ap (set (rows_of t) p) e)
+  other_rows : (v : V'.Values) (p : ℕ) (j : Job) (r : JobRow) → j.row ≡ r → with_rows (map (λ (k : Job). k.row) (set t.jobs p j)) v ≡ with_rows (set (rows_of t) p r) v
+  other_rows v p j r e = ap (λ (l : List JobRow). with_rows l v) (map_set (λ (k : Job). k.row) t.jobs p j ∙ ap (set (rows_of t) p) e)
 
-  p-work : {how : Work} {n d : Bytes} (h : Bytes) → Says w how n d → (p : ℕ) → held_job_of t c h ≡ some p
+  p_work : {how : Work} {n d : Bytes} (h : Bytes) → Says w how n d → (p : ℕ) → held_job_of t c h ≡ some p
       → Planned w c t (plan_work (some p) how (values_of t)) (settle (to_listeners how w.kind t (job_at t p).row) (set_job t p (worked how n d (job_at t p))))
   unfolding plan_work changed ordered values_of stepped to_listeners
-  p-work h (that_tells n d) p e =
+  p_work h (that_tells n d) p e =
       by_parts w c t (set_job t p (job_at t p)) _ SV.Nothing CV.Nothing _ (same_rows p (job_at t p) refl)
-      (record { ids = refl; hub = refl; functions = texts.functions; jobs = left-set SameJob p no_job _ (live_same (job_at t p) (held_found t c h p e)) texts.jobs })
-      (to-all w.kind p)
-  p-work h that_reports p e =
+      (record { ids = refl; hub = refl; functions = texts.functions; jobs = left_set SameJob p no_job _ (live_same (job_at t p) (held_found t c h p e)) texts.jobs })
+      (to_all w.kind p)
+  p_work h that_reports p e =
       by_parts w c t (set_job t p (with_texts w.second w.third (job_at t p))) _ SV.Nothing (CV.Texts p) _ (same_rows p (with_texts w.second w.third (job_at t p)) refl)
-      (record { ids = refl; hub = refl; functions = texts.functions; jobs = both-set SameJob p _ _ (live_same (with_texts w.second w.third (job_at t p)) (held_found t c h p e)) texts.jobs })
-      (to-all w.kind p)
-  p-work h (that_ends n d) p e =
-      by_parts w c t (set_job t p no_job) _ (SV.End p) CV.Nothing _ (other-rows (values_of t) p no_job no_row refl)
-      (record { ids = refl; hub = refl; functions = texts.functions; jobs = left-set SameJob p no_job _ (gone_same (job_at t p)) texts.jobs })
-      (to-all w.kind p)
-  p-work h (that_throws n d) p e =
-      by_parts w c t (set_job t p no_job) _ (SV.End p) CV.Nothing _ (other-rows (values_of t) p no_job no_row refl)
-      (record { ids = refl; hub = refl; functions = texts.functions; jobs = left-set SameJob p no_job _ (gone_same (job_at t p)) texts.jobs })
+      (record { ids = refl; hub = refl; functions = texts.functions; jobs = both_set SameJob p _ _ (live_same (with_texts w.second w.third (job_at t p)) (held_found t c h p e)) texts.jobs })
+      (to_all w.kind p)
+  p_work h (that_ends n d) p e =
+      by_parts w c t (set_job t p no_job) _ (SV.End p) CV.Nothing _ (other_rows (values_of t) p no_job no_row refl)
+      (record { ids = refl; hub = refl; functions = texts.functions; jobs = left_set SameJob p no_job _ (gone_same (job_at t p)) texts.jobs })
+      (to_all w.kind p)
+  p_work h (that_throws n d) p e =
+      by_parts w c t (set_job t p no_job) _ (SV.End p) CV.Nothing _ (other_rows (values_of t) p no_job no_row refl)
+      (record { ids = refl; hub = refl; functions = texts.functions; jobs = left_set SameJob p no_job _ (gone_same (job_at t p)) texts.jobs })
       (to_some w.kind p)
 
-  p-status : (o : Option ℕ) → Planned w c t (plan_status o) (settle (plain c 20 (status_of o w.job t) ∷ []) t)
+  p_status : (o : Option ℕ) → Planned w c t (plan_status o) (settle (plain c 20 (status_of o w.job t) ∷ []) t)
   unfolding changed ordered stepped
-  p-status none = by_parts w c t t _ SV.Nothing CV.Nothing OV.Unknown refl texts refl
-  p-status (some p) = by_parts w c t t _ SV.Nothing CV.Nothing (OV.Status p) refl texts refl
+  p_status none = by_parts w c t t _ SV.Nothing CV.Nothing OV.Unknown refl texts refl
+  p_status (some p) = by_parts w c t t _ SV.Nothing CV.Nothing (OV.Status p) refl texts refl
 
-  change-planned : {a : Request} {ss : List Send} {u : Table} (m : Change c t a ss u) → Suits w a → Planned w c t (plan_of c t m) (settle ss u)
+  change_planned : {a : Request} {ss : List Send} {u : Table} (m : Change c t a ss u) → Suits w a → Planned w c t (plan_of c t m) (settle ss u)
   unfolding plan_can_do plan_cant_do plan_grab plan_join sleeping unable_to_all changed ordered values_of stepped
-  change-planned (able f q e) for_can =
+  change_planned (able f q e) for_can =
       by_parts w c t (set_function t q (able_to c f (function_at t q))) [] _ (CV.Name q) OV.Nothing
-      (able-values q (able_to c f (function_at t q)) (insert (get_or (ables_of t) q 0) c) (ap (λ (s : ℕ). insert s c) (sym (able-at t q))))
-      (record { ids = refl; hub = refl; functions = both-set SameName q _ _ refl texts.functions; jobs = texts.jobs })
+      (able_values q (able_to c f (function_at t q)) (insert (get_or (ables_of t) q 0) c) (ap (λ (s : ℕ). insert s c) (sym (able_at_lem t q))))
+      (record { ids = refl; hub = refl; functions = both_set SameName q _ _ refl texts.functions; jobs = texts.jobs })
       refl
-  change-planned (unknown f e) (for_cannot g) = by_parts w c t t [] SV.Nothing CV.Nothing OV.Nothing refl texts refl
-  change-planned (disabled f q e) (for_cannot g) =
+  change_planned (unknown f e) (for_cannot g) = by_parts w c t t [] SV.Nothing CV.Nothing OV.Nothing refl texts refl
+  change_planned (disabled f q e) (for_cannot g) =
       by_parts w c t (set_function t q (unable c (function_at t q))) [] _ CV.Nothing OV.Nothing
-      (able-values q (unable c (function_at t q)) (remove (get_or (ables_of t) q 0) c) (ap (λ (s : ℕ). remove s c) (sym (able-at t q))))
-      (record { ids = refl; hub = refl; functions = left-set SameName q no_function _ refl texts.functions; jobs = texts.jobs })
+      (able_values q (unable c (function_at t q)) (remove (get_or (ables_of t) q 0) c) (ap (λ (s : ℕ). remove s c) (sym (able_at_lem t q))))
+      (record { ids = refl; hub = refl; functions = left_set SameName q no_function _ refl texts.functions; jobs = texts.jobs })
       refl
-  change-planned (identified i) for_id = by_parts w c t (set_id t c w.first) [] SV.Nothing (CV.Id c) OV.Nothing refl (record { ids = refl; hub = refl; functions = texts.functions; jobs = texts.jobs }) refl
-  change-planned cleared for_reset =
+  change_planned (identified i) for_id = by_parts w c t (set_id t c w.first) [] SV.Nothing (CV.Id c) OV.Nothing refl (record { ids = refl; hub = refl; functions = texts.functions; jobs = texts.jobs }) refl
+  change_planned cleared for_reset =
       by_parts w c t (unable_to_all c t) [] (SV.Reset c) CV.Nothing OV.Nothing (ap (λ (l : List ℕ). with_ables l (values_of t)) unables)
-      (record { ids = refl; hub = refl; functions = left-map SameName (unable c) (λ a b e. e) texts.functions; jobs = texts.jobs })
+      (record { ids = refl; hub = refl; functions = left_map SameName (unable c) (λ a b e. e) texts.functions; jobs = texts.jobs })
       refl
-  change-planned slept for_sleep = by_parts w c t (sleeping true c t) [] _ CV.Nothing OV.Nothing refl (record { ids = refl; hub = refl; functions = texts.functions; jobs = texts.jobs }) refl
-  change-planned (no_job_for uniq e) (for_grab v) = by_parts w c t (sleeping false c t) _ _ CV.Nothing OV.NoJob refl (record { ids = refl; hub = refl; functions = texts.functions; jobs = texts.jobs }) refl
-  change-planned (grabbed uniq p e) (for_grab v) =
+  change_planned slept for_sleep = by_parts w c t (sleeping true c t) [] _ CV.Nothing OV.Nothing refl (record { ids = refl; hub = refl; functions = texts.functions; jobs = texts.jobs }) refl
+  change_planned (no_job_for uniq e) (for_grab v) = by_parts w c t (sleeping false c t) _ _ CV.Nothing OV.NoJob refl (record { ids = refl; hub = refl; functions = texts.functions; jobs = texts.jobs }) refl
+  change_planned (grabbed uniq p e) (for_grab v) =
       by_parts w c t (set_job (sleeping false c t) p (with_row (with_holder (suc c) (job_at t p).row) (job_at t p))) _ _ CV.Nothing (OV.Assign uniq p)
-      (other-rows (values_of (sleeping false c t)) p (with_row (with_holder (suc c) (job_at t p).row) (job_at t p)) _ (ap (with_holder (suc c)) (sym (row_at t p))))
-      (record { ids = refl; hub = refl; functions = texts.functions; jobs = left-set SameJob p no_job _ (rowed_same (job_at t p) _ (grabbed_live t c p e)) texts.jobs })
+      (other_rows (values_of (sleeping false c t)) p (with_row (with_holder (suc c) (job_at t p).row) (job_at t p)) _ (ap (with_holder (suc c)) (sym (row_at t p))))
+      (record { ids = refl; hub = refl; functions = texts.functions; jobs = left_set SameJob p no_job _ (rowed_same (job_at t p) _ (grabbed_live t c p e)) texts.jobs })
       refl
-  change-planned (joins priority background f u size p e) (for_submit priority' background' size') =
+  change_planned (joins priority background f u size p e) (for_submit priority' background' size') =
       by_parts w c t (set_job t p (with_row (submitted_by c background (job_at t p).row) (job_at t p))) _ _ CV.Nothing (OV.Created _)
-      (other-rows (values_of t) p (with_row (submitted_by c background (job_at t p).row) (job_at t p)) _ (ap (submitted_by c background) (sym (row_at t p))))
-      (record { ids = refl; hub = refl; functions = texts.functions; jobs = left-set SameJob p no_job _ (rowed_same (job_at t p) _ (submitted_live c background (job_at t p).row ∙ joined_found t f u p e)) texts.jobs })
+      (other_rows (values_of t) p (with_row (submitted_by c background (job_at t p).row) (job_at t p)) _ (ap (submitted_by c background) (sym (row_at t p))))
+      (record { ids = refl; hub = refl; functions = texts.functions; jobs = left_set SameJob p no_job _ (rowed_same (job_at t p) _ (submitted_live c background (job_at t p).row ∙ joined_found t f u p e)) texts.jobs })
       (ap (λ (r : JobRow). created t.hub c r.serial ∷ []) (row_at t p))
-  change-planned (accepts priority background f u size q p e₁ e₂ e₃ m) (for_submit priority' background' size') =
+  change_planned (accepts priority background f u size q p e₁ e₂ e₃ m) (for_submit priority' background' size') =
       by_parts w c t (accepted q f p (new_job c priority background q u size (suc t.last)) t) _ _ (CV.Job p q) (OV.Created (suc t.last))
       (λ i. with_last (sym (new_row_serial c priority background q size (suc t.last)) i)
       (with_ables (map-set_same (λ (x : Function). x.able) t.functions q (with_name f (function_at t q)) no_function refl i)
@@ -217,55 +217,55 @@ module _ (w : Words) (c : ℕ) (t : Table) (ok : obeys t ≡ true) where
       (record {
         ids = refl;
         hub = refl;
-        functions = both-set SameName q _ _ refl texts.functions;
-        jobs = both-set SameJob p _ _ (record { unfinished = λ e. refl; free = λ e. clash (submitted_live c background _ ∙ ap not (eqb-suc-zero t.last)) e }) texts.jobs;
+        functions = both_set SameName q _ _ refl texts.functions;
+        jobs = both_set SameJob p _ _ (record { unfinished = λ e. refl; free = λ e. clash (submitted_live c background _ ∙ ap not (eqb-suc-zero t.last)) e }) texts.jobs;
       })
       refl
-  change-planned (worker how kind h n d p e) (for_work h' s) = p-work h s p e
-  change-planned (status h o e) for_status = p-status o
-  change-planned (optioned name e) (for_option name') =
+  change_planned (worker how kind h n d p e) (for_work h' s) = p_work h s p e
+  change_planned (status h o e) for_status = p_status o
+  change_planned (optioned name e) (for_option name') =
       by_parts w c t (set_connection t c (catching (connection_at t c))) _ _ CV.Nothing OV.Optioned refl (record { ids = refl; hub = refl; functions = texts.functions; jobs = texts.jobs })
       (ap (λ (b : Bytes). plain c 27 (b ∷ []) ∷ []) (sym (same_is name exceptions_name e)))
-  change-planned echoed for_echo = by_parts w c t t _ SV.Nothing CV.Nothing OV.Echo refl texts refl
+  change_planned echoed for_echo = by_parts w c t t _ SV.Nothing CV.Nothing OV.Echo refl texts refl
 
   -- ---- refusals
 
-  refuses-planned : {a : Request} {n : ℕ} → Refuses c t a n → Suits w a → Planned w c t (refusal n) (refuse c n t)
-  refuses-planned (unread n) (for_bad n' l m) = declined n l m
-  refuses-planned (no_room f e) s = declined 11 (omega arith) (omega arith)
-  refuses-planned (O.no_function priority background f u size e₁ e₂) s = declined 11 (omega arith) (omega arith)
-  refuses-planned (no_place priority background f u size q e₁ e₂ e₃) s = declined 12 (omega arith) (omega arith)
-  refuses-planned (no_serial priority background f u size q p e₁ e₂ e₃ m) s = declined 13 (omega arith) (omega arith)
-  refuses-planned (not_held how kind h n d e) s = declined 14 (omega arith) (omega arith)
-  refuses-planned (no_option name e) s = declined 15 (omega arith) (omega arith)
+  refuses_planned : {a : Request} {n : ℕ} → Refuses c t a n → Suits w a → Planned w c t (refusal n) (refuse c n t)
+  refuses_planned (unread n) (for_bad n' l m) = declined n l m
+  refuses_planned (no_room f e) s = declined 11 (omega arith) (omega arith)
+  refuses_planned (O.no_function priority background f u size e₁ e₂) s = declined 11 (omega arith) (omega arith)
+  refuses_planned (no_place priority background f u size q e₁ e₂ e₃) s = declined 12 (omega arith) (omega arith)
+  refuses_planned (no_serial priority background f u size q p e₁ e₂ e₃ m) s = declined 13 (omega arith) (omega arith)
+  refuses_planned (not_held how kind h n d e) s = declined 14 (omega arith) (omega arith)
+  refuses_planned (no_option name e) s = declined 15 (omega arith) (omega arith)
 
   -- ---- every event
 
-  draws-planned : {a : Request} {p : Plan} {d : Decision} → Draws c t a p d → Suits w a → Planned w c t p d
-  draws-planned (refused a n r) s = refuses-planned r s
-  draws-planned (done m) s = change-planned m s
+  draws_planned : {a : Request} {p : Plan} {d : Decision} → Draws c t a p d → Suits w a → Planned w c t p d
+  draws_planned (refused a n r) s = refuses_planned r s
+  draws_planned (done m) s = change_planned m s
 
   -- the plan of a request does what the definitions decide, with all words that suit what it asks
-  pub served-planned : {a : Request} → Suits w a → Planned w c t (plan_served c a t) (served c a t)
-  served-planned {a} s = draws-planned (draws c t a) s
+  pub served_planned : {a : Request} → Suits w a → Planned w c t (plan_served c a t) (served c a t)
+  served_planned {a} s = draws_planned (draws c t a) s
 
-  pub opening-planned : Planned w c t (plan_opening c) (settle [] (opening c t))
+  pub opening_planned : Planned w c t (plan_opening c) (settle [] (opening c t))
   unfolding opening changed ordered values_of stepped
-  opening-planned = by_parts w c t (opening c t) _ _ CV.Nothing OV.Nothing refl (record { ids = refl; hub = refl; functions = texts.functions; jobs = texts.jobs }) refl
+  opening_planned = by_parts w c t (opening c t) _ _ CV.Nothing OV.Nothing refl (record { ids = refl; hub = refl; functions = texts.functions; jobs = texts.jobs }) refl
 
-  left-row : (j : Job) → (left_by c j).row ≡ left_row c j.row
-  left-row j = go (held_by c j.row)
+  left_row_lem : (j : Job) → (left_by c j).row ≡ left_row c j.row
+  left_row_lem j = go (held_by c j.row)
     where
       go : (b : Bool) → (cond b (with_texts (48 ∷ []) (48 ∷ []) (with_row (with_holder 0 (deaf_to c j.row)) j)) (with_row (deaf_to c j.row) j)).row
           ≡ cond b (with_holder 0 (deaf_to c j.row)) (deaf_to c j.row)
       go true = refl
       go false = refl
 
-  pub closing-planned : Planned w c t (plan_closing c) (settle [] (closing c t))
+  pub closing_planned : Planned w c t (plan_closing c) (settle [] (closing c t))
   unfolding closing changed ordered values_of stepped
-  closing-planned =
+  closing_planned =
       by_parts w c t (closing c t) _ (SV.Leave c) (CV.Left c) OV.Nothing
       (λ i. with_connection c closed (with_ables (unables i)
-      (with_rows ((map_map (λ (j : Job). j.row) (left_by c) (λ j. left_row c j.row) left-row t.jobs ∙ sym (map_map (left_row c) (λ (j : Job). j.row) (λ j. left_row c j.row) (λ j. refl) t.jobs)) i) (values_of t))))
-      (record { ids = refl; hub = refl; functions = left-map SameName (unable c) (λ a b e. e) texts.functions; jobs = left_jobs c texts.jobs })
+      (with_rows ((map_map (λ (j : Job). j.row) (left_by c) (λ j. left_row c j.row) left_row_lem t.jobs ∙ sym (map_map (left_row c) (λ (j : Job). j.row) (λ j. left_row c j.row) (λ j. refl) t.jobs)) i) (values_of t))))
+      (record { ids = refl; hub = refl; functions = left_map SameName (unable c) (λ a b e. e) texts.functions; jobs = left_jobs c texts.jobs })
       refl

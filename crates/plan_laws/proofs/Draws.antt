@@ -47,66 +47,66 @@ module _ (c : ℕ) (t : Table) where
 
   -- ---- the walk
 
-  d-canDo : (f : Bytes) (o : Option ℕ) → room_for t.functions f ≡ o → Draws (can_do f) (plan_can_do o c (values_of t)) (can_do_at o c f t)
+  d_can_do : (f : Bytes) (o : Option ℕ) → room_for t.functions f ≡ o → Draws (can_do f) (plan_can_do o c (values_of t)) (can_do_at o c f t)
   unfolding can_do_at plan_can_do
-  d-canDo f none e = refused _ _ (no_room f e)
-  d-canDo f (some q) e = done (able f q e)
+  d_can_do f none e = refused _ _ (no_room f e)
+  d_can_do f (some q) e = done (able f q e)
 
-  d-cantDo : (f : Bytes) (o : Option ℕ) → known t.functions f ≡ o → Draws (cant_do f) (plan_cant_do o c (values_of t)) (cant_do_at o c t)
+  d_cant_do : (f : Bytes) (o : Option ℕ) → known t.functions f ≡ o → Draws (cant_do f) (plan_cant_do o c (values_of t)) (cant_do_at o c t)
   unfolding cant_do_at
-  d-cantDo f none e = done (unknown f e)
-  d-cantDo f (some q) e = done (disabled f q e)
+  d_cant_do f none e = done (unknown f e)
+  d_cant_do f (some q) e = done (disabled f q e)
 
-  d-work : (how : Work) (kind : ℕ) (h n d : Bytes) (o : Option ℕ) → held_job_of t c h ≡ o
+  d_work : (how : Work) (kind : ℕ) (h n d : Bytes) (o : Option ℕ) → held_job_of t c h ≡ o
       → Draws (work how kind h n d) (plan_work o how (values_of t)) (work_at o how kind c n d t)
   unfolding work_at plan_work
-  d-work how kind h n d none e = refused _ _ (not_held how kind h n d e)
-  d-work how kind h n d (some p) e = done (worker how kind h n d p e)
+  d_work how kind h n d none e = refused _ _ (not_held how kind h n d e)
+  d_work how kind h n d (some p) e = done (worker how kind h n d p e)
 
-  d-option : (name : Bytes) (b : Bool) → same name exceptions_name ≡ b → Draws (option name) (plan_option b c (values_of t)) (option_if b c name t)
+  d_option : (name : Bytes) (b : Bool) → same name exceptions_name ≡ b → Draws (option name) (plan_option b c (values_of t)) (option_if b c name t)
   unfolding option_if
-  d-option name false e = refused _ _ (no_option name e)
-  d-option name true e = done (optioned name e)
+  d_option name false e = refused _ _ (no_option name e)
+  d_option name true e = done (optioned name e)
 
   module _ (priority : ℕ) (background : Bool) (f u : Bytes) (size : ℕ) where
     abbrev asks : Request
     asks = submit priority background f u size
 
-    d-last : (q p : ℕ) → joined t f u ≡ none → room_for t.functions f ≡ some q → free_place t ≡ some p → (b : Bool) → ltb t.last 4294967295 ≡ b
+    d_last : (q p : ℕ) → joined t f u ≡ none → room_for t.functions f ≡ some q → free_place t ≡ some p → (b : Bool) → ltb t.last 4294967295 ≡ b
         → Draws asks (plan_new (some q) (some p) c priority background size (values_of t)) (submit_new (some q) (some p) c priority background f u size t)
     unfolding submit_new plan_new values_of
-    d-last q p j e g true h = rw h (done (accepts priority background f u size q p j e g (ltb-true t.last 4294967295 h)))
-    d-last q p j e g false h = rw h (refused _ _ (no_serial priority background f u size q p j e g h))
+    d_last q p j e g true h = rw h (done (accepts priority background f u size q p j e g (ltb-true t.last 4294967295 h)))
+    d_last q p j e g false h = rw h (refused _ _ (no_serial priority background f u size q p j e g h))
 
-    d-new : joined t f u ≡ none → (o r : Option ℕ) → room_for t.functions f ≡ o → free_place t ≡ r
+    d_new : joined t f u ≡ none → (o r : Option ℕ) → room_for t.functions f ≡ o → free_place t ≡ r
         → Draws asks (plan_new o r c priority background size (values_of t)) (submit_new o r c priority background f u size t)
     unfolding submit_new plan_new
-    d-new j none r e g = refused _ _ (no_function priority background f u size j e)
-    d-new j (some q) none e g = refused _ _ (no_place priority background f u size q j e g)
-    d-new j (some q) (some p) e g = d-last q p j e g _ refl
+    d_new j none r e g = refused _ _ (no_function priority background f u size j e)
+    d_new j (some q) none e g = refused _ _ (no_place priority background f u size q j e g)
+    d_new j (some q) (some p) e g = d_last q p j e g _ refl
 
-    d-submit : (o : Option ℕ) → joined t f u ≡ o
+    d_submit : (o : Option ℕ) → joined t f u ≡ o
         → Draws asks (plan_submit o (room_for t.functions f) (free_place t) c priority background size (values_of t)) (submit_to o c priority background f u size t)
     unfolding submit_to plan_submit
-    d-submit none e = d-new e (room_for t.functions f) (free_place t) refl refl
-    d-submit (some p) e = done (joins priority background f u size p e)
+    d_submit none e = d_new e (room_for t.functions f) (free_place t) refl refl
+    d_submit (some p) e = done (joins priority background f u size p e)
 
-  d-grab : (uniq : Bool) (o : Option ℕ) → best t c ≡ o → Draws (grab uniq) (plan_grab o uniq c (values_of t)) (served c (grab uniq) t)
+  d_grab : (uniq : Bool) (o : Option ℕ) → best t c ≡ o → Draws (grab uniq) (plan_grab o uniq c (values_of t)) (served c (grab uniq) t)
   unfolding served grab_at
-  d-grab uniq none e = rw e (done (no_job_for uniq e))
-  d-grab uniq (some p) e = rw e (done (grabbed uniq p e))
+  d_grab uniq none e = rw e (done (no_job_for uniq e))
+  d_grab uniq (some p) e = rw e (done (grabbed uniq p e))
 
   pub draws : (a : Request) → Draws a (plan_served c a t) (served c a t)
   unfolding served plan_served status_at
   draws (bad n) = refused _ _ (unread n)
-  draws (can_do f) = d-canDo f (room_for t.functions f) refl
-  draws (cant_do f) = d-cantDo f (known t.functions f) refl
+  draws (can_do f) = d_can_do f (room_for t.functions f) refl
+  draws (cant_do f) = d_cant_do f (known t.functions f) refl
   draws (identify i) = done (identified i)
   draws reset = done cleared
   draws pre_sleep = done slept
-  draws (grab uniq) = d-grab uniq (best t c) refl
-  draws (submit priority background f u size) = d-submit priority background f u size (joined t f u) refl
-  draws (work how kind h n d) = d-work how kind h n d _ refl
+  draws (grab uniq) = d_grab uniq (best t c) refl
+  draws (submit priority background f u size) = d_submit priority background f u size (joined t f u) refl
+  draws (work how kind h n d) = d_work how kind h n d _ refl
   draws (get_status h) = done (status h _ refl)
-  draws (option name) = d-option name _ refl
+  draws (option name) = d_option name _ refl
   draws echo = done echoed

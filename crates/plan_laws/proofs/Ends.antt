@@ -17,13 +17,13 @@ use Rattle.lists.specs.declared.Place.{Place}
 use Rattle.lists.specs.declared.Place.TheVariants.{At, Nowhere}
 use Rattle.lists.proofs.Cases.{cond_both}
 use Rattle.lists.proofs.Maps.{map_set}
-use Rattle.lists.proofs.Rows.{clash, never, iff, all_set, any_at, any_where, length-mapFrom, map_from_at}
+use Rattle.lists.proofs.Rows.{clash, never, iff, all_set, any_at, any_where, length_map_from, map_from_at}
 use Rattle.server.specs.declared.Connection.{Connection}
 use Rattle.server.specs.declared.JobRow.{JobRow}
 use Rattle.server.specs.Table.{Function, Job, Table, closed, no_row, no_function, connection_at, function_at, job_at, rows_of, ables_of, queued, names, wanted, able, grabbable, with_connections, with_ids, with_functions, set_connection, set_job}
 use Rattle.server.specs.Events.{dropped, wakes, awake, woken_in, woken, forgot, to_wake_in, to_wake}
 use Rattle.server.specs.Rules.{queued_awaited}
-use Rattle.server_laws.proofs.Numbers.{row_at, able-at, rows_long, row-passes, row-where}
+use Rattle.server_laws.proofs.Numbers.{row_at, able_at_lem, rows_long, row_passes, row_where}
 use Rattle.server_laws.proofs.Obeyed.{Obeyed}
 use Rattle.server_laws.proofs.AtRest.{drops_none, forgets_none, sleeps_on, choose_same}
 use Rattle.server_laws.proofs.Settled.{rouse, forgot_at}
@@ -51,18 +51,18 @@ module _ (u : Table) (e : Ending) (s : Settles u e) where
   abbrev roused : ℕ → Connection → Connection
   roused c x = cond (has e.woken c) (awake x) x
 
-  connections-left : map_from (rouse u) 0 u.connections ≡ map_from roused 0 u.connections
-  connections-left =
-      let l = length-mapFrom (rouse u) 0 u.connections in
-      ext_get_or closed (map_from (rouse u) 0 u.connections) (map_from roused 0 u.connections) (l ∙ sym (length-mapFrom roused 0 u.connections))
+  connections_left : map_from (rouse u) 0 u.connections ≡ map_from roused 0 u.connections
+  connections_left =
+      let l = length_map_from (rouse u) 0 u.connections in
+      ext_get_or closed (map_from (rouse u) 0 u.connections) (map_from roused 0 u.connections) (l ∙ sym (length_map_from roused 0 u.connections))
       (λ c h. map_from_at (rouse u) closed (λ i. refl) u.connections c
       ∙ ap (λ (b : Bool). cond b (awake (connection_at u c)) (connection_at u c)) (s.rouses c (rw l at h))
       ∙ sym (map_from_at roused closed (λ i. cond_both (λ (x : Connection). x ≡ closed) (has e.woken i) refl refl) u.connections c))
 
-  functions-left : (forgot u).functions ≡ without e.forgotten u.functions
+  functions_left : (forgot u).functions ≡ without e.forgotten u.functions
   unfolding forgot
-  functions-left =
-      let l = length-mapFrom (λ q x. cond (wanted (rows_of u) q x.able) x no_function) 0 u.functions in
+  functions_left =
+      let l = length_map_from (λ q x. cond (wanted (rows_of u) q x.able) x no_function) 0 u.functions in
       ext_get_or no_function (forgot u).functions (without e.forgotten u.functions) (l ∙ sym (length_without e.forgotten u.functions))
       (λ q h. forgot_at u q ∙ s.keeps q (rw l at h))
 
@@ -70,11 +70,11 @@ module _ (u : Table) (e : Ending) (s : Settles u e) where
   unfolding forgot woken_in ended
   settles =
       ap (λ (x : Table). forgot (woken x)) (drops_none u s.awaited)
-      ∙ (λ i. with_connections (connections-left i) (with_functions (functions-left i) u))
+      ∙ (λ i. with_connections (connections_left i) (with_functions (functions_left i) u))
 
-  pub wakes-members : to_wake (dropped u) ≡ members (length u.connections) e.woken
+  pub wakes_members : to_wake (dropped u) ≡ members (length u.connections) e.woken
   unfolding to_wake_in
-  wakes-members =
+  wakes_members =
       ap (λ (x : Table). to_wake x) (drops_none u s.awaited) ∙ choose_same _ (has e.woken) (length u.connections) s.rouses
       ∙ sym (members_filter (length u.connections) e.woken)
 
@@ -119,18 +119,18 @@ module _ (t : Table) (o : Obeyed t) where
   -- ---- nothing
 
   -- but client ids
-  pub nothing-settles : (is : List Bytes) → Settles (with_ids is t) (record { woken = 0; forgotten = Nowhere })
-  nothing-settles is =
+  pub nothing_settles : (is : List Bytes) → Settles (with_ids is t) (record { woken = 0; forgotten = Nowhere })
+  nothing_settles is =
       record { awaited = o.awaited; rouses = λ c l. sleeps (with_ids is t) c l (λ e. e) (λ e. e); keeps = λ q h. all_kept (rows_of t) q refl }
 
   -- ---- one job, which is no more grabbable than before; and a connection may stop sleeping
 
-  pub job-settles : (cs : List Connection) (p : ℕ) (k : Job) (place : Place) → length cs ≡ length t.connections
+  pub job_settles : (cs : List Connection) (p : ℕ) (k : Job) (place : Place) → length cs ≡ length t.connections
       → ((c : ℕ) → (get_or cs c closed).asleep ≡ true → (connection_at t c).asleep ≡ true)
       → p < length t.jobs → NoMore (job_at t p) k → Awaited k.row
       → ((q : ℕ) → cond (wanted (set (rows_of t) p k.row) q (function_at t q).able) (function_at t q) no_function ≡ get_or (without place t.functions) q no_function)
       → Settles (with_connections cs (set_job t p k)) (record { woken = 0; forgotten = place })
-  job-settles cs p k place long awake inside m a f =
+  job_settles cs p k place long awake inside m a f =
       record {
         awaited = all_set (λ j. implies (queued j.row) (j.row.background || not (is_empty j.row.listeners))) t.jobs p k o.awaited a;
         rouses = λ c l. sleeps (with_connections cs (set_job t p k)) c (rw long at l) (awake c)
@@ -145,8 +145,8 @@ module _ (t : Table) (o : Obeyed t) where
 
   module _ (c : ℕ) (x : Connection) (woken' : ℕ)
       (own : x.asleep && any (grabbable (ables_of t) c) (rows_of t) ≡ has woken' c) (others : (k : ℕ) → ¬ (k ≡ c) → has woken' k ≡ false) where
-    pub connection-settles : Settles (set_connection t c x) (record { woken = woken'; forgotten = Nowhere })
-    connection-settles =
+    pub connection_settles : Settles (set_connection t c x) (record { woken = woken'; forgotten = Nowhere })
+    connection_settles =
         record {
           awaited = o.awaited;
           rouses = λ k l. go k (rw length-set at l) (ℕ_discrete k c);
@@ -185,32 +185,32 @@ module _ (t : Table) (o : Obeyed t) where
             go (no d) =
                 let (m, k) = jobs i l d in
                 let a : grabbable (ables_of t) c (job_at u i).row ≡ true
-                = rw (able-at t (job_at u i).row.function, ← (others (job_at u i).row.function d), ← (able-at u (job_at u i).row.function)) g in
-                clash (and_both (connection_at t c).asleep _ asleep (row-passes t (grabbable (ables_of t) c) i m (rw k at a))) (sleeps_on t o.idle c inside)
+                = rw (able_at_lem t (job_at u i).row.function, ← (others (job_at u i).row.function d), ← (able_at_lem u (job_at u i).row.function)) g in
+                clash (and_both (connection_at t c).asleep _ asleep (row_passes t (grabbable (ables_of t) c) i m (rw k at a))) (sleeps_on t o.idle c inside)
 
-        work-of : any (grabbable (ables_of u) c) (rows_of u) ≡ any (waits q) (rows_of u) && able (ables_of u) q c
-        work-of = iff _ _ there back
+        work_of_lem : any (grabbable (ables_of u) c) (rows_of u) ≡ any (waits q) (rows_of u) && able (ables_of u) q c
+        work_of_lem = iff _ _ there back
           where
             there : any (grabbable (ables_of u) c) (rows_of u) ≡ true → any (waits q) (rows_of u) && able (ables_of u) q c ≡ true
             there e =
-                let (i, l, g) = row-where u (grabbable (ables_of u) c) e in
+                let (i, l, g) = row_where u (grabbable (ables_of u) c) e in
                 let f : (job_at u i).row.function ≡ q = only i l g in
                 and_both (any (waits q) (rows_of u)) _
-                (row-passes u (waits q) i l (and_both (queued (job_at u i).row) _ (and_left (queued (job_at u i).row) _ g) (eq-eqb (job_at u i).row.function q f)))
+                (row_passes u (waits q) i l (and_both (queued (job_at u i).row) _ (and_left (queued (job_at u i).row) _ g) (eq-eqb (job_at u i).row.function q f)))
                 (subst (λ (n : ℕ). able (ables_of u) n c ≡ true) f (and_right (queued (job_at u i).row) _ g))
 
             back : any (waits q) (rows_of u) && able (ables_of u) q c ≡ true → any (grabbable (ables_of u) c) (rows_of u) ≡ true
             back e =
-                let (i, l, w) = row-where u (waits q) (and_left (any (waits q) (rows_of u)) _ e) in
-                row-passes u (grabbable (ables_of u) c) i l
+                let (i, l, w) = row_where u (waits q) (and_left (any (waits q) (rows_of u)) _ e) in
+                row_passes u (grabbable (ables_of u) c) i l
                 (and_both (queued (job_at u i).row) _ (and_left (queued (job_at u i).row) _ w)
                 (subst (λ (n : ℕ). able (ables_of u) n c ≡ true) (sym (eqb-true (job_at u i).row.function q (and_right (queued (job_at u i).row) _ w))) (and_right (any (waits q) (rows_of u)) _ e)))
 
       -- so the sleepers that wake are those able to do it, if a job of it waits
-      pub one-rouses : (woken' : ℕ) (b : Bool) → any (waits q) (rows_of u) ≡ b → ((c : ℕ) → has woken' c ≡ b && ((connection_at t c).asleep && able (ables_of u) q c))
+      pub one_rouses : (woken' : ℕ) (b : Bool) → any (waits q) (rows_of u) ≡ b → ((c : ℕ) → has woken' c ≡ b && ((connection_at t c).asleep && able (ables_of u) q c))
           → (c : ℕ) → c < length t.connections → wakes (ables_of u) (rows_of u) c (connection_at t c) ≡ has woken' c
-      one-rouses woken' b e h c l = go (connection_at t c).asleep refl
+      one_rouses woken' b e h c l = go (connection_at t c).asleep refl
         where
           go : (a : Bool) → (connection_at t c).asleep ≡ a → (connection_at t c).asleep && any (grabbable (ables_of u) c) (rows_of u) ≡ has woken' c
-          go true s = rw (s, work-of c l s, e) (sym (h c ∙ ap (λ (a : Bool). b && (a && able (ables_of u) q c)) s))
+          go true s = rw (s, work_of_lem c l s, e) (sym (h c ∙ ap (λ (a : Bool). b && (a && able (ables_of u) q c)) s))
           go false s = rw s (sym (h c ∙ ap (λ (a : Bool). b && (a && able (ables_of u) q c)) s ∙ and_false b))

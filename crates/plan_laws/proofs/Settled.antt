@@ -61,20 +61,20 @@ able_wanted rs ables q ea (All2.more {a = f} {b = x} {xs = fs} e r) =
 
 module _ (u s : Table) (same : SameTexts u s) where
   -- the table that settling leaves
-  pub settled-table : forgot (woken (dropped u)) ≡ final_table (values_of u) s
+  pub settled_table : forgot (woken (dropped u)) ≡ final_table (values_of u) s
   unfolding forgot dropped final_table settled_values values_of
-  settled-table = λ i.
+  settled_table = λ i.
       let rs : List JobRow = dropped_rows_lem u.jobs i in
       with_hub (same.hub i) (with_ids (same.ids i) (with_jobs (rowed_jobs same.jobs i) (with_connections (woken_in (ables_of u) rs u.connections)
       (with_functions ((ap (λ (l : List JobRow). map_from (λ q x. cond (wanted l q x.able) x no_function) 0 u.functions) (dropped_rows_lem u.jobs)
       ∙ able_wanted (dropped_rows (rows_of u)) (ables_of u) 0 (λ k. ap (λ (m : ℕ). get_or (ables_of u) m 0) (zero-add k)) same.functions) i) u))))
 
-  pub settled-plan : (ss : List Send)
+  pub settled_plan : (ss : List Send)
       → settle ss u ≡ record { number = 0; packets = ss ++ map noop (to_wake_in (ables_of u) (dropped_rows (rows_of u)) u.connections); table = final_table (values_of u) s }
   unfolding settle
-  settled-plan ss = λ i. record { number = 0; packets = ss ++ map noop (wake_values u i); table = settled-table i }
+  settled_plan ss = λ i. record { number = 0; packets = ss ++ map noop (wake_values u i); table = settled_table i }
 
   -- its numbers are the settled ones
-  pub final-values : values_of (final_table (values_of u) s) ≡ settled_values (values_of u)
+  pub final_values : values_of (final_table (values_of u) s) ≡ settled_values (values_of u)
   unfolding settle
-  final-values = ap values_of (sym settled-table) ∙ settled_values_lem [] u
+  final_values = ap values_of (sym settled_table) ∙ settled_values_lem [] u

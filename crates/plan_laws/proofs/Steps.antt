@@ -19,7 +19,7 @@ use Rattle.lists.specs.declared.Place.TheVariants.{At, Nowhere}
 use Rattle.lists.proofs.Cases.{cond_both}
 use Rattle.lists.proofs.Maps.{map_set, any_set_same}
 use Rattle.lists.proofs.Rows.{clash, or_right, set_own, all_row, all_at, all_set, row_set}
-use Rattle.server.proofs.Rows.{in-range}
+use Rattle.server.proofs.Rows.{in_range}
 use Rattle.lists.proofs.Searches.{found}
 use Rattle.server.specs.declared.Connection.{Connection}
 use Rattle.server.specs.declared.JobRow.{JobRow}
@@ -27,7 +27,7 @@ use Rattle.server.specs.Table.{Function, Job, Table, closed, no_job, no_row, no_
 use Rattle.server.specs.Requests.{Work, Request}
 use Rattle.server.specs.Events.{Send, Decision, dropped, new_job, accepted, submitted_by, holds_handle, to_wake_in, held_job_of}
 use Rattle.server.specs.Rules.{row_has_meaning, obeys}
-use Rattle.server_laws.proofs.Numbers.{row_at, able-at, rows_long, row-passes}
+use Rattle.server_laws.proofs.Numbers.{row_at, able_at_lem, rows_long, row_passes}
 use Rattle.server_laws.proofs.Obeyed.{Obeyed, obeyed}
 use Rattle.server_laws.proofs.Sound.{row_means}
 use Rattle.server_laws.proofs.AtRest.{drops_none}
@@ -51,11 +51,11 @@ use Rattle.plan.specs.Steps.{stepped, is_lean, sparse, waits, ending, ended, Wit
 use Rattle.plan.specs.Plans.{done, sleeping_row, plan_can_do, plan_cant_do, plan_grab, plan_join, plan_work, plan_status, plan_served, plan_opening, plan_closing}
 use Rattle.plan.proofs.Numbers.{dropped_rows_lem, wake_values}
 use Rattle.plan_settle.proofs.Sleepers.{has_if, has_to_wake}
-use Rattle.plan_laws.proofs.Settled.{SameJob, SameTexts, settled-table}
-use Rattle.plan_laws.proofs.Texts.{both-set, left-set, SameName, rowed_same, gone_same, live_same, own_texts}
+use Rattle.plan_laws.proofs.Settled.{SameJob, SameTexts, settled_table}
+use Rattle.plan_laws.proofs.Texts.{both_set, left_set, SameName, rowed_same, gone_same, live_same, own_texts}
 use Rattle.plan_laws.proofs.Draws.{plan_of, Draws, refused, draws}
 use Rattle.plan_laws.proofs.Decides.{Words, Says, that_tells, that_reports, that_ends, that_throws, Suits, for_can, for_submit, for_work}
-use Rattle.plan_laws.proofs.Ends.{Settles, settles, wakes-members, all_kept, nothing-settles, job-settles, connection-settles, one_kept, one-rouses}
+use Rattle.plan_laws.proofs.Ends.{Settles, settles, wakes_members, all_kept, nothing_settles, job_settles, connection_settles, one_kept, one_rouses}
 
 -- ---- what a step and its ending leave, by the table u between them
 
@@ -64,8 +64,8 @@ lean_by : (step : S'.Step) (t s u : Table) → values_of u ≡ stepped step (val
 unfolding values_of dropped
 lean_by step t s u e long texts r is within =
     record {
-      leaves = ap (λ (v : V'.Values). final_table v s) (sym e) ∙ sym (settled-table u s texts) ∙ settles u (ending step (values_of t)) r ∙ ap (ended (ending step (values_of t))) is;
-      wakes = ap (λ (v : V'.Values). to_wake_in v.able (dropped_rows v.rows) v.connections) (sym e) ∙ sym (wake_values u) ∙ wakes-members u (ending step (values_of t)) r
+      leaves = ap (λ (v : V'.Values). final_table v s) (sym e) ∙ sym (settled_table u s texts) ∙ settles u (ending step (values_of t)) r ∙ ap (ended (ending step (values_of t))) is;
+      wakes = ap (λ (v : V'.Values). to_wake_in v.able (dropped_rows v.rows) v.connections) (sym e) ∙ sym (wake_values u) ∙ wakes_members u (ending step (values_of t)) r
           ∙ ap (λ (n : ℕ). members n (ending step (values_of t)).woken) long;
       keeps = ap (λ (v : V'.Values). dropped_rows v.rows) (sym e) ∙ sym (dropped_rows_lem u.jobs) ∙ ap (λ (x : Table). rows_of x) (drops_none u r.awaited) ∙ ap (λ (v : V'.Values). v.rows) e;
       within = within;
@@ -110,26 +110,26 @@ module _ (w : Words) (c : ℕ) (t : Table) (ok : obeys t ≡ true) where
   abbrev pub Leans : Plan → Type 0
   Leans b = is_lean b.step ≡ true → Lean b.step t (changed b.change w.first w.second w.third t)
 
-  nothing-leans : (n : ℕ) (order : O'.Order) → Leans (record { number = n; step = SV.Nothing; change = CV.Nothing; order = order })
+  nothing_leans : (n : ℕ) (order : O'.Order) → Leans (record { number = n; step = SV.Nothing; change = CV.Nothing; order = order })
   unfolding stepped sparse changed ending
-  nothing-leans n order l = lean_by SV.Nothing t t t refl refl texts (nothing-settles t o t.ids) refl zero-le
+  nothing_leans n order l = lean_by SV.Nothing t t t refl refl texts (nothing_settles t o t.ids) refl zero-le
 
-  id-leans : (order : O'.Order) → Leans (done SV.Nothing (CV.Id c) order)
+  id_leans : (order : O'.Order) → Leans (done SV.Nothing (CV.Id c) order)
   unfolding stepped sparse changed ending values_of
-  id-leans order l =
+  id_leans order l =
       let u = set_id t c w.first in
-      lean_by SV.Nothing t u u refl refl (record { ids = refl; hub = refl; functions = texts.functions; jobs = texts.jobs }) (nothing-settles t o u.ids) refl zero-le
+      lean_by SV.Nothing t u u refl refl (record { ids = refl; hub = refl; functions = texts.functions; jobs = texts.jobs }) (nothing_settles t o u.ids) refl zero-le
 
   -- ---- sleep, grabs
 
   -- only the connection itself may wake
-  flags-leans : (x : Connection) (order : O'.Order) → Leans (done (SV.Flags c x) CV.Nothing order)
+  flags_leans : (x : Connection) (order : O'.Order) → Leans (done (SV.Flags c x) CV.Nothing order)
   unfolding stepped sparse changed ending values_of
-  flags-leans x order l =
+  flags_leans x order l =
       let b : Bool = x.asleep && any (grabbable (ables_of t) c) (rows_of t) in
       let only : (k : ℕ) → has (cond b (insert 0 c) 0) k ≡ b && eqb c k = λ k. has_if b (insert 0 c) k ∙ ap (λ (y : Bool). b && y) (has_only c k) in
       lean_by (SV.Flags c x) t t (set_connection t c x) refl (length-set t.connections c x) (record { ids = refl; hub = refl; functions = texts.functions; jobs = texts.jobs })
-      (connection-settles t o c x (cond b (insert 0 c) 0)
+      (connection_settles t o c x (cond b (insert 0 c) 0)
       (sym (only c ∙ ap (λ (y : Bool). b && y) (eq-eqb c c refl) ∙ and_true b))
       (λ k d. only k ∙ ap (λ (y : Bool). b && y) (ne_eqb c k (λ (e : c ≡ k). d (sym e))) ∙ and_false b))
       refl zero-le
@@ -138,9 +138,9 @@ module _ (w : Words) (c : ℕ) (t : Table) (ok : obeys t ≡ true) where
       and_true true = refl
       and_true false = refl
 
-  held-leans : (p : ℕ) → best t c ≡ some p → Lean (SV.Grab p (with_holder (suc c) (row_in (values_of t) p)) c (sleeping_row false c (values_of t))) t t
+  held_leans : (p : ℕ) → best t c ≡ some p → Lean (SV.Grab p (with_holder (suc c) (row_in (values_of t) p)) c (sleeping_row false c (values_of t))) t t
   unfolding stepped sparse ending values_of
-  held-leans p e =
+  held_leans p e =
       let r : JobRow = with_holder (suc c) (job_at t p).row in
       let k : Job = with_row r (job_at t p) in
       let x : Connection = sleeping_row false c (values_of t) in
@@ -149,8 +149,8 @@ module _ (w : Words) (c : ℕ) (t : Table) (ok : obeys t ≡ true) where
       (lean_by (SV.Grab p r c x) t t (set_job u p k)
       (ap (λ (l : List JobRow). with_rows l (values_of u)) (map_set (λ (j : Job). j.row) t.jobs p k))
       (length-set t.connections c x)
-      (record { ids = refl; hub = refl; functions = texts.functions; jobs = left-set SameJob p no_job k (rowed_same (job_at t p) r (grabbed_live t c p e)) texts.jobs })
-      (job-settles t o (set t.connections c x) p k Nowhere (length-set t.connections c x)
+      (record { ids = refl; hub = refl; functions = texts.functions; jobs = left_set SameJob p no_job k (rowed_same (job_at t p) r (grabbed_live t c p e)) texts.jobs })
+      (job_settles t o (set t.connections c x) p k Nowhere (length-set t.connections c x)
       (λ i. row_set (λ (y : Connection). y.asleep ≡ true → (connection_at t i).asleep ≡ true) t.connections c x i closed (λ s. clash s refl) (λ s. s))
       (best_found t c p e).0
       (λ ables y g. clash (and_right (live (job_at t p).row) _ (and_left (live (job_at t p).row && eqb (suc c) 0) _ g)) (eqb-suc-zero c))
@@ -162,9 +162,9 @@ module _ (w : Words) (c : ℕ) (t : Table) (ok : obeys t ≡ true) where
   -- ---- abilities
 
   -- s' has the texts after the change: the function's name y stands at q
-  able-leans : (q s : ℕ) (y : Bytes) (s' : Table) → q < length t.functions → s' ≡ set_function t q (with_name y (function_at t q)) → Lean (SV.Able q s) t s'
+  able_leans : (q s : ℕ) (y : Bytes) (s' : Table) → q < length t.functions → s' ≡ set_function t q (with_name y (function_at t q)) → Lean (SV.Able q s) t s'
   unfolding stepped sparse ending values_of
-  able-leans q s y s' here is =
+  able_leans q s y s' here is =
       let x : Function = with_able s (with_name y (function_at t q)) in
       let u : Table = set_function t q x in
       let at : function_at u q ≡ x = get_or-set_same t.functions q x no_function here in
@@ -175,12 +175,12 @@ module _ (w : Words) (c : ℕ) (t : Table) (ok : obeys t ≡ true) where
       lean_by (SV.Able q s) t s' u
       (λ i. with_ables (map_set (λ (z : Function). z.able) t.functions q x i) (values_of t))
       refl
-      (subst (λ (z : Table). SameTexts u z) (sym is) (record { ids = refl; hub = refl; functions = both-set SameName q x n refl texts.functions; jobs = texts.jobs }))
+      (subst (λ (z : Table). SameTexts u z) (sym is) (record { ids = refl; hub = refl; functions = both_set SameName q x n refl texts.functions; jobs = texts.jobs }))
       (record {
         awaited = o.awaited;
-        rouses = one-rouses t o u q inside others (λ i l d. (l, refl)) (cond waiting (to_wake_set s t.connections) 0) waiting refl
+        rouses = one_rouses t o u q inside others (λ i l d. (l, refl)) (cond waiting (to_wake_set s t.connections) 0) waiting refl
             (λ k. has_if waiting (to_wake_set s t.connections) k
-            ∙ ap (λ (b : Bool). waiting && b) (has_to_wake s t.connections k ∙ ap (λ (m : ℕ). (connection_at t k).asleep && has m k) (sym (able-at u q ∙ ap (λ (z : Function). z.able) at))));
+            ∙ ap (λ (b : Bool). waiting && b) (has_to_wake s t.connections k ∙ ap (λ (m : ℕ). (connection_at t k).asleep && has m k) (sym (able_at_lem u q ∙ ap (λ (z : Function). z.able) at))));
         keeps = λ k h. one_kept t o u q inside others (λ i d. refl) (not (is_empty s) || any (names q) (rows_of t))
             (ap (λ (z : Function). wanted (rows_of t) q z.able) at) k;
       })
@@ -190,9 +190,9 @@ module _ (w : Words) (c : ℕ) (t : Table) (ok : obeys t ≡ true) where
 
   -- ---- a submission
 
-  join-leans : (f u : Bytes) (p : ℕ) (background : Bool) → joined t f u ≡ some p → Leans (plan_join p c background (values_of t))
+  join_leans : (f u : Bytes) (p : ℕ) (background : Bool) → joined t f u ≡ some p → Leans (plan_join p c background (values_of t))
   unfolding plan_join stepped sparse changed ending values_of joined
-  join-leans f u p background e l =
+  join_leans f u p background e l =
       let r : JobRow = submitted_by c background (job_at t p).row in
       let k : Job = with_row r (job_at t p) in
       let i : p < length t.jobs = (found _ no_job t.jobs (some p) e).inside in
@@ -200,14 +200,14 @@ module _ (w : Words) (c : ℕ) (t : Table) (ok : obeys t ≡ true) where
       (lean_by (SV.Row p r) t t (set_job t p k)
       (ap (λ (l : List JobRow). with_rows l (values_of t)) (map_set (λ (j : Job). j.row) t.jobs p k))
       refl
-      (record { ids = refl; hub = refl; functions = texts.functions; jobs = left-set SameJob p no_job k (rowed_same (job_at t p) r (submitted_live c background (job_at t p).row ∙ joined_found t f u p e)) texts.jobs })
-      (job-settles t o t.connections p k Nowhere refl (λ x s. s) i (λ ables x g. sym (submitted_grabbable c background (job_at t p).row ables x) ∙ g) (submitted_awaited c background (job_at t p).row)
+      (record { ids = refl; hub = refl; functions = texts.functions; jobs = left_set SameJob p no_job k (rowed_same (job_at t p) r (submitted_live c background (job_at t p).row ∙ joined_found t f u p e)) texts.jobs })
+      (job_settles t o t.connections p k Nowhere refl (λ x s. s) i (λ ables x g. sym (submitted_grabbable c background (job_at t p).row ables x) ∙ g) (submitted_awaited c background (job_at t p).row)
       (λ q. all_kept t o (set (rows_of t) p r) q (names_same p q r (submitted_names c background (job_at t p).row q))))
       refl zero-le)
 
-  free-found : (p : ℕ) → free_row (rows_of t) ≡ some p → (p < length t.jobs) × (live (job_at t p).row ≡ false)
+  free_found : (p : ℕ) → free_row (rows_of t) ≡ some p → (p < length t.jobs) × (live (job_at t p).row ≡ false)
   unfolding free_row
-  free-found p e =
+  free_found p e =
       let f = found (λ r. not (live r)) no_row (rows_of t) (some p) e in
       (rw (rows_long t) at f.inside, ap live (sym (row_at t p)) ∙ not-true (live (get_or (rows_of t) p no_row)) f.passes)
 
@@ -231,17 +231,17 @@ module _ (w : Words) (c : ℕ) (t : Table) (ok : obeys t ≡ true) where
       here : q < length t.functions
       here = (room t w.first q er).inside
 
-      job-live : live job.row ≡ true
-      job-live = submitted_live c background bare ∙ ap not (eqb-suc-zero t.last)
+      job_live : live job.row ≡ true
+      job_live = submitted_live c background bare ∙ ap not (eqb-suc-zero t.last)
 
-      own-job : job_at after p ≡ job
-      own-job = get_or-set_same t.jobs p job no_job (free-found p ef).0
+      own_job : job_at after p ≡ job
+      own_job = get_or-set_same t.jobs p job no_job (free_found p ef).0
 
       -- naming a function makes nobody able
-      able-same : get_or (ables_of after) q 0 ≡ get_or (ables_of t) (new q).function 0
-      able-same =
-          able-at after q ∙ ap (λ (x : Function). x.able) (get_or-set_same t.functions q (with_name w.first (function_at t q)) no_function here)
-          ∙ sym (able-at t q) ∙ ap (λ (n : ℕ). get_or (ables_of t) n 0) (sym keeps.function)
+      able_same : get_or (ables_of after) q 0 ≡ get_or (ables_of t) (new q).function 0
+      able_same =
+          able_at_lem after q ∙ ap (λ (x : Function). x.able) (get_or-set_same t.functions q (with_name w.first (function_at t q)) no_function here)
+          ∙ sym (able_at_lem t q) ∙ ap (λ (n : ℕ). get_or (ables_of t) n 0) (sym keeps.function)
 
       others : (k : ℕ) → ¬ (k ≡ q) → function_at after k ≡ function_at t k
       others k d = get_or-set_other t.functions q k (with_name w.first (function_at t q)) no_function d
@@ -249,35 +249,35 @@ module _ (w : Words) (c : ℕ) (t : Table) (ok : obeys t ≡ true) where
       inside : q < length after.functions
       inside = rw (length-set t.functions q (with_name w.first (function_at t q))) here
 
-      other-jobs : (i : ℕ) → i < length after.jobs → ¬ ((job_at after i).row.function ≡ q) → (i < length t.jobs) × (job_at after i ≡ job_at t i)
-      other-jobs i l d = go (ℕ_discrete i p)
+      other_jobs : (i : ℕ) → i < length after.jobs → ¬ ((job_at after i).row.function ≡ q) → (i < length t.jobs) × (job_at after i ≡ job_at t i)
+      other_jobs i l d = go (ℕ_discrete i p)
         where
           go : Dec (i ≡ p) → (i < length t.jobs) × (job_at after i ≡ job_at t i)
-          go (yes e) = absurd (d (ap (λ (k : ℕ). (job_at after k).row.function) e ∙ ap (λ (j : Job). j.row.function) own-job ∙ keeps.function))
+          go (yes e) = absurd (d (ap (λ (k : ℕ). (job_at after k).row.function) e ∙ ap (λ (j : Job). j.row.function) own_job ∙ keeps.function))
           go (no n) = (rw length-set at l, get_or-set_other t.jobs p i job no_job n)
 
       -- the new job waits, and names its function
       waiting : any (waits q) (rows_of after) ≡ true
       waiting =
-          row-passes after (waits q) p (rw (length-set t.jobs p job) (free-found p ef).0)
-          (rw own-job (and_both (queued job.row) _ (and_both (live job.row) _ job-live (eq-eqb job.row.holder 0 keeps.holder)) (eq-eqb job.row.function q keeps.function)))
+          row_passes after (waits q) p (rw (length-set t.jobs p job) (free_found p ef).0)
+          (rw own_job (and_both (queued job.row) _ (and_both (live job.row) _ job_live (eq-eqb job.row.holder 0 keeps.holder)) (eq-eqb job.row.function q keeps.function)))
 
-      named-now : wanted (rows_of after) q (function_at after q).able ≡ true
-      named-now =
+      named_now : wanted (rows_of after) q (function_at after q).able ≡ true
+      named_now =
           or_right (not (is_empty (function_at after q).able)) _
-          (row-passes after (names q) p (rw (length-set t.jobs p job) (free-found p ef).0)
-          (rw own-job (and_both (live job.row) _ job-live (eq-eqb job.row.function q keeps.function))))
+          (row_passes after (names q) p (rw (length-set t.jobs p job) (free_found p ef).0)
+          (rw own_job (and_both (live job.row) _ job_live (eq-eqb job.row.function q keeps.function))))
 
       -- its place was free, so no other function is named less or more
-      other-names : (k : ℕ) → ¬ (k ≡ q) → any (names k) (rows_of after) ≡ any (names k) (rows_of t)
-      other-names k d =
+      other_names : (k : ℕ) → ¬ (k ≡ q) → any (names k) (rows_of after) ≡ any (names k) (rows_of t)
+      other_names k d =
           ap (any (names k)) (map_set (λ (j : Job). j.row) t.jobs p job)
           ∙ names_same p k job.row
-          (names_other k job.row (λ (e : job.row.function ≡ k). d (sym e ∙ keeps.function)) ∙ sym (ap (λ (b : Bool). b && eqb (job_at t p).row.function k) (free-found p ef).1))
+          (names_other k job.row (λ (e : job.row.function ≡ k). d (sym e ∙ keeps.function)) ∙ sym (ap (λ (b : Bool). b && eqb (job_at t p).row.function k) (free_found p ef).1))
 
-      accept-leans : Leans (done (SV.New p (new q)) (CV.Job p q) (OV.Created (suc t.last)))
+      accept_leans : Leans (done (SV.New p (new q)) (CV.Job p q) (OV.Created (suc t.last)))
       unfolding stepped sparse changed ending values_of
-      accept-leans l =
+      accept_leans l =
           let x : Function = with_name w.first (function_at t q) in
           let y : Job = unstarted (job_at t p).row w.second in
           lean_by (SV.New p (new q)) t (set_job (set_function t q x) p y) after
@@ -287,103 +287,103 @@ module _ (w : Words) (c : ℕ) (t : Table) (ok : obeys t ≡ true) where
           (record {
             ids = refl;
             hub = refl;
-            functions = both-set SameName q _ _ refl texts.functions;
-            jobs = both-set SameJob p _ _ (record { unfinished = λ _. refl; free = λ z. clash job-live z }) texts.jobs;
+            functions = both_set SameName q _ _ refl texts.functions;
+            jobs = both_set SameJob p _ _ (record { unfinished = λ _. refl; free = λ z. clash job_live z }) texts.jobs;
           })
           (record {
             awaited = all_set (λ j. implies (queued j.row) (j.row.background || not (is_empty j.row.listeners))) t.jobs p job o.awaited (submitted_awaited c background bare);
-            rouses = one-rouses t o after q inside others other-jobs (to_wake_set (get_or (ables_of t) (new q).function 0) t.connections) true waiting
-                (λ k. has_to_wake (get_or (ables_of t) (new q).function 0) t.connections k ∙ ap (λ (s : ℕ). (connection_at t k).asleep && has s k) (sym able-same));
-            keeps = λ k h. one_kept t o after q inside others other-names true named-now k;
+            rouses = one_rouses t o after q inside others other_jobs (to_wake_set (get_or (ables_of t) (new q).function 0) t.connections) true waiting
+                (λ k. has_to_wake (get_or (ables_of t) (new q).function 0) t.connections k ∙ ap (λ (s : ℕ). (connection_at t k).asleep && has s k) (sym able_same));
+            keeps = λ k h. one_kept t o after q inside others other_names true named_now k;
           })
           (λ i. with_last_serial (sym keeps.serial i) (with_jobs
-          ((sym (set_set t.jobs p y job) ∙ ap (λ (j : Job). set (set t.jobs p y) p (with_row (new q) j)) (sym (get_or-set_same t.jobs p y no_job (free-found p ef).0))) i)
+          ((sym (set_set t.jobs p y job) ∙ ap (λ (j : Job). set (set t.jobs p y) p (with_row (new q) j)) (sym (get_or-set_same t.jobs p y no_job (free_found p ef).0))) i)
           (set_function t q x)))
           zero-le
 
   -- ---- worker packets
 
-  work-inside : (h : Bytes) (p : ℕ) → held_job_of t c h ≡ some p → p < length t.jobs
-  work-inside h p e = (found (λ j. holds_handle t.hub c h j.row) no_job t.jobs (some p) e).inside
+  work_inside : (h : Bytes) (p : ℕ) → held_job_of t c h ≡ some p → p < length t.jobs
+  work_inside h p e = (found (λ j. holds_handle t.hub c h j.row) no_job t.jobs (some p) e).inside
 
-  report-leans : (h : Bytes) (p : ℕ) (order : O'.Order) → held_job_of t c h ≡ some p → Leans (done SV.Nothing (CV.Texts p) order)
+  report_leans : (h : Bytes) (p : ℕ) (order : O'.Order) → held_job_of t c h ≡ some p → Leans (done SV.Nothing (CV.Texts p) order)
   unfolding stepped sparse changed ending values_of
-  report-leans h p order e l =
+  report_leans h p order e l =
       let k : Job = with_texts w.second w.third (job_at t p) in
       lean_by SV.Nothing t (set_job t p k) (set_job t p k)
       (ap (λ (l : List JobRow). with_rows l (values_of t)) (map-set_same (λ (j : Job). j.row) t.jobs p k no_job refl))
       refl
-      (record { ids = refl; hub = refl; functions = texts.functions; jobs = both-set SameJob p k k (live_same k (held_found t c h p e)) texts.jobs })
-      (job-settles t o t.connections p k Nowhere refl (λ x s. s) (work-inside h p e) (λ ables x g. g)
+      (record { ids = refl; hub = refl; functions = texts.functions; jobs = both_set SameJob p k k (live_same k (held_found t c h p e)) texts.jobs })
+      (job_settles t o t.connections p k Nowhere refl (λ x s. s) (work_inside h p e) (λ ables x g. g)
       (all_row (λ j. implies (queued j.row) (j.row.background || not (is_empty j.row.listeners))) t.jobs p no_job o.awaited refl)
       (λ q. all_kept t o (set (rows_of t) p k.row) q (names_same p q k.row refl)))
       refl zero-le
 
   -- its function may be forgotten
-  end-leans : (h : Bytes) (p : ℕ) (order : O'.Order) → held_job_of t c h ≡ some p → Leans (done (SV.End p) CV.Nothing order)
+  end_leans : (h : Bytes) (p : ℕ) (order : O'.Order) → held_job_of t c h ≡ some p → Leans (done (SV.End p) CV.Nothing order)
   unfolding stepped sparse changed ending values_of
-  end-leans h p order e l =
+  end_leans h p order e l =
       let q : ℕ = (get_or (rows_of t) p no_row).function in
       let is : (job_at t p).row.function ≡ q = ap (λ (r : JobRow). r.function) (sym (row_at t p)) in
-      let m : row_has_meaning t (job_at t p) ≡ true = rw (held_found t c h p e) at (all_at (row_means t) t.jobs p no_job o.sound.rows (work-inside h p e)) in
+      let m : row_has_meaning t (job_at t p) ≡ true = rw (held_found t c h p e) at (all_at (row_means t) t.jobs p no_job o.sound.rows (work_inside h p e)) in
       let here : q < length t.functions =
-      subst (λ (n : ℕ). n < length t.functions) is (in-range (length t.functions) (length t.connections) (job_at t p).row m).function in
+      subst (λ (n : ℕ). n < length t.functions) is (in_range (length t.functions) (length t.connections) (job_at t p).row m).function in
       let b : Bool = not (is_empty (get_or (ables_of t) q 0)) || any (names q) (set (rows_of t) p no_row) in
       let rows : rows_of (set_job t p no_job) ≡ set (rows_of t) p no_row = map_set (λ (j : Job). j.row) t.jobs p no_job in
       lean_by (SV.End p) t t (set_job t p no_job)
       (ap (λ (l : List JobRow). with_rows l (values_of t)) (map_set (λ (j : Job). j.row) t.jobs p no_job))
       refl
-      (record { ids = refl; hub = refl; functions = texts.functions; jobs = left-set SameJob p no_job no_job (gone_same (job_at t p)) texts.jobs })
-      (job-settles t o t.connections p no_job (cond b Nowhere (At q)) refl (λ x s. s) (work-inside h p e) (λ ables x g. clash g refl) refl
+      (record { ids = refl; hub = refl; functions = texts.functions; jobs = left_set SameJob p no_job no_job (gone_same (job_at t p)) texts.jobs })
+      (job_settles t o t.connections p no_job (cond b Nowhere (At q)) refl (λ x s. s) (work_inside h p e) (λ ables x g. clash g refl) refl
       (λ k. ap (λ (rs : List JobRow). cond (wanted rs k (function_at t k).able) (function_at t k) no_function) (sym rows)
       ∙ one_kept t o (set_job t p no_job) q here (λ k d. refl)
       (λ k d. ap (any (names k)) rows ∙ names_same p k no_row (sym (names_other k (job_at t p).row (λ (z : (job_at t p).row.function ≡ k). d (sym z ∙ is)))))
-      b (ap₂ (λ (rs : List JobRow) (s : ℕ). wanted rs q s) rows (sym (able-at t q))) k))
+      b (ap₂ (λ (rs : List JobRow) (s : ℕ). wanted rs q s) rows (sym (able_at_lem t q))) k))
       refl
       (cond_both (Within (length t.functions)) b zero-le here)
 
-  work-leans : {how : Work} {n d : Bytes} (h : Bytes) → Says w how n d → (p : ℕ) → held_job_of t c h ≡ some p → Leans (plan_work (some p) how (values_of t))
+  work_leans : {how : Work} {n d : Bytes} (h : Bytes) → Says w how n d → (p : ℕ) → held_job_of t c h ≡ some p → Leans (plan_work (some p) how (values_of t))
   unfolding plan_work
-  work-leans h (that_tells n d) p e = nothing-leans 0 (OV.Copies (row_in (values_of t) p).listeners)
-  work-leans h that_reports p e = report-leans h p (OV.Copies (row_in (values_of t) p).listeners) e
-  work-leans h (that_ends n d) p e = end-leans h p (OV.Copies (row_in (values_of t) p).listeners) e
-  work-leans h (that_throws n d) p e = end-leans h p (OV.Told (row_in (values_of t) p).listeners (heard (values_of t).connections (row_in (values_of t) p).listeners) (row_in (values_of t) p).serial) e
+  work_leans h (that_tells n d) p e = nothing_leans 0 (OV.Copies (row_in (values_of t) p).listeners)
+  work_leans h that_reports p e = report_leans h p (OV.Copies (row_in (values_of t) p).listeners) e
+  work_leans h (that_ends n d) p e = end_leans h p (OV.Copies (row_in (values_of t) p).listeners) e
+  work_leans h (that_throws n d) p e = end_leans h p (OV.Told (row_in (values_of t) p).listeners (heard (values_of t).connections (row_in (values_of t) p).listeners) (row_in (values_of t) p).serial) e
 
-  status-leans : (o : Option ℕ) → Leans (plan_status o)
-  status-leans none = nothing-leans 0 OV.Unknown
-  status-leans (some p) = nothing-leans 0 (OV.Status p)
+  status_leans : (o : Option ℕ) → Leans (plan_status o)
+  status_leans none = nothing_leans 0 OV.Unknown
+  status_leans (some p) = nothing_leans 0 (OV.Status p)
 
   -- ---- every event
 
-  pub opening-leans : Leans (plan_opening c)
-  opening-leans = flags-leans just_opened OV.Nothing
+  pub opening_leans : Leans (plan_opening c)
+  opening_leans = flags_leans just_opened OV.Nothing
 
-  pub closing-leans : Leans (plan_closing c)
+  pub closing_leans : Leans (plan_closing c)
   unfolding is_lean
-  closing-leans = λ e. clash e refl
+  closing_leans = λ e. clash e refl
 
-  change-leans : {a : Request} {ss : List Send} {u : Table} (m : Change c t a ss u) → Suits w a → Leans (plan_of c t m)
+  change_leans : {a : Request} {ss : List Send} {u : Table} (m : Change c t a ss u) → Suits w a → Leans (plan_of c t m)
   unfolding plan_can_do plan_cant_do plan_grab is_lean changed values_of
-  change-leans (O.able f q e) for_can = λ l. able-leans q (insert (get_or (ables_of t) q 0) c) f _ (room t f q e).inside refl
-  change-leans (unknown f e) s = nothing-leans 0 OV.Nothing
-  change-leans (disabled f q e) s =
-      λ l. able-leans q (remove (get_or (ables_of t) q 0) c) (function_at t q).name t (found (λ x. same x.name f) no_function t.functions (some q) e).inside
+  change_leans (O.able f q e) for_can = λ l. able_leans q (insert (get_or (ables_of t) q 0) c) f _ (room t f q e).inside refl
+  change_leans (unknown f e) s = nothing_leans 0 OV.Nothing
+  change_leans (disabled f q e) s =
+      λ l. able_leans q (remove (get_or (ables_of t) q 0) c) (function_at t q).name t (found (λ x. same x.name f) no_function t.functions (some q) e).inside
       (λ i. with_functions (sym (set_own t.functions q no_function) i) t)
-  change-leans (identified i) s = id-leans OV.Nothing
-  change-leans cleared s = λ e. clash e refl
-  change-leans slept s = flags-leans _ OV.Nothing
-  change-leans (no_job_for uniq e) s = flags-leans _ OV.NoJob
-  change-leans (grabbed uniq p e) s = λ l. held-leans p e
-  change-leans (joins priority background f u size p e) s = join-leans f u p background e
-  change-leans (accepts priority background f u size q p e₁ e₂ e₃ m) (for_submit priority' background' size') = accept-leans priority background size q p e₂ e₃
-  change-leans (worker how kind h n d p e) (for_work h' s) = work-leans h s p e
-  change-leans (status h o e) s = status-leans o
-  change-leans (optioned name e) s = flags-leans _ OV.Optioned
-  change-leans echoed s = nothing-leans 0 OV.Echo
+  change_leans (identified i) s = id_leans OV.Nothing
+  change_leans cleared s = λ e. clash e refl
+  change_leans slept s = flags_leans _ OV.Nothing
+  change_leans (no_job_for uniq e) s = flags_leans _ OV.NoJob
+  change_leans (grabbed uniq p e) s = λ l. held_leans p e
+  change_leans (joins priority background f u size p e) s = join_leans f u p background e
+  change_leans (accepts priority background f u size q p e₁ e₂ e₃ m) (for_submit priority' background' size') = accept_leans priority background size q p e₂ e₃
+  change_leans (worker how kind h n d p e) (for_work h' s) = work_leans h s p e
+  change_leans (status h o e) s = status_leans o
+  change_leans (optioned name e) s = flags_leans _ OV.Optioned
+  change_leans echoed s = nothing_leans 0 OV.Echo
 
-  draws-leans : {a : Request} {p : Plan} {d : Decision} → Draws c t a p d → Suits w a → Leans p
-  draws-leans (refused a n r) s = nothing-leans n OV.Nothing
-  draws-leans (Draws.done m) s = change-leans m s
+  draws_leans : {a : Request} {p : Plan} {d : Decision} → Draws c t a p d → Suits w a → Leans p
+  draws_leans (refused a n r) s = nothing_leans n OV.Nothing
+  draws_leans (Draws.done m) s = change_leans m s
 
-  pub served-leans : {a : Request} → Suits w a → Leans (plan_served c a t)
-  served-leans {a} s = draws-leans (draws c t a) s
+  pub served_leans : {a : Request} → Suits w a → Leans (plan_served c a t)
+  served_leans {a} s = draws_leans (draws c t a) s

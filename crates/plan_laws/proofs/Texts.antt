@@ -21,27 +21,27 @@ use Rattle.plan_laws.proofs.Settled.{SameJob, SameTexts}
 -- ---- two lists changed together
 
 module _ {A : Type 0} (R : A → A → Type 0) where
-  pub both-set : {l m : List A} (i : ℕ) (x y : A) → R x y → All2 R l m → All2 R (set l i x) (set m i y)
-  both-set i x y r All2.none = All2.none
-  both-set zero x y r (All2.more q qs) = All2.more r qs
-  both-set (suc i) x y r (All2.more q qs) = All2.more q (both-set i x y r qs)
+  pub both_set : {l m : List A} (i : ℕ) (x y : A) → R x y → All2 R l m → All2 R (set l i x) (set m i y)
+  both_set i x y r All2.none = All2.none
+  both_set zero x y r (All2.more q qs) = All2.more r qs
+  both_set (suc i) x y r (All2.more q qs) = All2.more q (both_set i x y r qs)
 
-  pub left-set : {l m : List A} (i : ℕ) (d x : A) → R x (get_or m i d) → All2 R l m → All2 R (set l i x) m
-  left-set i d x r All2.none = All2.none
-  left-set zero d x r (All2.more q qs) = All2.more r qs
-  left-set (suc i) d x r (All2.more q qs) = All2.more q (left-set i d x r qs)
+  pub left_set : {l m : List A} (i : ℕ) (d x : A) → R x (get_or m i d) → All2 R l m → All2 R (set l i x) m
+  left_set i d x r All2.none = All2.none
+  left_set zero d x r (All2.more q qs) = All2.more r qs
+  left_set (suc i) d x r (All2.more q qs) = All2.more q (left_set i d x r qs)
 
-  pub left-map : (g : A → A) → ((a b : A) → R a b → R (g a) b) → {l m : List A} → All2 R l m → All2 R (map g l) m
-  left-map g f All2.none = All2.none
-  left-map g f (All2.more q qs) = All2.more (f _ _ q) (left-map g f qs)
+  pub left_map : (g : A → A) → ((a b : A) → R a b → R (g a) b) → {l m : List A} → All2 R l m → All2 R (map g l) m
+  left_map g f All2.none = All2.none
+  left_map g f (All2.more q qs) = All2.more (f _ _ q) (left_map g f qs)
 
-  pub both-map : (g h : A → A) → ((a b : A) → R a b → R (g a) (h b)) → {l m : List A} → All2 R l m → All2 R (map g l) (map h m)
-  both-map g h f All2.none = All2.none
-  both-map g h f (All2.more q qs) = All2.more (f _ _ q) (both-map g h f qs)
+  pub both_map : (g h : A → A) → ((a b : A) → R a b → R (g a) (h b)) → {l m : List A} → All2 R l m → All2 R (map g l) (map h m)
+  both_map g h f All2.none = All2.none
+  both_map g h f (All2.more q qs) = All2.more (f _ _ q) (both_map g h f qs)
 
-  pub each-self : ((a : A) → R a a) → (l : List A) → All2 R l l
-  each-self f [] = All2.none
-  each-self f (x ∷ l) = All2.more (f x) (each-self f l)
+  pub each_self : ((a : A) → R a a) → (l : List A) → All2 R l l
+  each_self f [] = All2.none
+  each_self f (x ∷ l) = All2.more (f x) (each_self f l)
 
 abbrev pub SameName : Function → Function → Type 0
 SameName x y = x.name ≡ y.name
@@ -67,7 +67,7 @@ own_jobs t (j ∷ js) e = All2.more (means_same t j (and_left (row_means t j) _ 
 
 -- a table that obeys the rules has its own texts
 pub own_texts : (t : Table) → obeys t ≡ true → SameTexts t t
-own_texts t ok = record { ids = refl; hub = refl; functions = each-self SameName (λ x. refl) t.functions; jobs = own_jobs t t.jobs (obeyed t ok).sound.rows }
+own_texts t ok = record { ids = refl; hub = refl; functions = each_self SameName (λ x. refl) t.functions; jobs = own_jobs t t.jobs (obeyed t ok).sound.rows }
 
 -- ---- a job that a connection leaves
 

@@ -44,13 +44,13 @@ use Rattle.plan.specs.declared.Order.TheVariants as OV
 use Rattle.lists.specs.Places.{placed, unplaced}
 use Rattle.plan.specs.Values.{values_of, serial_row, held_row}
 use Rattle.plan.specs.Plans.{sleeping_row, done, plan_can_do, plan_cant_do, plan_grab, plan_identify, plan_submit, plan_work, plan_status, plan_option, plan_served}
-use Rattle.plan.proofs.Numbers.{serial-values, held-values, serial-none, held_none}
+use Rattle.plan.proofs.Numbers.{serial_values, held_values, serial_none, held_none}
 use Rattle.server_laws.proofs.Requests.{Good, Submitted}
 use Rattle.lists.proofs.Rows.{clash}
 use Rattle.server_laws.proofs.Functions as F
-use Rattle.plan_find_texts.proofs.Names.{sound-table, sixteen}
+use Rattle.plan_find_texts.proofs.Names.{sound_table, sixteen}
 use Rattle.plan_request.specs.Submissions.{Submits}
-use Rattle.plan_request.proofs.Asks.{Each, each_of, asks, good-arguments, cant_do_fits, own-type}
+use Rattle.plan_request.proofs.Asks.{Each, each_of, asks, good_arguments, cant_do_fits, own_type}
 
 -- ---- a text as its rule has it: a function's name, a unique
 
@@ -59,15 +59,15 @@ module _ (least most : ℕ) (s : Bytes) (e : fits (Text least most) s ≡ true) 
   unfolding fits
   sized = and_left (within least most (length s)) (zero_free s) e
 
-  pub text-some : least ≤ length s
-  text-some = leb-true least (length s) (and_left (leb least (length s)) (leb (length s) most) sized)
+  pub text_some : least ≤ length s
+  text_some = leb-true least (length s) (and_left (leb least (length s)) (leb (length s) most) sized)
 
   pub text_short : length s ≤ most
   text_short = leb-true (length s) most (and_right (leb least (length s)) (leb (length s) most) sized)
 
-  pub text-free : zero_free s ≡ true
+  pub text_free : zero_free s ≡ true
   unfolding fits
-  text-free = and_right (within least most (length s)) (zero_free s) e
+  text_free = and_right (within least most (length s)) (zero_free s) e
 
 -- ---- places
 
@@ -90,42 +90,42 @@ module _ (b hub h : Bytes) (is : hub ≡ (table_of connection_count b).hub) (sou
   own : (r : Serial) → serial_of hub h ≡ r → serial_of table.hub h ≡ r
   own r e = ap (λ (name : Bytes). serial_of name h) (sym is) ∙ e
 
-  pub job-found : (s : ℕ) (p : Place) → serial_of hub h ≡ Of s → p ≡ placed (serial_row s (rows_of table)) → p ≡ placed (job_of table h)
-  job-found s p e g = g ∙ ap placed (sym (serial-values table h (sound-table b sound).small (sound-table b sound).below s (own (Of s) e)))
+  pub job_found : (s : ℕ) (p : Place) → serial_of hub h ≡ Of s → p ≡ placed (serial_row s (rows_of table)) → p ≡ placed (job_of table h)
+  job_found s p e g = g ∙ ap placed (sym (serial_values table h (sound_table b sound).small (sound_table b sound).below s (own (Of s) e)))
 
-  pub job-none : serial_of hub h ≡ None → Nowhere ≡ placed (job_of table h)
-  job-none e = ap placed (sym (serial-none table h (sound-table b sound).small (sound-table b sound).below (own None e)))
+  pub job_none : serial_of hub h ≡ None → Nowhere ≡ placed (job_of table h)
+  job_none e = ap placed (sym (serial_none table h (sound_table b sound).small (sound_table b sound).below (own None e)))
 
   module _ (c : ℕ) where
     pub held_found : (s : ℕ) (p : Place) → serial_of hub h ≡ Of s → p ≡ placed (held_row c s (rows_of table)) → p ≡ placed (held_job_of table c h)
-    held_found s p e g = g ∙ ap placed (sym (held-values table h (sound-table b sound).small (sound-table b sound).below c s (own (Of s) e)))
+    held_found s p e g = g ∙ ap placed (sym (held_values table h (sound_table b sound).small (sound_table b sound).below c s (own (Of s) e)))
 
-    pub held-nothing : serial_of hub h ≡ None → Nowhere ≡ placed (held_job_of table c h)
-    held-nothing e = ap placed (sym (held_none table h (sound-table b sound).small (sound-table b sound).below (own None e) c))
+    pub held_nothing : serial_of hub h ≡ None → Nowhere ≡ placed (held_job_of table c h)
+    held_nothing e = ap placed (sym (held_none table h (sound_table b sound).small (sound_table b sound).below (own None e) c))
 
 -- ---- names and sizes in a packet that was read
 
 module _ (p : Bytes) (ends : Ends) (kind : ℕ) (e : answer_of (read requests p) ≡ RV.Packet kind ends) where
-  pub can-do-name : (f : Bytes) → kind ≡ 1 → f ≡ argument_at p ends 0 → fits function f ≡ true
+  pub can_do_name : (f : Bytes) → kind ≡ 1 → f ≡ argument_at p ends 0 → fits function f ≡ true
   unfolding requested
-  can-do-name f q g =
-      rw g (subst (λ (k : ℕ). Good (requested k (argument_at p ends 0) (argument_at p ends 1) (argument_at p ends 2))) q (good-arguments p ends kind e))
+  can_do_name f q g =
+      rw g (subst (λ (k : ℕ). Good (requested k (argument_at p ends 0) (argument_at p ends 1) (argument_at p ends 2))) q (good_arguments p ends kind e))
 
-  pub cant-do-name : (f : Bytes) → kind ≡ 2 → f ≡ argument_at p ends 0 → fits function f ≡ true
-  cant-do-name f q g = rw g (cant_do_fits p ends (e ∙ ap (λ (k : ℕ). RV.Packet k ends) q))
+  pub cant_do_name : (f : Bytes) → kind ≡ 2 → f ≡ argument_at p ends 0 → fits function f ≡ true
+  cant_do_name f q g = rw g (cant_do_fits p ends (e ∙ ap (λ (k : ℕ). RV.Packet k ends) q))
 
   module _ (submits : Submits kind) where
     submitted : Submitted (priority_of kind) (argument_at p ends 0) (argument_at p ends 1) (length (argument_at p ends 2))
-    submitted = subst Good (submits _ _ _) (good-arguments p ends kind e)
+    submitted = subst Good (submits _ _ _) (good_arguments p ends kind e)
 
-    pub submission-name : (f : Bytes) → f ≡ argument_at p ends 0 → fits function f ≡ true
-    submission-name f g = rw g submitted.function
+    pub submission_name : (f : Bytes) → f ≡ argument_at p ends 0 → fits function f ≡ true
+    submission_name f g = rw g submitted.function
 
-    pub submission-unique : (u : Bytes) → u ≡ argument_at p ends 1 → fits unique u ≡ true
-    submission-unique u g = rw g submitted.unique
+    pub submission_unique : (u : Bytes) → u ≡ argument_at p ends 1 → fits unique u ≡ true
+    submission_unique u g = rw g submitted.unique
 
-    pub submission-size : (w : Bytes) → w ≡ argument_at p ends 2 → length w ≤ 1022
-    submission-size w g = omega (arith, ap length g, submitted.together)
+    pub submission_size : (w : Bytes) → w ≡ argument_at p ends 2 → length w ≤ 1022
+    submission_size w g = omega (arith, ap length g, submitted.together)
 
 -- ---- which types are submissions, and which say something of a job
 
@@ -165,80 +165,80 @@ module _ (b p : Bytes) (c kind : ℕ) (ends : Ends) (e : answer_of (read request
   typed k r q g = g ∙ ap (λ (a : Request). plan_served c a (table_of connection_count b)) (sym (asks p ends kind e ∙ ap (λ (k : ℕ). requested k (argument 0) (argument 1) (argument 2)) q))
 
   -- a type that was read is served
-  pub plan-foreign : (r : Plan) → Foreign ≡ request_shape kind → Answers r
-  plan-foreign r q = clash (own-type p ends kind e) (ap is_own (sym q))
+  pub plan_foreign : (r : Plan) → Foreign ≡ request_shape kind → Answers r
+  plan_foreign r q = clash (own_type p ends kind e) (ap is_own (sym q))
 
-  pub plan-reset : (r : Plan) → kind ≡ 3 → r ≡ done (SV.Reset c) CV.Nothing OV.Nothing → Answers r
+  pub plan_reset : (r : Plan) → kind ≡ 3 → r ≡ done (SV.Reset c) CV.Nothing OV.Nothing → Answers r
   unfolding requested plan_served
-  plan-reset r q h = typed 3 r q h
+  plan_reset r q h = typed 3 r q h
 
-  pub plan-identify : (r : Plan) → kind ≡ 22 → r ≡ plan_identify c → Answers r
+  pub plan_identify_lem : (r : Plan) → kind ≡ 22 → r ≡ plan_identify c → Answers r
   unfolding requested plan_served
-  plan-identify r q h = typed 22 r q h
+  plan_identify_lem r q h = typed 22 r q h
 
-  pub plan-pre-sleep : (r : Plan) → kind ≡ 4 → r ≡ done (SV.Flags c (sleeping_row true c v)) CV.Nothing OV.Nothing → Answers r
+  pub plan_pre_sleep : (r : Plan) → kind ≡ 4 → r ≡ done (SV.Flags c (sleeping_row true c v)) CV.Nothing OV.Nothing → Answers r
   unfolding requested plan_served
-  plan-pre-sleep r q h = typed 4 r q h
+  plan_pre_sleep r q h = typed 4 r q h
 
-  pub plan-grab : (r : Plan) → kind ≡ 9 → r ≡ plan_grab (best_row (ables_of (table_of connection_count b)) (rows_of (table_of connection_count b)) c) false c v → Answers r
+  pub plan_grab_lem : (r : Plan) → kind ≡ 9 → r ≡ plan_grab (best_row (ables_of (table_of connection_count b)) (rows_of (table_of connection_count b)) c) false c v → Answers r
   unfolding requested plan_served
-  plan-grab r q h = typed 9 r q h
+  plan_grab_lem r q h = typed 9 r q h
 
-  pub plan-grab-uniq : (r : Plan) → kind ≡ 30 → r ≡ plan_grab (best_row (ables_of (table_of connection_count b)) (rows_of (table_of connection_count b)) c) true c v → Answers r
+  pub plan_grab_uniq : (r : Plan) → kind ≡ 30 → r ≡ plan_grab (best_row (ables_of (table_of connection_count b)) (rows_of (table_of connection_count b)) c) true c v → Answers r
   unfolding requested plan_served
-  plan-grab-uniq r q h = typed 30 r q h
+  plan_grab_uniq r q h = typed 30 r q h
 
-  pub plan-echo : (r : Plan) → kind ≡ 16 → r ≡ done SV.Nothing CV.Nothing OV.Echo → Answers r
+  pub plan_echo : (r : Plan) → kind ≡ 16 → r ≡ done SV.Nothing CV.Nothing OV.Echo → Answers r
   unfolding requested plan_served
-  plan-echo r q h = typed 16 r q h
+  plan_echo r q h = typed 16 r q h
 
   module _ (first : Bytes) (ef : first ≡ argument 0) where
-    pub plan-can-do : (place : Place) (r : Plan) → kind ≡ 1 → place ≡ placed (room_for (table_of connection_count b).functions first) → r ≡ plan_can_do (unplaced place) c v → Answers r
+    pub plan_can_do_lem : (place : Place) (r : Plan) → kind ≡ 1 → place ≡ placed (room_for (table_of connection_count b).functions first) → r ≡ plan_can_do (unplaced place) c v → Answers r
     unfolding requested plan_served
-    plan-can-do place r q g h = typed 1 r q (h ∙ rw (searched (room_for (table_of connection_count b).functions first) place g, ef))
+    plan_can_do_lem place r q g h = typed 1 r q (h ∙ rw (searched (room_for (table_of connection_count b).functions first) place g, ef))
 
-    pub plan-cant-do : (place : Place) (r : Plan) → kind ≡ 2 → place ≡ placed (known (table_of connection_count b).functions first) → r ≡ plan_cant_do (unplaced place) c v → Answers r
+    pub plan_cant_do_lem : (place : Place) (r : Plan) → kind ≡ 2 → place ≡ placed (known (table_of connection_count b).functions first) → r ≡ plan_cant_do (unplaced place) c v → Answers r
     unfolding requested plan_served
-    plan-cant-do place r q g h = typed 2 r q (h ∙ rw (searched (known (table_of connection_count b).functions first) place g, ef))
+    plan_cant_do_lem place r q g h = typed 2 r q (h ∙ rw (searched (known (table_of connection_count b).functions first) place g, ef))
 
-    pub plan-option : (served : Bool) (r : Plan) → kind ≡ 26 → served ≡ same first exceptions_name → r ≡ plan_option served c v → Answers r
+    pub plan_option_lem : (served : Bool) (r : Plan) → kind ≡ 26 → served ≡ same first exceptions_name → r ≡ plan_option served c v → Answers r
     unfolding requested plan_served
-    plan-option served r q g h = typed 26 r q (h ∙ rw (g, ef))
+    plan_option_lem served r q g h = typed 26 r q (h ∙ rw (g, ef))
 
-    pub plan-status : (place : Place) (r : Plan) → kind ≡ 15 → place ≡ placed (job_of (table_of connection_count b) first) → r ≡ plan_status (unplaced place) → Answers r
+    pub plan_status_lem : (place : Place) (r : Plan) → kind ≡ 15 → place ≡ placed (job_of (table_of connection_count b) first) → r ≡ plan_status (unplaced place) → Answers r
     unfolding requested plan_served
-    plan-status place r q g h = typed 15 r q (h ∙ rw (searched (job_of (table_of connection_count b) first) place g, ef))
+    plan_status_lem place r q g h = typed 15 r q (h ∙ rw (searched (job_of (table_of connection_count b) first) place g, ef))
 
     -- what a worker says of its job, held by the connection at this place
     module _ (place : Place) (held : place ≡ placed (held_job_of (table_of connection_count b) c first)) (r : Plan) where
-      plan-work : (how : Work) (numerator denominator : Bytes) → requested kind (argument 0) (argument 1) (argument 2) ≡ work how kind (argument 0) numerator denominator
+      plan_work_lem : (how : Work) (numerator denominator : Bytes) → requested kind (argument 0) (argument 1) (argument 2) ≡ work how kind (argument 0) numerator denominator
           → r ≡ plan_work (unplaced place) how v → Answers r
       unfolding plan_served
-      plan-work how numerator denominator q h =
+      plan_work_lem how numerator denominator q h =
           typed kind r refl (h ∙ rw (searched (held_job_of (table_of connection_count b) c first) place held, q, ef))
 
-      pub plan-reports : kind ≡ 12 → r ≡ plan_work (unplaced place) A.reports v → Answers r
+      pub plan_reports : kind ≡ 12 → r ≡ plan_work (unplaced place) A.reports v → Answers r
       unfolding requested
-      plan-reports q = plan-work A.reports (argument 1) (argument 2) (rw q)
+      plan_reports q = plan_work_lem A.reports (argument 1) (argument 2) (rw q)
 
-      pub plan-throws : kind ≡ 25 → r ≡ plan_work (unplaced place) A.throws v → Answers r
+      pub plan_throws : kind ≡ 25 → r ≡ plan_work (unplaced place) A.throws v → Answers r
       unfolding requested
-      plan-throws q = plan-work A.throws [] [] (rw q)
+      plan_throws q = plan_work_lem A.throws [] [] (rw q)
 
-      pub plan-ends : 12 ≤ kind → (kind ≡ 12 → ⊥) → kind < 15 → r ≡ plan_work (unplaced place) A.ends v → Answers r
+      pub plan_ends : 12 ≤ kind → (kind ≡ 12 → ⊥) → kind < 15 → r ≡ plan_work (unplaced place) A.ends v → Answers r
       unfolding requested
-      plan-ends h n l = plan-work A.ends [] [] (in_run (Says A.ends) 13 2 ((λ a b d. refl), ((λ a b d. refl), tt)) kind (omega arith) l (argument 0) (argument 1) (argument 2))
+      plan_ends h n l = plan_work_lem A.ends [] [] (in_run (Says A.ends) 13 2 ((λ a b d. refl), ((λ a b d. refl), tt)) kind (omega arith) l (argument 0) (argument 1) (argument 2))
 
-      pub plan-tells : 28 ≤ kind → kind < 30 → r ≡ plan_work (unplaced place) A.tells v → Answers r
+      pub plan_tells : 28 ≤ kind → kind < 30 → r ≡ plan_work (unplaced place) A.tells v → Answers r
       unfolding requested
-      plan-tells h l = plan-work A.tells [] [] (in_run (Says A.tells) 28 2 ((λ a b d. refl), ((λ a b d. refl), tt)) kind h l (argument 0) (argument 1) (argument 2))
+      plan_tells h l = plan_work_lem A.tells [] [] (in_run (Says A.tells) 28 2 ((λ a b d. refl), ((λ a b d. refl), tt)) kind h l (argument 0) (argument 1) (argument 2))
 
   -- a submission, from the three places and the type's row
-  pub plan-submit : Submits kind → (f u w : Bytes) (joins room free : Place) (row : Kind) (r : Plan) → f ≡ argument 0 → u ≡ argument 1 → w ≡ argument 2 → row ≡ kind_of kind
+  pub plan_submit_lem : Submits kind → (f u w : Bytes) (joins room free : Place) (row : Kind) (r : Plan) → f ≡ argument 0 → u ≡ argument 1 → w ≡ argument 2 → row ≡ kind_of kind
       → joins ≡ placed (joined (table_of connection_count b) f u) → room ≡ placed (room_for (table_of connection_count b).functions f) → free ≡ placed (free_row (rows_of (table_of connection_count b)))
       → r ≡ plan_submit (unplaced joins) (unplaced room) (unplaced free) c row.3 row.4 (length w) v → Answers r
   unfolding plan_served kind_of
-  plan-submit submits f u w joins room free row r ef eu ew er gj gr gf h =
+  plan_submit_lem submits f u w joins room free row r ef eu ew er gj gr gf h =
       typed kind r refl (h ∙ rw (
         searched (joined (table_of connection_count b) f u) joins gj,
         searched (room_for (table_of connection_count b).functions f) room gr,

@@ -40,20 +40,20 @@ has_if false s c = zero_has c
 -- ---- a union whose sets do not depend on the place
 
 module _ {A : Type 0} (f : A → ℕ) (c : ℕ) (p : A → Bool) (e : (x : A) → has (f x) c ≡ p x) where
-  has-joined : (s i : ℕ) (l : List A) → has (unions (λ k x. f x) s i l) c ≡ has s c || any p l
+  has_joined : (s i : ℕ) (l : List A) → has (unions (λ k x. f x) s i l) c ≡ has s c || any p l
   unfolding unions
-  has-joined s i [] = sym (or_none_lem (has s c))
-  has-joined s i (x ∷ l) =
-      has-joined (union s (f x)) (suc i) l ∙ ap (λ (b : Bool). b || any p l) (has_union s (f x) c ∙ ap (λ (b : Bool). has s c || b) (e x))
+  has_joined s i [] = sym (or_none_lem (has s c))
+  has_joined s i (x ∷ l) =
+      has_joined (union s (f x)) (suc i) l ∙ ap (λ (b : Bool). b || any p l) (has_union s (f x) c ∙ ap (λ (b : Bool). has s c || b) (e x))
       ∙ or_assoc (has s c) (p x) (any p l)
 
-  has-unions : (i : ℕ) (l : List A) → has (unions (λ k x. f x) 0 i l) c ≡ any p l
-  has-unions i l = has-joined 0 i l ∙ ap (λ (b : Bool). b || any p l) (zero_has c)
+  has_unions : (i : ℕ) (l : List A) → has (unions (λ k x. f x) 0 i l) c ≡ any p l
+  has_unions i l = has_joined 0 i l ∙ ap (λ (b : Bool). b || any p l) (zero_has c)
 
 -- the busy are the connections with a grabbable job
 pub has_busy : (ables : List ℕ) (rs : List JobRow) (c : ℕ) → has (busy_set ables rs) c ≡ any (grabbable ables c) rs
 unfolding busy_set able_for
-has_busy ables rs c = has-unions (able_for ables) c (grabbable ables c) (λ r. has_if (queued r) (get_or ables r.function 0) c) 0 rs
+has_busy ables rs c = has_unions (able_for ables) c (grabbable ables c) (λ r. has_if (queued r) (get_or ables r.function 0) c) 0 rs
 
 -- ---- the functions that jobs name
 
@@ -77,7 +77,7 @@ has_name q h r =
 
 pub has_named : (rs : List JobRow) (q : ℕ) → q < function_count → has (named_set rs) q ≡ any (names q) rs
 unfolding named_set
-has_named rs q h = has-unions name_of q (names q) (has_name q h) 0 rs
+has_named rs q h = has_unions name_of q (names q) (has_name q h) 0 rs
 
 -- the wanted functions are marked as the server wants them
 module _ (f g : ℕ → Bool) where

@@ -15,20 +15,20 @@ use Rattle.lists.specs.Lists.{numbers}
 use Rattle.server.specs.Table.{no_row, closed, with_asleep}
 use Rattle.server.specs.Events.{lost, awake}
 use Rattle.lists.proofs.Lists.{length_numbers, number_made}
-use Rattle.lists.proofs.Rows.{length-mapFrom, map_from_at}
+use Rattle.lists.proofs.Rows.{length_map_from, map_from_at}
 use Rattle.plan.specs.Settling.{dropped_rows}
 use Rattle.plan.specs.Busy.{unions, woken_by, marked_by}
 
 -- ---- sets joined from the front: the union is that of the entries from i on and what is joined so far
 
 module _ {A : Type 0} (f : ℕ → A → ℕ) (l : List A) (u s i : ℕ) (e : u ≡ unions f s i (drop i l)) where
-  pub union-turn : (d : A) (r v : ℕ) → i < length l → r ≡ union s v → v ≡ f i (get_or l i d) → u ≡ unions f r (i + 1) (drop (i + 1) l)
+  pub union_turn : (d : A) (r v : ℕ) → i < length l → r ≡ union s v → v ≡ f i (get_or l i d) → u ≡ unions f r (i + 1) (drop (i + 1) l)
   unfolding unions
-  union-turn d r v h p q = e ∙ rw (add-one, drop-cons l i d h, p, q)
+  union_turn d r v h p q = e ∙ rw (add-one, drop-cons l i d h, p, q)
 
-  pub union-end : length l ≤ i → s ≡ u
+  pub union_end : length l ≤ i → s ≡ u
   unfolding unions
-  union-end h = let q : unions f s i (drop i l) ≡ s = rw (drop_of_length-le l h) in sym (e ∙ q)
+  union_end h = let q : unions f s i (drop i l) ≡ s = rw (drop_of_length-le l h) in sym (e ∙ q)
 
 -- ---- the wholes by place
 
@@ -42,7 +42,7 @@ dropped_at rs i = get_or-map (λ r. cond (lost r) no_row r) rs i no_row
 
 pub length_woken : (busy : ℕ) (cs : List Connection) → length (woken_by busy cs) ≡ length cs
 unfolding woken_by
-length_woken busy cs = length-mapFrom (λ c x. cond (x.asleep && has busy c) (awake x) x) 0 cs
+length_woken busy cs = length_map_from (λ c x. cond (x.asleep && has busy c) (awake x) x) 0 cs
 
 pub woken_at : (busy : ℕ) (cs : List Connection) (i : ℕ)
     → get_or (woken_by busy cs) i closed ≡ cond ((get_or cs i closed).asleep && has busy i) (awake (get_or cs i closed)) (get_or cs i closed)

@@ -32,17 +32,17 @@ module _ (f : ℕ → Bool) (g : ℕ → Bytes) where
       go false e = e
 
   -- the first n places of a list
-  pub chosen-pieces : (l : List ℕ) (n : ℕ) → n ≤ length l → pieces (λ i. chosen (get_or l i 0)) n ≡ concat (map g (filter f (take n l)))
+  pub chosen_pieces : (l : List ℕ) (n : ℕ) → n ≤ length l → pieces (λ i. chosen (get_or l i 0)) n ≡ concat (map g (filter f (take n l)))
   unfolding pieces
-  chosen-pieces l zero h = refl
-  chosen-pieces l (suc n) h =
-      ap (λ (s : Bytes). s ++ chosen (get_or l n 0)) (chosen-pieces l n (omega arith))
+  chosen_pieces l zero h = refl
+  chosen_pieces l (suc n) h =
+      ap (λ (s : Bytes). s ++ chosen (get_or l n 0)) (chosen_pieces l n (omega arith))
       ∙ sym (ap (λ (r : List ℕ). concat (map g (filter f r))) (take-suc l n 0 (omega arith)) ∙ one_more (take n l) (get_or l n 0))
 
   -- the numbers below n
-  pub chosen-numbers : (n : ℕ) → pieces chosen n ≡ concat (map g (filter f (numbers 0 n)))
+  pub chosen_numbers : (n : ℕ) → pieces chosen n ≡ concat (map g (filter f (numbers 0 n)))
   unfolding pieces
-  chosen-numbers zero = refl
-  chosen-numbers (suc n) =
-      ap (λ (s : Bytes). s ++ chosen n) (chosen-numbers n)
+  chosen_numbers zero = refl
+  chosen_numbers (suc n) =
+      ap (λ (s : Bytes). s ++ chosen n) (chosen_numbers n)
       ∙ sym (ap (λ (r : List ℕ). concat (map g (filter f r))) (numbers_last 0 n ∙ ap (λ (k : ℕ). numbers 0 n ++ (k ∷ [])) (zero-add n)) ∙ one_more (numbers 0 n) n)

@@ -10,12 +10,12 @@ use Rattle.handle.proofs.Decimal.{decimal_in_most}
 use Rattle.handle.proofs.Printing.{put_padded, take_padded}
 
 module _ (o : Bytes) (number count : ℕ) (e : o ≡ put 0 (decimal_in 10 number) (replicate 10 0)) (n : count ≡ 0 + length (decimal_in 10 number)) where
-  pub digits-part : take count o ≡ decimal number
+  pub digits_part : take count o ≡ decimal number
   unfolding decimal
-  digits-part =
+  digits_part =
       let l : length (decimal_in 10 number) ≤ 10 = decimal_in_most 10 number in
       rw (e, n, zero-add, put_padded 10 (decimal_in 10 number) l) (take_padded 10 (decimal_in 10 number) l)
 
-  pub digits-count : count ≡ length (take count o)
+  pub digits_count : count ≡ length (take count o)
   unfolding decimal
-  digits-count = n ∙ zero-add _ ∙ sym (ap length digits-part)
+  digits_count = n ∙ zero-add _ ∙ sym (ap length digits_part)

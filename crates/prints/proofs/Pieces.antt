@@ -10,7 +10,7 @@ use lib.ListN.{length, length-append}
 use Rattle.octets.specs.Bytes.{Bytes}
 use Rattle.octets.specs.Put.{put}
 use Rattle.prints.specs.Pieces.{pieces}
-use Rattle.octets.proofs.Runs.{laid_as, laid_none, laid_then, room-then}
+use Rattle.octets.proofs.Runs.{laid_as, laid_none, laid_then, room_then}
 
 -- pieces that are equal one by one make the same run
 pub same_pieces : (f g : ℕ → Bytes) (n : ℕ) → ((i : ℕ) → i < n → f i ≡ g i) → pieces f n ≡ pieces g n
@@ -24,20 +24,20 @@ module _ (g : ℕ → Bytes) where
   unfolding pieces
   one_more n = refl
 
-  pub more-long : (n : ℕ) → length (pieces g (suc n)) ≡ length (pieces g n) + length (g n)
-  more-long n = ap length (sym (one_more n)) ∙ length-append (pieces g n) (g n)
+  pub more_long : (n : ℕ) → length (pieces g (suc n)) ≡ length (pieces g n) + length (g n)
+  more_long n = ap length (sym (one_more n)) ∙ length-append (pieces g n) (g n)
 
   -- more pieces, more bytes
   grows : (n k : ℕ) → length (pieces g n) ≤ length (pieces g (n + k))
   grows n zero = rw add-zero (omega arith)
-  grows n (suc k) = let q : n + suc k ≡ suc (n + k) = omega arith in rw (q, more-long (n + k)) (omega (arith, grows n k))
+  grows n (suc k) = let q : n + suc k ≡ suc (n + k) = omega arith in rw (q, more_long (n + k)) (omega (arith, grows n k))
 
   -- pieces of at most k bytes each
-  pub pieces-short : (k n : ℕ) → ((i : ℕ) → i < n → length (g i) ≤ k) → length (pieces g n) ≤ n * k
+  pub pieces_short : (k n : ℕ) → ((i : ℕ) → i < n → length (g i) ≤ k) → length (pieces g n) ≤ n * k
   unfolding pieces
-  pieces-short k zero h = omega arith
-  pieces-short k (suc n) h =
-      omega (arith, more-long n, pieces-short k n (λ i l. h i (omega arith)), h n (omega arith))
+  pieces_short k zero h = omega arith
+  pieces_short k (suc n) h =
+      omega (arith, more_long n, pieces_short k n (λ i l. h i (omega arith)), h n (omega arith))
 
   -- ---- a loop that lays the pieces over `out` from `at` on
 
@@ -51,11 +51,11 @@ module _ (g : ℕ → Bytes) where
     start = laid_none at out
 
     module _ (i p : ℕ) (o : Bytes) (e : Laid i p o) (x : Bytes) (q : x ≡ g i) where
-      pub turn-room : (n : ℕ) → i < n → at + length (pieces g n) ≤ length out → p + length x ≤ length o
-      turn-room n h room =
+      pub turn_room : (n : ℕ) → i < n → at + length (pieces g n) ≤ length out → p + length x ≤ length o
+      turn_room n h room =
           let k : suc i + (n - suc i) ≡ n = omega arith in
           let b : length (pieces g (suc i)) ≤ length (pieces g n) = rw k at (grows (suc i) (n - suc i)) in
-          room-then at (pieces g i) x out p o e (rw (q, one_more i) (omega (arith, b)))
+          room_then at (pieces g i) x out p o e (rw (q, one_more i) (omega (arith, b)))
 
       pub turn : (r : ℕ) (z : Bytes) → (r ≡ p + length x) × (z ≡ put p x o) → Laid (i + 1) r z
       turn r z f =

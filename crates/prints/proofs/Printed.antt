@@ -36,18 +36,18 @@ length_printed (x ∷ s) = ap suc (length_printed s)
 -- ---- a text that may be empty, by the test of the code
 
 module _ (none : Bytes) where
-  pub printed-none : (s : Bytes) → length s ≡ 0 → none ≡ printed_or none s
+  pub printed_none : (s : Bytes) → length s ≡ 0 → none ≡ printed_or none s
   unfolding printed_or
-  printed-none [] e = refl
-  printed-none (x ∷ s) e = absurd (omega arith)
+  printed_none [] e = refl
+  printed_none (x ∷ s) e = absurd (omega arith)
 
-  pub printed-some : (s : Bytes) → (length s ≡ 0 → ⊥) → printed s ≡ printed_or none s
+  pub printed_some : (s : Bytes) → (length s ≡ 0 → ⊥) → printed s ≡ printed_or none s
   unfolding printed_or
-  printed-some [] n = absurd (n refl)
-  printed-some (x ∷ s) n = refl
+  printed_some [] n = absurd (n refl)
+  printed_some (x ∷ s) n = refl
 
   -- what stands for the empty text comes on top at the most
-  pub printed-or-short : (s : Bytes) → length (printed_or none s) ≤ length s + length none
+  pub printed_or_short : (s : Bytes) → length (printed_or none s) ≤ length s + length none
   unfolding printed_or
-  printed-or-short [] = omega arith
-  printed-or-short (x ∷ s) = omega (arith, length_printed (x ∷ s))
+  printed_or_short [] = omega arith
+  printed_or_short (x ∷ s) = omega (arith, length_printed (x ∷ s))

@@ -29,14 +29,14 @@ pub digits_room : (p : Bytes) (at k : ℕ) → at + length (line_of p) ≤ k →
 digits_room p at k h = omega (arith, length-append (hex p) (10 ∷ []))
 
 module _ (p x₀ x : Bytes) (at end : ℕ) (q : end ≡ at + length (hex p)) where
-  pub line-room : at + length (line_of p) ≤ length x₀ → x ≡ put at (hex p) x₀ → end + 1 ≤ length x
-  line-room h e = omega (arith, length-append (hex p) (10 ∷ []), ap length e, length_put at (hex p) x₀)
+  pub line_room : at + length (line_of p) ≤ length x₀ → x ≡ put at (hex p) x₀ → end + 1 ≤ length x
+  line_room h e = omega (arith, length-append (hex p) (10 ∷ []), ap length e, length_put at (hex p) x₀)
 
-  pub line-place : (r : ℕ) → r ≡ end + 1 → r ≡ at + length (line_of p)
-  line-place r e = omega (arith, length-append (hex p) (10 ∷ []))
+  pub line_place : (r : ℕ) → r ≡ end + 1 → r ≡ at + length (line_of p)
+  line_place r e = omega (arith, length-append (hex p) (10 ∷ []))
 
-  pub line-laid : (y : Bytes) → x ≡ put at (hex p) x₀ → y ≡ put end (10 ∷ []) x → y ≡ put at (line_of p) x₀
-  line-laid y e f = rw (f, e, q) (put_put at (hex p) (10 ∷ []) x₀)
+  pub line_laid : (y : Bytes) → x ≡ put at (hex p) x₀ → y ≡ put end (10 ∷ []) x → y ≡ put at (line_of p) x₀
+  line_laid y e f = rw (f, e, q) (put_put at (hex p) (10 ∷ []) x₀)
 
 -- ---- an answer's lines
 
@@ -50,8 +50,8 @@ unfolding answer_lines
 no_frame_digits u t = refl
 
 module _ (ps : List Bytes) (n end : ℕ) (e : end ≡ 0 + length (packet_lines line_of ps)) where
-  pub answer-place : (r : ℕ) → r ≡ end + length (line_of (n ∷ [])) → r ≡ 0 + length (answer_lines ps n)
-  answer-place r q = omega (arith, length-append (packet_lines line_of ps) (line_of (n ∷ [])), ap length (lines_answer ps n))
+  pub answer_place : (r : ℕ) → r ≡ end + length (line_of (n ∷ [])) → r ≡ 0 + length (answer_lines ps n)
+  answer_place r q = omega (arith, length-append (packet_lines line_of ps) (line_of (n ∷ [])), ap length (lines_answer ps n))
 
-  pub answer-laid : (x₀ x y : Bytes) → x ≡ put 0 (packet_lines line_of ps) x₀ → y ≡ put end (line_of (n ∷ [])) x → y ≡ put 0 (answer_lines ps n) x₀
-  answer-laid x₀ x y f g = rw (lines_answer ps n, g, f, e) (put_put 0 (packet_lines line_of ps) (line_of (n ∷ [])) x₀)
+  pub answer_laid : (x₀ x y : Bytes) → x ≡ put 0 (packet_lines line_of ps) x₀ → y ≡ put end (line_of (n ∷ [])) x → y ≡ put 0 (answer_lines ps n) x₀
+  answer_laid x₀ x y f g = rw (lines_answer ps n, g, f, e) (put_put 0 (packet_lines line_of ps) (line_of (n ∷ [])) x₀)

@@ -18,7 +18,7 @@ use Rattle.server.specs.Call.{make}
 use Rattle.server.specs.Replay.{frame, longest_line, answer_lines, line_writes, server_after, replay_from, replay_of}
 use Rattle.capture.specs.Packets.{packet_lines}
 use Rattle.capture.specs.Spoken.{spoken_to, spoken, texts_seen}
-use Rattle.capture.proofs.Lines.{lines-short}
+use Rattle.capture.proofs.Lines.{lines_short}
 use Rattle.capture.proofs.Texts.{Fits, text_said}
 use Rattle.capture.proofs.Whole.{whole_said}
 use Rattle.replay_line.specs.Replayed.{line_of, in_digits, text_size, replayed_text}
@@ -26,7 +26,7 @@ use Rattle.replay_line.proofs.Digits.{line_length, line_short, lines_answer}
 
 digits_fit : Fits text_size in_digits
 digits_fit f ps n u t g a h =
-    omega (arith, ap length (lines_answer ps n), length-append (packet_lines line_of ps) (line_of (n ∷ [])), lines-short line_of 3 line_short ps a, line_length (n ∷ []))
+    omega (arith, ap length (lines_answer ps n), length-append (packet_lines line_of ps) (line_of (n ∷ [])), lines_short line_of 3 line_short ps a, line_length (n ∷ []))
 
 -- ---- what is said in digits is the replay of document 01
 
@@ -48,9 +48,9 @@ module _ (hub : Bytes) (good : is_hub_name hub ≡ true) (t w : Bytes) (lt : tab
   replay_lines lines o x lo lx = text_said text_size (λ k. in_digits) (λ k. digits_fit) t w lt lw hub good 1 lines o x lo lx ∙ spoken_written 1 lines (start connection_count hub)
 
   -- from text to text, with a buffer for a line that holds one digit more than a frame has
-  pub replay-whole : (buffer text o x : Bytes) → longest_line < length buffer → output_size connection_count ≤ length o → text_size ≤ length x
+  pub replay_whole : (buffer text o x : Bytes) → longest_line < length buffer → output_size connection_count ≤ length o → text_size ≤ length x
       → replayed_text (texts_seen (run_of buffer text)) (make connection_count hub t w).table (make connection_count hub t w).workloads o x ≡ replay_from (start connection_count hub) (lines_of text)
-  replay-whole buffer text o x lb lo lx =
+  replay_whole buffer text o x lb lo lx =
       whole_said hub good t w lt lw text_size (λ k. in_digits) (λ k. digits_fit) buffer text o x lb lo lx ∙ spoken_written 1 (lines_of text) (start connection_count hub)
 
 lap_named : is_hub_name lap ≡ true
@@ -62,4 +62,4 @@ pub replay_text : (t w : Bytes) → table_size connection_count ≤ length t →
     → (buffer text o x : Bytes) → longest_line < length buffer → output_size connection_count ≤ length o → text_size ≤ length x
     → replayed_text (texts_seen (run_of buffer text)) (make connection_count lap t w).table (make connection_count lap t w).workloads o x ≡ replay_of text
 unfolding replay_of
-replay_text t w lt lw buffer text o x lb lo lx = replay-whole lap lap_named t w lt lw buffer text o x lb lo lx
+replay_text t w lt lw buffer text o x lb lo lx = replay_whole lap lap_named t w lt lw buffer text o x lb lo lx

@@ -18,10 +18,10 @@ use Rattle.server.specs.Layout.{table_of, table_size}
 use Rattle.server.specs.Call.{is_sound, left}
 use Rattle.server.specs.Replay.{frame}
 use Rattle.command.specs.Texts.{text_for}
-use Rattle.command_laws.proofs.Bounds.{text-room}
+use Rattle.command_laws.proofs.Bounds.{text_room}
 use Rattle.capture.specs.Spoken.{answered_to}
 use Rattle.report_line.specs.Reported.{answer_to, command_line, command_size, is_unfit, keeping, kept, kept_of, report, reported}
-use Rattle.report_line.proofs.Commands.{cut-command, line-back}
+use Rattle.report_line.proofs.Commands.{cut_command, line_back}
 
 -- ---- one line of the capture
 
@@ -32,18 +32,18 @@ line_kept line t w o v e n l p u s q = rw (← e) (ap kept_of q)
 -- ---- when nothing is said
 
 module _ (t x : Bytes) where
-  pub short-text : length x < output_size connection_count → true ≡ is_unfit t x
+  pub short_text : length x < output_size connection_count → true ≡ is_unfit t x
   unfolding is_unfit
-  short-text h = rw (lt-ltb (length x) (output_size connection_count) h)
+  short_text h = rw (lt-ltb (length x) (output_size connection_count) h)
 
   module _ (room : output_size connection_count ≤ length x) where
-    pub short-table : length t < table_size connection_count → true ≡ is_unfit t x
+    pub short_table : length t < table_size connection_count → true ≡ is_unfit t x
     unfolding is_unfit
-    short-table h = rw (le-ltb (length x) (output_size connection_count) room, lt-ltb (length t) (table_size connection_count) h)
+    short_table h = rw (le-ltb (length x) (output_size connection_count) room, lt-ltb (length t) (table_size connection_count) h)
 
-    pub long-enough : table_size connection_count ≤ length t → (s : Bool) → s ≡ is_sound connection_count t → not s ≡ is_unfit t x
+    pub long_enough : table_size connection_count ≤ length t → (s : Bool) → s ≡ is_sound connection_count t → not s ≡ is_unfit t x
     unfolding is_unfit
-    long-enough h s e = rw (le-ltb (length x) (output_size connection_count) room, le-ltb (length t) (table_size connection_count) h) (ap not e)
+    long_enough h s e = rw (le-ltb (length x) (output_size connection_count) room, le-ltb (length t) (table_size connection_count) h) (ap not e)
 
 -- a text and a table of which something is said
 pub record Fit (t x : Bytes) : Type 0 where
@@ -60,25 +60,25 @@ fit t x e =
 
 -- any answer has room
 pub answer_room : (t x : Bytes) → Fit t x → (line : Bytes) → 0 + length (text_for line (table_of connection_count t)) ≤ length x
-answer_room t x f line = omega (arith, text-room connection_count t f.sound 0 line, f.room)
+answer_room t x f line = omega (arith, text_room connection_count t f.sound 0 line, f.room)
 
 -- ---- the answer, by whether something is said
 
 module _ (t x : Bytes) (r : Bool) (e : r ≡ is_unfit t x) where
-  pub unfit-said : r ≡ true → (c : Bytes) → report 0 x ≡ reported c t x
+  pub unfit_said : r ≡ true → (c : Bytes) → report 0 x ≡ reported c t x
   unfolding reported
-  unfit-said h c = rw (← e, h)
+  unfit_said h c = rw (← e, h)
 
   module _ (h : r ≡ false) where
-    pub answer-needs : (line : Bytes) → (table_size connection_count ≤ length t) × (is_sound connection_count t ≡ true) × (0 + length (text_for line (table_of connection_count t)) ≤ length x)
-    answer-needs line = let f = fit t x (sym e ∙ h) in (f.long, f.sound, answer_room t x f line)
+    pub answer_needs : (line : Bytes) → (table_size connection_count ≤ length t) × (is_sound connection_count t ≡ true) × (0 + length (text_for line (table_of connection_count t)) ≤ length x)
+    answer_needs line = let f = fit t x (sym e ∙ h) in (f.long, f.sound, answer_room t x f line)
 
     -- the command's line was laid over z
     module _ (c z : Bytes) (l : command_size < length z) (y : Bytes) (end : ℕ) (p : (end ≡ 0 + length (command_line c)) × (y ≡ put 0 (command_line c) z)) where
       answer_back : (u : Table) → text_for (take end y) u ≡ answer_to c u
       unfolding command_line
-      answer_back u = ap (λ (a : Bytes). text_for a u) (line-back c z l y end p) ∙ cut-command command_size c (omega arith) u
+      answer_back u = ap (λ (a : Bytes). text_for a u) (line_back c z l y end p) ∙ cut_command command_size c (omega arith) u
 
-      pub answer-said : (n : ℕ) (v : Bytes) → (n ≡ 0 + length (text_for (take end y) (table_of connection_count t))) × (v ≡ put 0 (text_for (take end y) (table_of connection_count t)) x) → report n v ≡ reported c t x
+      pub answer_said : (n : ℕ) (v : Bytes) → (n ≡ 0 + length (text_for (take end y) (table_of connection_count t))) × (v ≡ put 0 (text_for (take end y) (table_of connection_count t)) x) → report n v ≡ reported c t x
       unfolding reported
-      answer-said n v g = rw (← e, h, g.0, zero-add, g.1, answer_back (table_of connection_count t))
+      answer_said n v g = rw (← e, h, g.0, zero-add, g.1, answer_back (table_of connection_count t))

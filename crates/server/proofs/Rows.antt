@@ -42,8 +42,8 @@ pub record InRange (m n : ℕ) (r : JobRow) : Type 0 where
   pub holder : r.holder ≤ n
 
 module _ (m n : ℕ) where
-  pub in-range : (r : JobRow) → numbers_in_range m n r ≡ true → InRange m n r
-  in-range r e =
+  pub in_range : (r : JobRow) → numbers_in_range m n r ≡ true → InRange m n r
+  in_range r e =
       let e2 = and_right (leb r.priority 2) _ e in
       record {
         priority = leb-true _ _ (and_left (leb r.priority 2) _ e);
@@ -51,16 +51,16 @@ module _ (m n : ℕ) where
         holder = leb-true _ _ (and_right (ltb r.function m) _ e2);
       }
 
-  pub range-by : (r : JobRow) → InRange m n r → numbers_in_range m n r ≡ true
-  range-by r h =
+  pub range_by : (r : JobRow) → InRange m n r → numbers_in_range m n r ≡ true
+  range_by r h =
       and_both (leb r.priority 2) _ (le-leb _ 2 h.priority) (and_both (ltb r.function m) _ (lt-ltb _ m h.function) (le-leb _ n h.holder))
 
   -- a row with another holder, and the row of a new job
-  pub range-holder : (r : JobRow) (h : ℕ) → h ≤ n → numbers_in_range m n r ≡ true → numbers_in_range m n (with_holder h r) ≡ true
-  range-holder r h l e = let x = in-range r e in range-by (with_holder h r) (record { priority = x.priority; function = x.function; holder = l })
+  pub range_holder : (r : JobRow) (h : ℕ) → h ≤ n → numbers_in_range m n r ≡ true → numbers_in_range m n (with_holder h r) ≡ true
+  range_holder r h l e = let x = in_range r e in range_by (with_holder h r) (record { priority = x.priority; function = x.function; holder = l })
 
-  pub range-fresh : (s q priority size : ℕ) → priority ≤ 2 → q < m → numbers_in_range m n (fresh_row s q priority size) ≡ true
-  range-fresh s q priority size l h = range-by (fresh_row s q priority size) (record { priority = l; function = h; holder = omega arith })
+  pub range_fresh : (s q priority size : ℕ) → priority ≤ 2 → q < m → numbers_in_range m n (fresh_row s q priority size) ≡ true
+  range_fresh s q priority size l h = range_by (fresh_row s q priority size) (record { priority = l; function = h; holder = omega arith })
 
 -- ---- numbers that fit their bytes
 
@@ -74,4 +74,4 @@ pub free_fits : RangeFits no_row
 free_fits = record { priority = omega arith; function = omega arith; holder = omega arith }
 
 pub range_fits : (m n : ℕ) → m ≤ 256 → n ≤ 256 → (r : JobRow) → numbers_in_range m n r ≡ true → RangeFits r
-range_fits m n l k r e = let x = in-range m n r e in record { priority = omega arith; function = omega arith; holder = omega arith }
+range_fits m n l k r e = let x = in_range m n r e in record { priority = omega arith; function = omega arith; holder = omega arith }

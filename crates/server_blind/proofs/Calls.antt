@@ -18,11 +18,11 @@ use Rattle.server.specs.Layout.{table_size, bytes_of}
 use Rattle.server.specs.Call.{sent_bytes, performed, call, make}
 use Rattle.lists.proofs.Cases.{All, All2}
 use Rattle.server_calls.specs.History.{Call, events, calls}
-use Rattle.server_calls.proofs.Follows.{table_with, workloads_with, Running, running_next, call-follows}
+use Rattle.server_calls.proofs.Follows.{table_with, workloads_with, Running, running_next, call_follows}
 use Rattle.server_calls.proofs.Output.{output_fits}
 use Rattle.server_calls.proofs.Histories.{running_start, make_start, LongOutputs}
 use Rattle.server_blind.proofs.Alike.{Alike, Like, Agree}
-use Rattle.server_blind.proofs.Blind.{table-alike, agree_from}
+use Rattle.server_blind.proofs.Blind.{table_alike, agree_from}
 use Rattle.server_blind.proofs.OpaqueParts.{sent_apt}
 use Rattle.server_blind.proofs.Outputs.{all_alike, length_covered, covered_same, Match, Both}
 
@@ -47,10 +47,10 @@ module _ (n : ℕ) (few : n ≤ 256) (t w : Bytes) (long_table : table_size n �
   -- ---- one call
 
   module _ (x y : Call) (s r : Server) (h : Running n s) (k : Running n r) (l : output_size n ≤ length x.output) (m : output_size n ≤ length y.output) where
-    match-performed : Related R (answer x.event s) (answer y.event r) → (next x.event s).table ≡ (next y.event r).table
+    match_performed : Related R (answer x.event s) (answer y.event r) → (next x.event s).table ≡ (next y.event r).table
         → Match R x y (performed x.event s t w x.output) (performed y.event r t w y.output)
     unfolding performed
-    match-performed a q =
+    match_performed a q =
         let ps = (answer x.event s).sent in
         let qs = (answer y.event r).sent in
         let o = all_alike (all_like finer a.sent) (sent_apt n x.event s h) (sent_apt n y.event r k) in
@@ -67,25 +67,25 @@ module _ (n : ℕ) (few : n ≤ 256) (t w : Bytes) (long_table : table_size n �
           related = a.sent;
         }
 
-    pub match-call : Related R (answer x.event s) (answer y.event r) → (next x.event s).table ≡ (next y.event r).table
+    pub match_call : Related R (answer x.event s) (answer y.event r) → (next x.event s).table ≡ (next y.event r).table
         → Match R x y (call n x.event (table_with s t) (workloads_with s w) x.output) (call n y.event (table_with r t) (workloads_with r w) y.output)
-    match-call a q =
-        rw (call-follows n (omega arith) s h t w long_table long_workloads x.event x.output l, call-follows n (omega arith) r k t w long_table long_workloads y.event y.output m)
-        (match-performed a q)
+    match_call a q =
+        rw (call_follows n (omega arith) s h t w long_table long_workloads x.event x.output l, call_follows n (omega arith) r k t w long_table long_workloads y.event y.output m)
+        (match_performed a q)
 
   -- ---- all calls
 
   -- buffers that hold two servers with equal tables, whose answers are related
-  pub match-calls : {xs ys : List Call} → AlikeEvents xs ys → LongOutputs n xs → LongOutputs n ys → (s r : Server) → Running n s → Running n r → s.table ≡ r.table
+  pub match_calls : {xs ys : List Call} → AlikeEvents xs ys → LongOutputs n xs → LongOutputs n ys → (s r : Server) → Running n s → Running n r → s.table ≡ r.table
       → All2 (Related R) (answers s (events xs)) (answers r (events ys))
       → Both (Match R) xs ys (calls n xs (table_with s t) (workloads_with s w)) (calls n ys (table_with r t) (workloads_with r w))
   unfolding calls answers performed
-  match-calls All2.none All.none All.none s r h k q z = Both.none
-  match-calls (All2.more {a = x} {b = y} e rest) (All.more l ls) (All.more m ms) s r h k q (All2.more a as') =
-      let u = table-alike e s r q in
-      rw (call-follows n (omega arith) s h t w long_table long_workloads x.event x.output l, call-follows n (omega arith) r k t w long_table long_workloads y.event y.output m)
-      (Both.more (match-performed x y s r h k l m a u)
-      (match-calls rest ls ms (next x.event s) (next y.event r) (running_next n x.event s h) (running_next n y.event r k) u as'))
+  match_calls All2.none All.none All.none s r h k q z = Both.none
+  match_calls (All2.more {a = x} {b = y} e rest) (All.more l ls) (All.more m ms) s r h k q (All2.more a as') =
+      let u = table_alike e s r q in
+      rw (call_follows n (omega arith) s h t w long_table long_workloads x.event x.output l, call_follows n (omega arith) r k t w long_table long_workloads y.event y.output m)
+      (Both.more (match_performed x y s r h k l m a u)
+      (match_calls rest ls ms (next x.event s) (next y.event r) (running_next n x.event s h) (running_next n y.event r k) u as'))
 
 -- ---- the law
 
@@ -102,7 +102,7 @@ pub blind_calls : (n : ℕ) → n ≤ 256 → (hub : Bytes) → is_hub_name hub 
     → Both (Match Like) xs ys (calls n xs (make n hub t w).table (make n hub t w).workloads) (calls n ys (make n hub t w).table (make n hub t w).workloads)
 blind_calls n few hub good t w lt lw a l m =
     rw (make_start n hub good t w lt lw)
-    (match-calls n few t w lt lw (λ p q z. z) a l m (start n hub) (start n hub) (running_start n hub good) (running_start n hub good) refl (related_agree (agree_from (events_alike a) (start n hub) (start n hub) refl)))
+    (match_calls n few t w lt lw (λ p q z. z) a l m (start n hub) (start n hub) (running_start n hub good) (running_start n hub good) refl (related_agree (agree_from (events_alike a) (start n hub) (start n hub) refl)))
 
 -- the product's number of connections, and its sizes of table and workloads
 pub product_blind : (hub : Bytes) → is_hub_name hub ≡ true → (t w : Bytes) → table_size connection_count ≤ length t → workloads_size ≤ length w → {xs ys : List Call} → AlikeEvents xs ys → LongOutputs connection_count xs → LongOutputs connection_count ys

@@ -62,12 +62,12 @@ pub data ButTo (P : ℕ → Type 0) (p q : Sent) : Type 0 where
   differs : P p.to → Like p q → ButTo P p q
 
 module _ {e f : Event} (a : Alike e f) (s : Server) {P : ℕ → Type 0} where
-  renders-to : {xs : List Send} → All (Carries P) xs → All2 (ButTo P) (map (render e s) xs) (map (render f s) xs)
+  renders_to : {xs : List Send} → All (Carries P) xs → All2 (ButTo P) (map (render e s) xs) (map (render f s) xs)
   unfolding render
-  renders-to All.none = All2.none
-  renders-to (All.more a_plain ps) = All2.more (equal refl) (renders-to ps)
-  renders-to (All.more an_assignment ps) = All2.more (equal refl) (renders-to ps)
-  renders-to (All.more (a_copy {to} {kind} x) ps) = All2.more (differs x (like_render a s s refl (copy to kind))) (renders-to ps)
+  renders_to All.none = All2.none
+  renders_to (All.more a_plain ps) = All2.more (equal refl) (renders_to ps)
+  renders_to (All.more an_assignment ps) = All2.more (equal refl) (renders_to ps)
+  renders_to (All.more (a_copy {to} {kind} x) ps) = All2.more (differs x (like_render a s s refl (copy to kind))) (renders_to ps)
 
 -- fewer connections may be named
 pub but_to_more : {P Q : ℕ → Type 0} → ((l : ℕ) → P l → Q l) → {ps qs : List Sent} → All2 (ButTo P) ps qs → All2 (ButTo Q) ps qs
@@ -78,4 +78,4 @@ but_to_more f (All2.more (differs x l) rest) = All2.more (differs (f _ x) l) (bu
 -- one event's opaque bytes alone are other ones: only packets to those who may see them differ, and only in their opaque part
 pub answer_to_lem : {e f : Event} → Alike e f → (s : Server) → All2 (ButTo (MaySee s.table e)) (answer e s).sent (answer f s).sent
 unfolding answer
-answer_to_lem {e} {f} a s = rw (← (decided_alike a s s refl)) (renders-to a s (all_more (λ x p. carries p) (why_sent e s)))
+answer_to_lem {e} {f} a s = rw (← (decided_alike a s s refl)) (renders_to a s (all_more (λ x p. carries p) (why_sent e s)))

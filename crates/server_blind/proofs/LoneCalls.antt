@@ -19,19 +19,19 @@ use Rattle.server.specs.Call.{Result, performed, call, make}
 use Rattle.lists.proofs.Cases.{All2}
 use Rattle.server_laws.proofs.Serials.{Submits, Creates}
 use Rattle.server_calls.specs.History.{Call, Memory, events, calls, leaves}
-use Rattle.server_calls.proofs.Follows.{table_with, workloads_with, Running, running_next, call-follows}
+use Rattle.server_calls.proofs.Follows.{table_with, workloads_with, Running, running_next, call_follows}
 use Rattle.server_calls.proofs.Histories.{running_after, LongOutputs, history}
 use Rattle.server_blind.proofs.Alike.{Alike, alike_same, Like, like_same}
-use Rattle.server_blind.proofs.Blind.{table-alike}
+use Rattle.server_blind.proofs.Blind.{table_alike}
 use Rattle.server_blind.proofs.Workloads as Workloads
 use Rattle.server_blind.proofs.Workloads.{ButAssigned, AgreeBut, Apart}
 use Rattle.server_blind.proofs.Copies as Copies
 use Rattle.server_blind.proofs.Copies.{MaySee, ButTo}
 use Rattle.server_blind.proofs.Lone as Abstract
-use Rattle.server_blind.proofs.Lone.{OnlyTo, Later, lone-created, lone_submission, lone-other}
+use Rattle.server_blind.proofs.Lone.{OnlyTo, Later, lone_created, lone_submission, lone_other}
 use Rattle.server_blind.proofs.Outputs.{Match, Both}
-use Rattle.server_blind.proofs.Stored.{server_of, created-apart, leaves-apart}
-use Rattle.server_blind.proofs.Calls.{AlikeEvents, Related, Finer, match-call, match-calls}
+use Rattle.server_blind.proofs.Stored.{server_of, created_apart, leaves_apart}
+use Rattle.server_blind.proofs.Calls.{AlikeEvents, Related, Finer, match_call, match_calls}
 
 -- ---- where a call stands in a history
 
@@ -112,41 +112,41 @@ module _ (n : ℕ) (few : n ≤ 256) (t w : Bytes) (long_table : table_size n �
   abbrev held : Memory
   held = record { table = table_with s t; workloads = workloads_with s w }
 
-  follow-x : call_on n held x ≡ performed x.event s t w x.output
-  follow-x = call-follows n (omega arith) s h t w long_table long_workloads x.event x.output lx
+  follow_x : call_on n held x ≡ performed x.event s t w x.output
+  follow_x = call_follows n (omega arith) s h t w long_table long_workloads x.event x.output lx
 
-  follow-y : call_on n held y ≡ performed y.event s t w y.output
-  follow-y = call-follows n (omega arith) s h t w long_table long_workloads y.event y.output ly
+  follow_y : call_on n held y ≡ performed y.event s t w y.output
+  follow_y = call_follows n (omega arith) s h t w long_table long_workloads y.event y.output ly
 
-  lone-by : {R S : Sent → Sent → Type 0} → Finer R → Finer S → Related R (answer x.event s) (answer y.event s)
+  lone_by : {R S : Sent → Sent → Type 0} → Finer R → Finer S → Related R (answer x.event s) (answer y.event s)
       → All2 (Related S) (answers (next x.event s) (events xs)) (answers (next y.event s) (events ys)) → Lone R S n held x y xs ys
   unfolding performed
-  lone-by f g r l =
-      let u = table-alike a s s refl in
+  lone_by f g r l =
+      let u = table_alike a s s refl in
       record {
-        itself = match-call n few t w long_table long_workloads f x y s s h h lx ly r u;
-        later = rw (follow-x, follow-y)
-            (match-calls n few t w long_table long_workloads g (same_alike same) lxs lys (next x.event s) (next y.event s) (running_next n x.event s h) (running_next n y.event s h) u l);
+        itself = match_call n few t w long_table long_workloads f x y s s h h lx ly r u;
+        later = rw (follow_x, follow_y)
+            (match_calls n few t w long_table long_workloads g (same_alike same) lxs lys (next x.event s) (next y.event s) (running_next n x.event s h) (running_next n y.event s h) u l);
       }
 
   -- the servers after the two calls are one
-  lone-now : {R : Sent → Sent → Type 0} → Finer R → Related R (answer x.event s) (answer y.event s) → next x.event s ≡ next y.event s → LoneNow R n held x y xs ys
+  lone_now : {R : Sent → Sent → Type 0} → Finer R → Related R (answer x.event s) (answer y.event s) → next x.event s ≡ next y.event s → LoneNow R n held x y xs ys
   unfolding performed
-  lone-now f r q =
+  lone_now f r q =
       record {
-        lone = lone-by f finer_equal r (rw (q, same_events same) (equal_answers (answers (next y.event s) (events ys))));
-        workloads = ap (λ (z : Result). z.workloads) follow-x ∙ ap (λ (z : Server). put 0 (concat z.workloads) w) q ∙ sym (ap (λ (z : Result). z.workloads) follow-y);
+        lone = lone_by f finer_equal r (rw (q, same_events same) (equal_answers (answers (next y.event s) (events ys))));
+        workloads = ap (λ (z : Result). z.workloads) follow_x ∙ ap (λ (z : Server). put 0 (concat z.workloads) w) q ∙ sym (ap (λ (z : Result). z.workloads) follow_y);
       }
 
   -- the submission made the job with serial k
-  lone-made : (k : ℕ) → answer x.event s ≡ answer y.event s → Creates s x.event k → LoneMade s.table.hub k n held x y xs ys
+  lone_made : (k : ℕ) → answer x.event s ≡ answer y.event s → Creates s x.event k → LoneMade s.table.hub k n held x y xs ys
   unfolding performed
-  lone-made k q c =
+  lone_made k q c =
       let e : events xs ≡ events ys = same_events same in
       record {
-        lone = lone-by finer_equal (finer_assigned (handle s.table.hub k)) (one_answer _ _ q) (rw (← e) (related_but (lone-created a s k c (events xs))));
-        workloads = rw (follow-x, follow-y)
-            (leaves-apart n (omega arith) t w long_table long_workloads k (next x.event s) (next y.event s) (running_next n x.event s h) (running_next n y.event s h) (created-apart a s k c) xs ys e lxs lys);
+        lone = lone_by finer_equal (finer_assigned (handle s.table.hub k)) (one_answer _ _ q) (rw (← e) (related_but (lone_created a s k c (events xs))));
+        workloads = rw (follow_x, follow_y)
+            (leaves_apart n (omega arith) t w long_table long_workloads k (next x.event s) (next y.event s) (running_next n x.event s h) (running_next n y.event s h) (created_apart a s k c) xs ys e lxs lys);
       }
 
 -- ---- in a history from a fresh table
@@ -175,21 +175,21 @@ module _ (n : ℕ) (few : n ≤ 256) (hub : Bytes) (good : is_hub_name hub ≡ t
   now : {P : ℕ → Type 0} → OnlyTo P x.event y.event server → LoneNow (ButTo P) n left x y xs ys
   now {P} o =
       rw left_is
-      (lone-now n few t w long_table long_workloads server (running_after n hub good (events before)) x y a lx ly same lxs lys (finer_to P) (record { number = o.number; sent = o.sent }) o.server)
+      (lone_now n few t w long_table long_workloads server (running_after n hub good (events before)) x y a lx ly same lxs lys (finer_to P) (record { number = o.number; sent = o.sent }) o.server)
 
   -- a submission: its own packets are equal, and later ones as said above
-  pub submission-calls : {c : ℕ} → Submits x.event c → LaterCalls server n left x y xs ys
-  submission-calls i =
+  pub submission_calls : {c : ℕ} → Submits x.event c → LaterCalls server n left x y xs ys
+  submission_calls i =
       let (q, l) = lone_submission a server i in
       by q l
     where
       by : answer x.event server ≡ answer y.event server → Later x.event y.event server → LaterCalls server n left x y xs ys
       by q (Abstract.made_none z e) =
-          made_none z (rw left_is (lone-now n few t w long_table long_workloads server (running_after n hub good (events before)) x y a lx ly same lxs lys finer_equal (one_answer _ _ q) e))
+          made_none z (rw left_is (lone_now n few t w long_table long_workloads server (running_after n hub good (events before)) x y a lx ly same lxs lys finer_equal (one_answer _ _ q) e))
       by q (Abstract.made_one c f) =
-          made_one c (rw left_is (lone-made n few t w long_table long_workloads server (running_after n hub good (events before)) x y a lx ly same lxs lys _ q c))
+          made_one c (rw left_is (lone_made n few t w long_table long_workloads server (running_after n hub good (events before)) x y a lx ly same lxs lys _ q c))
 
   -- any other event: only packets to those who may see its opaque bytes differ, the sender of an echo and the listeners of the job that a
   -- worker packet names; nothing differs later
-  pub other-calls : ((c : ℕ) → ¬ Submits x.event c) → LoneNow (ButTo (MaySee server.table x.event)) n left x y xs ys
-  other-calls z = now (lone-other a server z)
+  pub other_calls : ((c : ℕ) → ¬ Submits x.event c) → LoneNow (ButTo (MaySee server.table x.event)) n left x y xs ys
+  other_calls z = now (lone_other a server z)

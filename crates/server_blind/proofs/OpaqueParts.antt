@@ -11,14 +11,14 @@ use lib.Dec.{eqb, leb}
 use Rattle.octets.specs.Bytes.{Bytes, first_zero, zero_free, big_endian, number_at}
 use Rattle.octets.proofs.Strings.{and_left, and_right, number_written}
 use Rattle.handle.specs.Handle.{handle}
-use Rattle.handle.proofs.Handles.{handle-bounded, handle-clean}
+use Rattle.handle.proofs.Handles.{handle_bounded, handle_clean}
 use Rattle.packet.specs.Layout.{rules_of, response_shape, separators_of}
 use Rattle.packet.specs.Arguments.{join}
 use Rattle.packet.specs.Packet.{packet, header, responses}
 use Rattle.packet.specs.Opaque.{ends_opaque, hides, visible, opaque}
-use Rattle.packet_laws.proofs.Packets.{Headed, good-header, Laid, packet_laid}
+use Rattle.packet_laws.proofs.Packets.{Headed, good_header, Laid, packet_laid}
 use Rattle.packet_laws.proofs.Separators.{Heads}
-use Rattle.packet_laws.proofs.Blindness.{Parted, parted-visible, parted-opaque, unhidden-visible, unhidden-opaque}
+use Rattle.packet_laws.proofs.Blindness.{Parted, parted_visible, parted_opaque, unhidden_visible, unhidden_opaque}
 use Rattle.server.specs.Sizes.{name_size, unique_size}
 use Rattle.server.specs.Table.{Table, no_function, no_job, function_at, job_at, live, queued}
 use Rattle.server.specs.Rules.{text_within, stored_number, together, hub_named}
@@ -33,7 +33,7 @@ use Rattle.server_laws.proofs.Going.{best_found}
 use Rattle.server_laws.proofs.Obeyed.{obeyed}
 use Rattle.server_calls.proofs.Follows.{Running}
 use Rattle.server_blind.proofs.Alike.{bytes_before, addressed_is}
-use Rattle.server_blind.proofs.Forwarded.{Forwarded, work-forwarded, echo-forwarded}
+use Rattle.server_blind.proofs.Forwarded.{Forwarded, work_forwarded, echo_forwarded}
 
 -- the packet without its connection byte
 abbrev pub packet_of : Sent → Bytes
@@ -60,8 +60,8 @@ unfolding hides
 apt_plain p k e o =
     let h : hides responses (packet_of p) ≡ false = rw (type_at p.kind (p.shown ++ p.opaque_part) k, e) (and_never (eqb (header responses.magic responses.most (packet_of p)) 0)) in
     record {
-      shows = ap (λ (b : Bytes). p.to ∷ b) (unhidden-visible responses (packet_of p) h) ∙ addressed_is p ∙ ap (λ (b : Bytes). bytes_before p ++ b) o ∙ append-nil (bytes_before p);
-      covers = unhidden-opaque responses (packet_of p) h ∙ sym o;
+      shows = ap (λ (b : Bytes). p.to ∷ b) (unhidden_visible responses (packet_of p) h) ∙ addressed_is p ∙ ap (λ (b : Bytes). bytes_before p ++ b) o ∙ append-nil (bytes_before p);
+      covers = unhidden_opaque responses (packet_of p) h ∙ sym o;
     }
 
 -- a type whose last argument is opaque: its data shows the separators that the type demands, and fits a response
@@ -81,10 +81,10 @@ apt_opaque p k l e h =
       closes = subst (λ (m : ℕ). ends_opaque (rules_of (response_shape m)) ≡ true) (sym q) e;
       pieces = subst (λ (m : ℕ). Heads (separators_of (response_shape m)) p.shown) (sym q) h;
     } in
-    let good : header responses.magic responses.most (f ++ (p.shown ++ p.opaque_part)) ≡ 0 = good-header _ _ (packet_of p) head in
+    let good : header responses.magic responses.most (f ++ (p.shown ++ p.opaque_part)) ≡ 0 = good_header _ _ (packet_of p) head in
     record {
-      shows = ap (λ (b : Bytes). p.to ∷ b) (parted-visible responses f p.shown p.opaque_part parted good);
-      covers = parted-opaque responses f p.shown p.opaque_part parted good;
+      shows = ap (λ (b : Bytes). p.to ∷ b) (parted_visible responses f p.shown p.opaque_part parted good);
+      covers = parted_opaque responses f p.shown p.opaque_part parted good;
     }
 
 -- ---- each packet that an event sends
@@ -93,13 +93,13 @@ module _ (e : Event) (s : Server) where
   abbrev Fits : Send → Type 0
   Fits x = Apt (render e s x)
 
-  fits-plain : (to kind : ℕ) (args : List Bytes) → kind < 2 ^ 32 → ends_opaque (rules_of (response_shape kind)) ≡ false → Fits (plain to kind args)
+  fits_plain : (to kind : ℕ) (args : List Bytes) → kind < 2 ^ 32 → ends_opaque (rules_of (response_shape kind)) ≡ false → Fits (plain to kind args)
   unfolding render
-  fits-plain to kind args k q = apt_plain (render e s (plain to kind args)) k q refl
+  fits_plain to kind args k q = apt_plain (render e s (plain to kind args)) k q refl
 
-  fits-copy : (to kind : ℕ) → Forwarded e kind → Fits (copy to kind)
+  fits_copy : (to kind : ℕ) → Forwarded e kind → Fits (copy to kind)
   unfolding render
-  fits-copy to kind g = go (ends_opaque (rules_of (response_shape kind))) refl
+  fits_copy to kind g = go (ends_opaque (rules_of (response_shape kind))) refl
     where
       go : (b : Bool) → ends_opaque (rules_of (response_shape kind)) ≡ b → Fits (copy to kind)
       go true q = apt_opaque (render e s (copy to kind)) g.low (omega (arith, g.small)) q (g.heads q)
@@ -131,24 +131,24 @@ texts n s h p i l =
 
 module _ (e : Event) (s : Server) (to p : ℕ) (x : Texts s.table p) where
   no_zero : (n : ℕ) → first_zero (handle s.table.hub n) ≡ length (handle s.table.hub n)
-  no_zero n = eqb-true _ _ (handle-clean s.table.hub x.hub n)
+  no_zero n = eqb-true _ _ (handle_clean s.table.hub x.hub n)
 
-  fits-assigned : (uniq : Bool) → Apt (render e s (assign uniq to p))
+  fits_assigned : (uniq : Bool) → Apt (render e s (assign uniq to p))
   unfolding render join rules_of response_shape
-  fits-assigned true =
+  fits_assigned true =
       let t = s.table in
       let j = job_at t p in
       let f = (function_at t j.row.function).name in
-      let m = handle-bounded t.hub x.hub j.row.serial in
+      let m = handle_bounded t.hub x.hub j.row.serial in
       apt_opaque (render e s (assign true to p)) (omega arith)
       (rw (length_fit j.row.size (get_or s.workloads p []), length-append (handle t.hub j.row.serial) (0 ∷ (f ++ (0 ∷ (j.unique ++ (0 ∷ []))))), length-append f (0 ∷ (j.unique ++ (0 ∷ []))), length-append j.unique (0 ∷ []))
       (omega (arith, x.small)))
       refl (Heads.more _ _ (no_zero _) refl (Heads.more _ _ x.function refl (Heads.more _ _ x.unique refl Heads.none)))
-  fits-assigned false =
+  fits_assigned false =
       let t = s.table in
       let j = job_at t p in
       let f = (function_at t j.row.function).name in
-      let m = handle-bounded t.hub x.hub j.row.serial in
+      let m = handle_bounded t.hub x.hub j.row.serial in
       apt_opaque (render e s (assign false to p)) (omega arith)
       (rw (length_fit j.row.size (get_or s.workloads p []), length-append (handle t.hub j.row.serial) (0 ∷ (f ++ (0 ∷ []))), length-append f (0 ∷ []))
       (omega (arith, x.small)))
@@ -159,20 +159,20 @@ module _ (e : Event) (s : Server) (to p : ℕ) (x : Texts s.table p) where
 -- each packet, by the reason why it is sent
 fits_sent : (n : ℕ) (s : Server) → Running n s → {last : ℕ} {e : Event} {x : Send} → Sends s.table last e x → Fits e s x
 unfolding rules_of response_shape
-fits_sent n s h (Sends.an_error c b m r) = fits-plain _ s c 19 _ (omega arith) refl
-fits_sent n s h (Sends.no_job_lem c b uniq q r) = fits-plain _ s c 10 [] (omega arith) refl
+fits_sent n s h (Sends.an_error c b m r) = fits_plain _ s c 19 _ (omega arith) refl
+fits_sent n s h (Sends.no_job_lem c b uniq q r) = fits_plain _ s c 10 [] (omega arith) refl
 fits_sent n s h (Sends.the_job c b uniq q p r) =
     let (i, g) = best_found s.table c p r in
     let l = and_left (live (job_at s.table p).row) _ (and_left (queued (job_at s.table p).row) _ g) in
-    fits-assigned _ s c p (texts n s h p i l) uniq
-fits_sent n s h (Sends.handle_joined c b priority background f u size q p r) = fits-plain _ s c 8 _ (omega arith) refl
-fits_sent n s h (Sends.handle_made c b priority background f u size q l m) = fits-plain _ s c 8 _ (omega arith) refl
-fits_sent n s h (Sends.a_copy c b how kind j x y q p r l m w) = fits-copy _ s l kind (work-forwarded c b how kind j x y q)
-fits_sent n s h (Sends.a_failure c b how kind j x y q p r l m w) = fits-plain _ s l 14 _ (omega arith) refl
-fits_sent n s h (Sends.a_status c b j q o r) = fits-plain _ s c 20 _ (omega arith) refl
-fits_sent n s h (Sends.an_option_lem c b name q r) = fits-plain _ s c 27 _ (omega arith) refl
-fits_sent n s h (Sends.an_echo c b q) = fits-copy _ s c 17 (echo-forwarded c b q)
-fits_sent n s h (Sends.a_noop l) = fits-plain _ s l 6 [] (omega arith) refl
+    fits_assigned _ s c p (texts n s h p i l) uniq
+fits_sent n s h (Sends.handle_joined c b priority background f u size q p r) = fits_plain _ s c 8 _ (omega arith) refl
+fits_sent n s h (Sends.handle_made c b priority background f u size q l m) = fits_plain _ s c 8 _ (omega arith) refl
+fits_sent n s h (Sends.a_copy c b how kind j x y q p r l m w) = fits_copy _ s l kind (work_forwarded c b how kind j x y q)
+fits_sent n s h (Sends.a_failure c b how kind j x y q p r l m w) = fits_plain _ s l 14 _ (omega arith) refl
+fits_sent n s h (Sends.a_status c b j q o r) = fits_plain _ s c 20 _ (omega arith) refl
+fits_sent n s h (Sends.an_option_lem c b name q r) = fits_plain _ s c 27 _ (omega arith) refl
+fits_sent n s h (Sends.an_echo c b q) = fits_copy _ s c 17 (echo_forwarded c b q)
+fits_sent n s h (Sends.a_noop l) = fits_plain _ s l 6 [] (omega arith) refl
 
 pub sent_apt : (n : ℕ) (e : Event) (s : Server) → Running n s → All Apt (answer e s).sent
 unfolding answer

@@ -132,6 +132,6 @@ module _ {R : Sent → Sent → Type 0} {x y : Call} {r q : Result} (m : Match R
       ∙ sym (ap (λ (o : Bytes). get_or o i 0) m.wrote_too)
 
   -- beyond the reported length each output is as it was lent
-  pub beyond-kept : (i : ℕ) → get_or r.output (r.length' + i) 0 ≡ get_or x.output (r.length' + i) 0
-  beyond-kept i =
+  pub beyond_kept : (i : ℕ) → get_or r.output (r.length' + i) 0 ≡ get_or x.output (r.length' + i) 0
+  beyond_kept i =
       rw m.wrote (ap (λ (k : ℕ). get_or (sent_bytes m.first ++ drop r.length' x.output) (k + i) 0) m.long ∙ get_or-append-add (sent_bytes m.first) _ i 0 ∙ get_or-drop r.length' x.output i 0)

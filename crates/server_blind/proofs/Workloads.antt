@@ -98,42 +98,42 @@ pub record AgreeBut (h : Bytes) (a b : Answer) : Type 0 where
 
 module _ (k : ℕ) (e : Event) (s r : Server) (a : Apart k s r) where
   -- the job's handle
-  abbrev its-handle : Bytes
-  its-handle = handle s.table.hub k
+  abbrev its_handle : Bytes
+  its_handle = handle s.table.hub k
 
-  decided-both : decided e s ≡ decided e r
-  decided-both = decided_alike (alike_same e) s r a.table
+  decided_both : decided e s ≡ decided e r
+  decided_both = decided_alike (alike_same e) s r a.table
 
-  render-but : (x : Send) → ButAssigned its-handle (render e s x) (render e r x)
+  render_but : (x : Send) → ButAssigned its_handle (render e s x) (render e r x)
   unfolding render join
-  render-but (plain to kind as') = ButAssigned.equal refl
-  render-but (copy to kind) = ButAssigned.equal refl
-  render-but (assign uniq to p) = elim (ℕ_discrete (job_at s.table p).row.serial k) [
+  render_but (plain to kind as') = ButAssigned.equal refl
+  render_but (copy to kind) = ButAssigned.equal refl
+  render_but (assign uniq to p) = elim (ℕ_discrete (job_at s.table p).row.serial k) [
     | yes q ↦ assigned uniq (join (drop 1 (assignment s.table uniq p))) refl (rw q) (like_render (alike_same e) s r a.table (assign uniq to p))
     | no n ↦ ButAssigned.equal (rw (near_at a.workloads p n, a.table))
   ]
 
-  renders-but : (xs : List Send) → All2 (ButAssigned its-handle) (map (render e s) xs) (map (render e r) xs)
-  renders-but [] = All2.none
-  renders-but (x ∷ xs) = All2.more (render-but x) (renders-but xs)
+  renders_but : (xs : List Send) → All2 (ButAssigned its_handle) (map (render e s) xs) (map (render e r) xs)
+  renders_but [] = All2.none
+  renders_but (x ∷ xs) = All2.more (render_but x) (renders_but xs)
 
-  pub answer-but : AgreeBut its-handle (answer e s) (answer e r)
+  pub answer_but : AgreeBut its_handle (answer e s) (answer e r)
   unfolding answer
-  answer-but = record {
-    number = ap (λ (d : Decision). d.number) decided-both;
-    sent = rw (← decided-both) (renders-but (decided e s).packets);
+  answer_but = record {
+    number = ap (λ (d : Decision). d.number) decided_both;
+    sent = rw (← decided_both) (renders_but (decided e s).packets);
   }
 
-  near-moved : {d : Decision} (x : Bytes) → Moves e s.table d
+  near_moved : {d : Decision} (x : Bytes) → Moves e s.table d
       → Near k d.table.jobs (rework s.table.jobs d.table.jobs x s.workloads) (rework s.table.jobs d.table.jobs x r.workloads)
-  near-moved x (keeps m) = rework_near x x (Harmless.equal refl) m.jobs a.workloads
-  near-moved x (adds c i m) = rework_near x x (Harmless.equal refl) m.jobs a.workloads
+  near_moved x (keeps m) = rework_near x x (Harmless.equal refl) m.jobs a.workloads
+  near_moved x (adds c i m) = rework_near x x (Harmless.equal refl) m.jobs a.workloads
 
-  pub next-apart : Apart k (next e s) (next e r)
+  pub next_apart : Apart k (next e s) (next e r)
   unfolding next
-  next-apart = record {
-    table = ap (λ (d : Decision). d.table) decided-both;
-    workloads = rw (← decided-both, ← a.table) (near-moved (opaque_of e) (moved e s));
+  next_apart = record {
+    table = ap (λ (d : Decision). d.table) decided_both;
+    workloads = rw (← decided_both, ← a.table) (near_moved (opaque_of e) (moved e s));
   }
 
 -- all that follows
@@ -141,5 +141,5 @@ pub answers_but : (k : ℕ) (es : List Event) (s r : Server) → Apart k s r →
 unfolding answers
 answers_but k [] s r a = All2.none
 answers_but k (e ∷ es) s r a =
-    All2.more (answer-but k e s r a)
-    (subst (λ (hub : Bytes). All2 (AgreeBut (handle hub k)) (answers (next e s) es) (answers (next e r) es)) (hub_kept e s) (answers_but k es (next e s) (next e r) (next-apart k e s r a)))
+    All2.more (answer_but k e s r a)
+    (subst (λ (hub : Bytes). All2 (AgreeBut (handle hub k)) (answers (next e s) es) (answers (next e r) es)) (hub_kept e s) (answers_but k es (next e s) (next e r) (next_apart k e s r a)))

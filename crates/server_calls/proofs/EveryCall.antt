@@ -17,10 +17,10 @@ use Rattle.server.specs.Server.{Server, next, answer}
 use Rattle.server.specs.Layout.{table_size, table_of, bytes_of}
 use Rattle.server.specs.Call.{Result, server_in, too_short, is_sound, sent_bytes, refused_by, performed, call}
 use Rattle.lists.proofs.Cases.{cond_cases}
-use Rattle.table_laws.proofs.Columns.{length-places}
-use Rattle.server_calls.proofs.Workloads.{wide-places}
+use Rattle.table_laws.proofs.Columns.{length_places}
+use Rattle.server_calls.proofs.Workloads.{wide_places}
 use Rattle.server_calls.proofs.Refusals.{Taken, taken}
-use Rattle.server_calls.proofs.Follows.{Running, running_next, length-table, length-workloads, sound-with}
+use Rattle.server_calls.proofs.Follows.{Running, running_next, length_table_lem, length_workloads_lem, sound_with}
 use Rattle.server_calls.proofs.Output.{output_fits}
 
 -- ---- the server in bytes that a call takes
@@ -29,7 +29,7 @@ pub taken_running : (n : ℕ) (t w o : Bytes) → Taken n t w o → Running n (s
 unfolding server_in table_of
 taken_running n t w o k =
     record {
-      shaped = record { connections = length-places _ 0 n; ids = length-places _ 0 n; functions = refl; jobs = refl; workloads = refl; whole = wide-places 1024 32 w k.long_workloads 0 32 (omega arith) };
+      shaped = record { connections = length_places _ 0 n; ids = length_places _ 0 n; functions = refl; jobs = refl; workloads = refl; whole = wide_places 1024 32 w k.long_workloads 0 32 (omega arith) };
       rules = k.rules;
     }
 
@@ -71,10 +71,10 @@ left_performed n few e s h t w o l =
       length_table = length_put 0 _ t;
       length_workloads = length_put 0 _ w;
       length_output = length_put 0 _ o;
-      beyond_table = drop_put (table_size n) (bytes_of (next e s).table) t (omega (arith, length-table n few (next e s) k));
-      beyond_workloads = drop_put workloads_size (concat (next e s).workloads) w (omega (arith, length-workloads n few (next e s) k));
+      beyond_table = drop_put (table_size n) (bytes_of (next e s).table) t (omega (arith, length_table_lem n few (next e s) k));
+      beyond_workloads = drop_put workloads_size (concat (next e s).workloads) w (omega (arith, length_workloads_lem n few (next e s) k));
       beyond_output = drop_put (length (sent_bytes (answer e s).sent)) (sent_bytes (answer e s).sent) o (omega arith);
-      stays_sound = λ _. sound-with n few (next e s) k t l;
+      stays_sound = λ _. sound_with n few (next e s) k t l;
     }
 
 pub every_call : (n : ℕ) → n ≤ 256 → (e : Event) (t w o : Bytes) → Left n t w o (call n e t w o)

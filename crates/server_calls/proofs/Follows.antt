@@ -20,11 +20,11 @@ use Rattle.server.specs.Layout.{table_size, bytes_of}
 use Rattle.server.specs.Call.{Result, server_in, too_short, is_sound, sent_bytes, performed, call}
 use Rattle.server_laws.proofs.Lengths.{Shaped, shaped_kept}
 use Rattle.server_laws.proofs.Kept.{obeys_kept}
-use Rattle.table_laws.proofs.Laid.{length-bytes}
+use Rattle.table_laws.proofs.Laid.{length_bytes}
 use Rattle.table_laws.proofs.Round.{Fitting, table_put}
 use Rattle.table_laws.proofs.Obeying.{obeys_fitting}
 use Rattle.table_laws.proofs.Image.{image_put}
-use Rattle.server_calls.proofs.Workloads.{places-back, length-concat, put_again}
+use Rattle.server_calls.proofs.Workloads.{places_back, length_concat, put_again}
 
 -- the lent bytes with a server in them
 abbrev pub table_with : Server → Bytes → Bytes
@@ -46,28 +46,28 @@ module _ (n : ℕ) (few : n ≤ 256) where
   pub fitting : (s : Server) → Running n s → Fitting s.table
   fitting s h = obeys_fitting s.table h.shaped.functions h.shaped.jobs (h.shaped.ids ∙ sym h.shaped.connections) (omega (arith, h.shaped.connections)) h.rules
 
-  pub length-table : (s : Server) → Running n s → length (bytes_of s.table) ≡ table_size n
-  length-table s h = length-bytes s.table h.shaped.functions h.shaped.jobs (h.shaped.ids ∙ sym h.shaped.connections) ∙ ap table_size h.shaped.connections
+  pub length_table_lem : (s : Server) → Running n s → length (bytes_of s.table) ≡ table_size n
+  length_table_lem s h = length_bytes s.table h.shaped.functions h.shaped.jobs (h.shaped.ids ∙ sym h.shaped.connections) ∙ ap table_size h.shaped.connections
 
-  pub length-workloads : (s : Server) → Running n s → length (concat s.workloads) ≡ workloads_size
-  length-workloads s h = length-concat 1024 s.workloads h.shaped.whole ∙ ap (λ (m : ℕ). 1024 * m) h.shaped.workloads
+  pub length_workloads_lem : (s : Server) → Running n s → length (concat s.workloads) ≡ workloads_size
+  length_workloads_lem s h = length_concat 1024 s.workloads h.shaped.whole ∙ ap (λ (m : ℕ). 1024 * m) h.shaped.workloads
 
-  pub sound-with : (s : Server) → Running n s → (t : Bytes) → table_size n ≤ length t → is_sound n (table_with s t) ≡ true
+  pub sound_with : (s : Server) → Running n s → (t : Bytes) → table_size n ≤ length t → is_sound n (table_with s t) ≡ true
   unfolding is_sound
-  sound-with s h t l = rw (image_put n s.table t (fitting s h) h.shaped.connections l, table_put n s.table t (fitting s h) h.shaped.connections l) h.rules
+  sound_with s h t l = rw (image_put n s.table t (fitting s h) h.shaped.connections l, table_put n s.table t (fitting s h) h.shaped.connections l) h.rules
 
   module _ (s : Server) (h : Running n s) (t w : Bytes) (long_table : table_size n ≤ length t) (long_workloads : workloads_size ≤ length w) where
     -- the bytes hold this server
-    pub server-back : server_in n (table_with s t) (workloads_with s w) ≡ s
+    pub server_back : server_in n (table_with s t) (workloads_with s w) ≡ s
     unfolding server_in
-    server-back =
+    server_back =
         ap₂ {C = Server} (λ (x : Table) (y : List Bytes). record { table = x; workloads = y })
         (table_put n s.table t (fitting s h) h.shaped.connections long_table)
-        (places-back 1024 32 s.workloads w h.shaped.workloads h.shaped.whole long_workloads)
+        (places_back 1024 32 s.workloads w h.shaped.workloads h.shaped.whole long_workloads)
 
-    long-with : (o : Bytes) → output_size n ≤ length o → too_short n (table_with s t) (workloads_with s w) o ≡ false
+    long_with : (o : Bytes) → output_size n ≤ length o → too_short n (table_with s t) (workloads_with s w) o ≡ false
     unfolding too_short
-    long-with o l =
+    long_with o l =
         rw (length_put 0 (bytes_of s.table) t, length_put 0 (concat s.workloads) w, le-ltb (length t) (table_size n) long_table, le-ltb (length w) workloads_size long_workloads)
         (le-ltb (length o) (output_size n) l)
 
@@ -75,13 +75,13 @@ module _ (n : ℕ) (few : n ≤ 256) where
       follows : call n e (table_with s t) (workloads_with s w) o ≡ performed e s (table_with s t) (workloads_with s w) o
       unfolding call
       follows =
-          rw (long-with o long_output, sound-with s h t long_table)
-          (ap (λ (x : Server). performed e x (table_with s t) (workloads_with s w) o) server-back)
+          rw (long_with o long_output, sound_with s h t long_table)
+          (ap (λ (x : Server). performed e x (table_with s t) (workloads_with s w) o) server_back)
 
       -- the event is performed, and the next server is laid over the one before: nothing else of the buffers changes
-      pub call-follows : call n e (table_with s t) (workloads_with s w) o ≡ performed e s t w o
+      pub call_follows : call n e (table_with s t) (workloads_with s w) o ≡ performed e s t w o
       unfolding performed
-      call-follows =
+      call_follows =
           let k = running_next n e s h in
           follows
           ∙ ap₂ {C = Result}
@@ -92,5 +92,5 @@ module _ (n : ℕ) (few : n ≤ 256) where
             table = x;
             workloads = y;
           })
-          (put_again (bytes_of s.table) (bytes_of (next e s).table) t (omega (arith, length-table s h, length-table (next e s) k)))
-          (put_again (concat s.workloads) (concat (next e s).workloads) w (omega (arith, length-workloads s h, length-workloads (next e s) k)))
+          (put_again (bytes_of s.table) (bytes_of (next e s).table) t (omega (arith, length_table_lem s h, length_table_lem (next e s) k)))
+          (put_again (concat s.workloads) (concat (next e s).workloads) w (omega (arith, length_workloads_lem s h, length_workloads_lem (next e s) k)))

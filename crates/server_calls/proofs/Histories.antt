@@ -21,11 +21,11 @@ use Rattle.server.specs.Call.{Result, Made, sent_bytes, performed, call, make}
 use Rattle.lists.proofs.Cases.{All}
 use Rattle.server_laws.proofs.Kept.{obeys_after, shaped_after}
 use Rattle.server_calls.specs.History.{Call, events, calls, leaves, Says, Writes, Each}
-use Rattle.server_calls.proofs.Workloads.{concat-zeros}
+use Rattle.server_calls.proofs.Workloads.{concat_zeros}
 use Rattle.server_calls.proofs.Refusals.{never_one_lem}
 use Rattle.server_calls.proofs.Output.{output_fits}
 use Rattle.server_calls.proofs.EveryCall.{drop_put}
-use Rattle.server_calls.proofs.Follows.{table_with, workloads_with, Running, running_next, length-table, length-workloads, call-follows}
+use Rattle.server_calls.proofs.Follows.{table_with, workloads_with, Running, running_next, length_table_lem, length_workloads_lem, call_follows}
 
 -- ---- the start
 
@@ -39,7 +39,7 @@ running_start n hub good = running_after n hub good []
 -- the workloads of the start are zeros
 start_zeros : (n : ℕ) (hub : Bytes) → concat (start n hub).workloads ≡ replicate workloads_size 0
 unfolding start
-start_zeros n hub = concat-zeros 1024 32
+start_zeros n hub = concat_zeros 1024 32
 
 start_table : (n : ℕ) (hub : Bytes) → (start n hub).table ≡ fresh n hub
 unfolding start
@@ -69,21 +69,21 @@ unfolding performed
 performed_says e s t w o = record { number = refl; length' = refl; output = refl }
 
 module _ (n : ℕ) (few : n ≤ 256) (t w : Bytes) (long_table : table_size n ≤ length t) (long_workloads : workloads_size ≤ length w) where
-  more-calls : (x : Call) (xs : List Call) (s : Server) → call n x.event (table_with s t) (workloads_with s w) x.output ≡ performed x.event s t w x.output
+  more_calls : (x : Call) (xs : List Call) (s : Server) → call n x.event (table_with s t) (workloads_with s w) x.output ≡ performed x.event s t w x.output
       → Follow n (next x.event s) xs t w → Follow n s (x ∷ xs) t w
   unfolding calls leaves answers after performed
-  more-calls x xs s f h =
+  more_calls x xs s f h =
       record {
         says = rw f (Each.more (performed_says x.event s t w x.output) h.says);
         table = ap (λ (r : Result). (leaves n xs r.table r.workloads).table) f ∙ h.table;
         workloads = ap (λ (r : Result). (leaves n xs r.table r.workloads).workloads) f ∙ h.workloads;
       }
 
-  pub calls-follow : (xs : List Call) (s : Server) → Running n s → LongOutputs n xs → Follow n s xs t w
+  pub calls_follow : (xs : List Call) (s : Server) → Running n s → LongOutputs n xs → Follow n s xs t w
   unfolding calls leaves answers after
-  calls-follow [] s h All.none = record { says = Each.none; table = refl; workloads = refl }
-  calls-follow (x ∷ xs) s h (All.more l ls) =
-      more-calls x xs s (call-follows n few s h t w long_table long_workloads x.event x.output l) (calls-follow xs (next x.event s) (running_next n x.event s h) ls)
+  calls_follow [] s h All.none = record { says = Each.none; table = refl; workloads = refl }
+  calls_follow (x ∷ xs) s h (All.more l ls) =
+      more_calls x xs s (call_follows n few s h t w long_table long_workloads x.event x.output l) (calls_follow xs (next x.event s) (running_next n x.event s h) ls)
 
 -- ---- no call answers 1
 
@@ -119,7 +119,7 @@ pub record History (n : ℕ) (hub t w : Bytes) (xs : List Call) : Type 0 where
 module _ (n : ℕ) (hub : Bytes) (good : is_hub_name hub ≡ true) (t w : Bytes) (long_table : table_size n ≤ length t) (long_workloads : workloads_size ≤ length w) (xs : List Call) (long : LongOutputs n xs) where
   pub history : n ≤ 256 → History n hub t w xs
   history few =
-      let h = calls-follow n few t w long_table long_workloads xs (start n hub) (running_start n hub good) long in
+      let h = calls_follow n few t w long_table long_workloads xs (start n hub) (running_start n hub good) long in
       let m = make_start n hub good t w long_table long_workloads in
       record {
         made = ap (λ (x : Made). x.number) m;
@@ -130,19 +130,19 @@ module _ (n : ℕ) (hub : Bytes) (good : is_hub_name hub ≡ true) (t w : Bytes)
       }
 
   -- every output holds its packets whole, and is unchanged beyond them
-  pub history-writes : n ≤ 256 → Each Writes xs (answers (start n hub) (events xs)) (calls n xs (make n hub t w).table (make n hub t w).workloads)
-  history-writes few = all_write n few xs (start n hub) (running_start n hub good) long (history (omega arith)).says
+  pub history_writes : n ≤ 256 → Each Writes xs (answers (start n hub) (events xs)) (calls n xs (make n hub t w).table (make n hub t w).workloads)
+  history_writes few = all_write n few xs (start n hub) (running_start n hub good) long (history (omega arith)).says
 
   -- "Bytes of table and workloads beyond what the layout uses are never written"
-  pub beyond-table : n ≤ 256 → drop (table_size n) (leaves n xs (make n hub t w).table (make n hub t w).workloads).table ≡ drop (table_size n) t
-  beyond-table few =
+  pub beyond_table_lem : n ≤ 256 → drop (table_size n) (leaves n xs (make n hub t w).table (make n hub t w).workloads).table ≡ drop (table_size n) t
+  beyond_table_lem few =
       let s = after (start n hub) (events xs) in
-      ap (drop (table_size n)) (history few).table ∙ drop_put (table_size n) (bytes_of s.table) t (omega (arith, length-table n few s (running_after n hub good (events xs))))
+      ap (drop (table_size n)) (history few).table ∙ drop_put (table_size n) (bytes_of s.table) t (omega (arith, length_table_lem n few s (running_after n hub good (events xs))))
 
-  pub beyond-workloads : n ≤ 256 → drop workloads_size (leaves n xs (make n hub t w).table (make n hub t w).workloads).workloads ≡ drop workloads_size w
-  beyond-workloads few =
+  pub beyond_workloads_lem : n ≤ 256 → drop workloads_size (leaves n xs (make n hub t w).table (make n hub t w).workloads).workloads ≡ drop workloads_size w
+  beyond_workloads_lem few =
       let s = after (start n hub) (events xs) in
-      ap (drop workloads_size) (history few).workloads ∙ drop_put workloads_size (concat s.workloads) w (omega (arith, length-workloads n few s (running_after n hub good (events xs))))
+      ap (drop workloads_size) (history few).workloads ∙ drop_put workloads_size (concat s.workloads) w (omega (arith, length_workloads_lem n few s (running_after n hub good (events xs))))
 
 -- the product's number of connections, and its sizes of table and workloads
 pub product_history : (hub : Bytes) → is_hub_name hub ≡ true → (t w : Bytes) → table_size connection_count ≤ length t → workloads_size ≤ length w → (xs : List Call) → LongOutputs connection_count xs → History connection_count hub t w xs

@@ -13,7 +13,7 @@ use lib.Dec.{leb, eqb}
 use Rattle.octets.specs.Bytes.{Bytes, same}
 use Rattle.octets.proofs.Strings.{same_is}
 use Rattle.handle.specs.Handle.{handle}
-use Rattle.handle.proofs.Handles.{handle-bounded}
+use Rattle.handle.proofs.Handles.{handle_bounded}
 use Rattle.packet.specs.Arguments.{join}
 use Rattle.sets.specs.Sets.{has, members}
 use Rattle.lists.specs.Lists.{filter, numbers}
@@ -37,7 +37,7 @@ use Rattle.server_laws.proofs.Obeyed.{obeyed}
 use Rattle.server_calls.proofs.Refusals.{short_at}
 use Rattle.server_calls.proofs.Follows.{Running, fitting}
 use Rattle.server_calls.proofs.Quiet.{worker_wakes_nobody}
-use Rattle.server_calls.proofs.Packets.{weighs, weigh-none, weigh-more, weigh-append, weigh-noops, data_short, handle_short}
+use Rattle.server_calls.proofs.Packets.{weighs, weigh_none, weigh_more, weigh_append, weigh_noops, data_short, handle_short}
 
 -- ---- how many there are
 
@@ -62,49 +62,49 @@ wake_most t = omega (arith, length_filter (λ c. wakes (ables_of t) (rows_of t) 
 -- ---- how long each is
 
 module _ (e : Event) (s : Server) where
-  plain-weight : (to kind : ℕ) (args : List Bytes) → weighs e s (plain to kind args ∷ []) ≡ 13 + length (join args)
+  plain_weight : (to kind : ℕ) (args : List Bytes) → weighs e s (plain to kind args ∷ []) ≡ 13 + length (join args)
   unfolding render
-  plain-weight to kind args = rw (weigh-more e s (plain to kind args) [], weigh-none e s) (omega arith)
+  plain_weight to kind args = rw (weigh_more e s (plain to kind args) [], weigh_none e s) (omega arith)
 
-  copy-weight : (to kind : ℕ) → length (shown_by e) + length (opaque_of e) ≤ 1024 → weighs e s (copy to kind ∷ []) ≤ 1037
+  copy_weight : (to kind : ℕ) → length (shown_by e) + length (opaque_of e) ≤ 1024 → weighs e s (copy to kind ∷ []) ≤ 1037
   unfolding render
-  copy-weight to kind h = rw (weigh-more e s (copy to kind) [], weigh-none e s) (omega arith)
+  copy_weight to kind h = rw (weigh_more e s (copy to kind) [], weigh_none e s) (omega arith)
 
   -- one packet to each listener: the copy, or WORK_FAIL with the handle
-  listeners-weight : hub_named s.table ≡ true → (how : Work) (kind : ℕ) (r : JobRow) (ls : List ℕ) → length (shown_by e) + length (opaque_of e) ≤ 1024 → weighs e s (map (to_listener how kind s.table r) ls) ≤ 1037 * length ls
+  listeners_weight : hub_named s.table ≡ true → (how : Work) (kind : ℕ) (r : JobRow) (ls : List ℕ) → length (shown_by e) + length (opaque_of e) ≤ 1024 → weighs e s (map (to_listener how kind s.table r) ls) ≤ 1037 * length ls
   unfolding render join
-  listeners-weight good how kind r [] h = rw (weigh-none e s) (omega arith)
-  listeners-weight good how kind r (l ∷ ls) h =
-      let rest = listeners-weight good how kind r ls h in
-      let m = handle-bounded s.table.hub good r.serial in
+  listeners_weight good how kind r [] h = rw (weigh_none e s) (omega arith)
+  listeners_weight good how kind r (l ∷ ls) h =
+      let rest = listeners_weight good how kind r ls h in
+      let m = handle_bounded s.table.hub good r.serial in
       cond_both (λ (x : Send). weighs e s (x ∷ map (to_listener how kind s.table r) ls) ≤ 1037 * suc (length ls)) (hears how s.table l)
-      (rw (weigh-more e s (copy l kind) _, mul-suc) (omega arith)) (rw (weigh-more e s (failure s.table.hub r.serial l) _, mul-suc) (omega arith))
+      (rw (weigh_more e s (copy l kind) _, mul-suc) (omega arith)) (rw (weigh_more e s (failure s.table.hub r.serial l) _, mul-suc) (omega arith))
 
   -- a job's handle, function, unique and workload: 1,053 bytes at the most
-  assign-weight : hub_named s.table ≡ true → (uniq : Bool) (to p : ℕ) → together s.table (job_at s.table p) ≤ 1022 → weighs e s (assign uniq to p ∷ []) ≤ 13 + 1053
+  assign_weight : hub_named s.table ≡ true → (uniq : Bool) (to p : ℕ) → together s.table (job_at s.table p) ≤ 1022 → weighs e s (assign uniq to p ∷ []) ≤ 13 + 1053
   unfolding render join
-  assign-weight good true to p h =
+  assign_weight good true to p h =
       let t = s.table in
       let j = job_at t p in
       let f = (function_at t j.row.function).name in
-      let m = handle-bounded t.hub good j.row.serial in
+      let m = handle_bounded t.hub good j.row.serial in
       rw (
-        weigh-more e s (assign true to p) [],
-        weigh-none e s,
+        weigh_more e s (assign true to p) [],
+        weigh_none e s,
         length_fit j.row.size (get_or s.workloads p []),
         length-append (handle t.hub j.row.serial) (0 ∷ (f ++ (0 ∷ (j.unique ++ (0 ∷ []))))),
         length-append f (0 ∷ (j.unique ++ (0 ∷ []))),
         length-append j.unique (0 ∷ []),
       )
       (omega arith)
-  assign-weight good false to p h =
+  assign_weight good false to p h =
       let t = s.table in
       let j = job_at t p in
       let f = (function_at t j.row.function).name in
-      let m = handle-bounded t.hub good j.row.serial in
+      let m = handle_bounded t.hub good j.row.serial in
       rw (
-        weigh-more e s (assign false to p) [],
-        weigh-none e s,
+        weigh_more e s (assign false to p) [],
+        weigh_none e s,
         length_fit j.row.size (get_or s.workloads p []),
         length-append (handle t.hub j.row.serial) (0 ∷ (f ++ (0 ∷ []))),
         length-append f (0 ∷ []),
@@ -112,105 +112,105 @@ module _ (e : Event) (s : Server) where
       (omega arith)
 
   -- a status: the handle, two flags and two numbers
-  status-weight : (to : ℕ) (h : Bytes) (f g : Bool) (n d : Bytes) → length h ≤ 1024 → length n ≤ 10 → length d ≤ 10 → weighs e s (plain to 20 (h ∷ flag f ∷ flag g ∷ n ∷ d ∷ []) ∷ []) ≤ 1066
+  status_weight : (to : ℕ) (h : Bytes) (f g : Bool) (n d : Bytes) → length h ≤ 1024 → length n ≤ 10 → length d ≤ 10 → weighs e s (plain to 20 (h ∷ flag f ∷ flag g ∷ n ∷ d ∷ []) ∷ []) ≤ 1066
   unfolding join
-  status-weight to h f g n d lh ln ld =
-      rw (plain-weight to 20 (h ∷ flag f ∷ flag g ∷ n ∷ d ∷ []), length-append h (0 ∷ (flag f ++ (0 ∷ (flag g ++ (0 ∷ (n ++ (0 ∷ d))))))), length-append n (0 ∷ d)) (omega arith)
+  status_weight to h f g n d lh ln ld =
+      rw (plain_weight to 20 (h ∷ flag f ∷ flag g ∷ n ∷ d ∷ []), length-append h (0 ∷ (flag f ++ (0 ∷ (flag g ++ (0 ∷ (n ++ (0 ∷ d))))))), length-append n (0 ∷ d)) (omega arith)
 
-  created-weight : hub_named s.table ≡ true → (to serial : ℕ) → weighs e s (created s.table.hub to serial ∷ []) ≤ 1066
+  created_weight : hub_named s.table ≡ true → (to serial : ℕ) → weighs e s (created s.table.hub to serial ∷ []) ≤ 1066
   unfolding join
-  created-weight good to serial = rw (plain-weight to 8 (handle s.table.hub serial ∷ [])) (omega (arith, handle-bounded s.table.hub good serial))
+  created_weight good to serial = rw (plain_weight to 8 (handle s.table.hub serial ∷ [])) (omega (arith, handle_bounded s.table.hub good serial))
 
-  option-weight : (to : ℕ) (name : Bytes) → same name exceptions_name ≡ true → weighs e s (plain to 27 (name ∷ []) ∷ []) ≤ 1066
+  option_weight : (to : ℕ) (name : Bytes) → same name exceptions_name ≡ true → weighs e s (plain to 27 (name ∷ []) ∷ []) ≤ 1066
   unfolding join
-  option-weight to name q = rw (plain-weight to 27 (name ∷ []), same_is name exceptions_name q) (omega arith)
+  option_weight to name q = rw (plain_weight to 27 (name ∷ []), same_is name exceptions_name q) (omega arith)
 
-  refusal-weight : (c n : ℕ) (t : Table) → weighs e s (refuse c n t).packets ≤ 25
+  refusal_weight : (c n : ℕ) (t : Table) → weighs e s (refuse c n t).packets ≤ 25
   unfolding refuse join
-  refusal-weight c n t =
+  refusal_weight c n t =
       let l = short_at 9 refusal_texts n refl in
-      cond_both (λ (ss : List Send). weighs e s ss ≤ 25) (is_told n) (rw (plain-weight c 19 _) (omega arith)) (rw (weigh-none e s) (omega arith))
+      cond_both (λ (ss : List Send). weighs e s ss ≤ 25) (is_told n) (rw (plain_weight c 19 _) (omega arith)) (rw (weigh_none e s) (omega arith))
 
 -- ---- each kind of answer
 
 module _ (n : ℕ) (few : n ≤ 256) (e : Event) (s : Server) (h : Running n s) where
   -- the end of an event adds at most one NOOP for each connection
-  settled-weight : (ss : List Send) (u : Table) → decided e s ≡ settle ss u → weighs e s ss ≤ 1066 → weighs e s (settle ss u).packets ≤ output_size n
+  settled_weight : (ss : List Send) (u : Table) → decided e s ≡ settle ss u → weighs e s ss ≤ 1066 → weighs e s (settle ss u).packets ≤ output_size n
   unfolding settle dropped
-  settled-weight ss u q l =
+  settled_weight ss u q l =
       let a = (long_settle ss u).connections in
       let b = (long_decided e s).connections in
       let c = ap (λ (d : Decision). length d.table.connections) q in
       let m = wake_most (dropped u) in
       let k = h.shaped.connections in
-      rw (weigh-append e s ss (map noop (to_wake (dropped u))), weigh-noops e s (to_wake (dropped u))) (omega arith)
+      rw (weigh_append e s ss (map noop (to_wake (dropped u))), weigh_noops e s (to_wake (dropped u))) (omega arith)
 
-  silent-weight : (u : Table) → decided e s ≡ settle [] u → weighs e s (settle [] u).packets ≤ output_size n
-  silent-weight u q = settled-weight [] u q (rw (weigh-none e s) (omega arith))
+  silent_weight : (u : Table) → decided e s ≡ settle [] u → weighs e s (settle [] u).packets ≤ output_size n
+  silent_weight u q = settled_weight [] u q (rw (weigh_none e s) (omega arith))
 
-  one-weight : (x : Send) (u : Table) → decided e s ≡ settle (x ∷ []) u → weighs e s (x ∷ []) ≤ 1066 → weighs e s (settle (x ∷ []) u).packets ≤ output_size n
-  one-weight x u q l = settled-weight (x ∷ []) u q (omega arith)
+  one_weight : (x : Send) (u : Table) → decided e s ≡ settle (x ∷ []) u → weighs e s (x ∷ []) ≤ 1066 → weighs e s (settle (x ∷ []) u).packets ≤ output_size n
+  one_weight x u q l = settled_weight (x ∷ []) u q (omega arith)
 
   -- the hub has a name
   named : hub_named s.table ≡ true
   named = (obeyed s.table h.rules).sound.named
 
-  job-together : (p : ℕ) → p < length s.table.jobs → together s.table (job_at s.table p) ≤ 1022
-  job-together p i = leb-true _ 1022 (all_at (λ j. leb (together s.table j) 1022) s.table.jobs p no_job (obeyed s.table h.rules).sound.sizes i)
+  job_together : (p : ℕ) → p < length s.table.jobs → together s.table (job_at s.table p) ≤ 1022
+  job_together p i = leb-true _ 1022 (all_at (λ j. leb (together s.table j) 1022) s.table.jobs p no_job (obeyed s.table h.rules).sound.sizes i)
 
   -- a worker packet: one packet to each listener, and no NOOP
-  worker-weight : (how : Work) (kind : ℕ) (x y : Bytes) (p : ℕ) → length (shown_by e) + length (opaque_of e) ≤ 1024
+  worker_weight : (how : Work) (kind : ℕ) (x y : Bytes) (p : ℕ) → length (shown_by e) + length (opaque_of e) ≤ 1024
       → weighs e s (settle (to_listeners how kind s.table (job_at s.table p).row) (set_job s.table p (worked how x y (job_at s.table p)))).packets ≤ output_size n
   unfolding settle to_listeners
-  worker-weight how kind x y p q =
+  worker_weight how kind x y p q =
       let t = s.table in
       let r = (job_at t p).row in
       let ls = listeners_of t r in
       let b = length_members (length t.connections) r.listeners in
-      let c = listeners-weight e s named how kind r ls q in
+      let c = listeners_weight e s named how kind r ls q in
       let k = h.shaped.connections in
-      rw (worker_wakes_nobody t p how x y (obeyed t h.rules).idle, weigh-append e s (map (to_listener how kind t r) ls) [], weigh-none e s) (omega arith)
+      rw (worker_wakes_nobody t p how x y (obeyed t h.rules).idle, weigh_append e s (map (to_listener how kind t r) ls) [], weigh_none e s) (omega arith)
 
-  status-at-weight : (c : ℕ) (j : Bytes) (o : Option ℕ) → job_of s.table j ≡ o → length j ≤ 1024
+  status_at_weight : (c : ℕ) (j : Bytes) (o : Option ℕ) → job_of s.table j ≡ o → length j ≤ 1024
       → decided e s ≡ status_at o c j s.table → weighs e s (status_at o c j s.table).packets ≤ output_size n
   unfolding status_at
-  status-at-weight c j none f l q = one-weight _ s.table q (status-weight e s c j false false (flag false) (flag false) l (omega arith) (omega arith))
-  status-at-weight c j (some p) f l q =
+  status_at_weight c j none f l q = one_weight _ s.table q (status_weight e s c j false false (flag false) (flag false) l (omega arith) (omega arith))
+  status_at_weight c j (some p) f l q =
       let t = s.table in
       let i : p < length t.jobs = (found (λ k. has_handle t.hub j k.row) no_job t.jobs (some p) f).inside in
       let g = (fitting n (omega arith) s h).jobs p (omega (arith, h.shaped.jobs)) in
-      one-weight _ t q (status-weight e s c j true (not (eqb (job_at t p).row.holder 0)) (job_at t p).numerator (job_at t p).denominator l g.numerator.within g.denominator.within)
+      one_weight _ t q (status_weight e s c j true (not (eqb (job_at t p).row.holder 0)) (job_at t p).numerator (job_at t p).denominator l g.numerator.within g.denominator.within)
 
 -- ---- every event
 
 module _ (n : ℕ) (few : n ≤ 256) (s : Server) (h : Running n s) where
-  served-weight : (c : ℕ) (b : Bytes) {a : Request} {d : Decision} → request_in b ≡ a → decided (sends c b) s ≡ d → Served c s.table a d
+  served_weight : (c : ℕ) (b : Bytes) {a : Request} {d : Decision} → request_in b ≡ a → decided (sends c b) s ≡ d → Served c s.table a d
       → weighs (sends c b) s d.packets ≤ output_size n
   unfolding join status_at
-  served-weight c b p q (Served.refused a m r) = omega (arith, refusal-weight (sends c b) s c m s.table)
-  served-weight c b p q (Served.done a ss u (Change.able f k r)) = silent-weight n few (sends c b) s h _ q
-  served-weight c b p q (Served.done a ss u (Change.unknown f r)) = silent-weight n few (sends c b) s h _ q
-  served-weight c b p q (Served.done a ss u (Change.disabled f k r)) = silent-weight n few (sends c b) s h _ q
-  served-weight c b p q (Served.done a ss u (Change.identified i)) = silent-weight n few (sends c b) s h _ q
-  served-weight c b p q (Served.done a ss u Change.cleared) = silent-weight n few (sends c b) s h _ q
-  served-weight c b p q (Served.done a ss u Change.slept) = silent-weight n few (sends c b) s h _ q
-  served-weight c b p q (Served.done a ss u (Change.no_job_for uniq r)) = one-weight n few (sends c b) s h _ _ q (rw (plain-weight (sends c b) s c 10 []) (omega arith))
-  served-weight c b p q (Served.done a ss u (Change.grabbed uniq k r)) =
-      one-weight n few (sends c b) s h _ _ q (omega (arith, assign-weight (sends c b) s (named n few (sends c b) s h) uniq c k (job-together n few (sends c b) s h k (best_found s.table c k r).0)))
-  served-weight c b p q (Served.done a ss u (Change.joins priority background f v size k r)) = one-weight n few (sends c b) s h _ _ q (created-weight (sends c b) s (named n few (sends c b) s h) c _)
-  served-weight c b p q (Served.done a ss u (Change.accepts priority background f v size k m r₁ r₂ r₃ i)) = one-weight n few (sends c b) s h _ _ q (created-weight (sends c b) s (named n few (sends c b) s h) c _)
-  served-weight c b p q (Served.done a ss u (Change.worker how kind j x y k r)) = worker-weight n few (sends c b) s h how kind x y k (data_short c b (work how kind j x y) p refl)
-  served-weight c b p q (Served.done a ss u (Change.status j o r)) = status-at-weight n few (sends c b) s h c j o r (handle_short b j p) q
-  served-weight c b p q (Served.done a ss u (Change.optioned name r)) = one-weight n few (sends c b) s h _ _ q (option-weight (sends c b) s c name r)
-  served-weight c b p q (Served.done a ss u Change.echoed) = one-weight n few (sends c b) s h _ _ q (omega (arith, copy-weight (sends c b) s c 17 (data_short c b echo p refl)))
+  served_weight c b p q (Served.refused a m r) = omega (arith, refusal_weight (sends c b) s c m s.table)
+  served_weight c b p q (Served.done a ss u (Change.able f k r)) = silent_weight n few (sends c b) s h _ q
+  served_weight c b p q (Served.done a ss u (Change.unknown f r)) = silent_weight n few (sends c b) s h _ q
+  served_weight c b p q (Served.done a ss u (Change.disabled f k r)) = silent_weight n few (sends c b) s h _ q
+  served_weight c b p q (Served.done a ss u (Change.identified i)) = silent_weight n few (sends c b) s h _ q
+  served_weight c b p q (Served.done a ss u Change.cleared) = silent_weight n few (sends c b) s h _ q
+  served_weight c b p q (Served.done a ss u Change.slept) = silent_weight n few (sends c b) s h _ q
+  served_weight c b p q (Served.done a ss u (Change.no_job_for uniq r)) = one_weight n few (sends c b) s h _ _ q (rw (plain_weight (sends c b) s c 10 []) (omega arith))
+  served_weight c b p q (Served.done a ss u (Change.grabbed uniq k r)) =
+      one_weight n few (sends c b) s h _ _ q (omega (arith, assign_weight (sends c b) s (named n few (sends c b) s h) uniq c k (job_together n few (sends c b) s h k (best_found s.table c k r).0)))
+  served_weight c b p q (Served.done a ss u (Change.joins priority background f v size k r)) = one_weight n few (sends c b) s h _ _ q (created_weight (sends c b) s (named n few (sends c b) s h) c _)
+  served_weight c b p q (Served.done a ss u (Change.accepts priority background f v size k m r₁ r₂ r₃ i)) = one_weight n few (sends c b) s h _ _ q (created_weight (sends c b) s (named n few (sends c b) s h) c _)
+  served_weight c b p q (Served.done a ss u (Change.worker how kind j x y k r)) = worker_weight n few (sends c b) s h how kind x y k (data_short c b (work how kind j x y) p refl)
+  served_weight c b p q (Served.done a ss u (Change.status j o r)) = status_at_weight n few (sends c b) s h c j o r (handle_short b j p) q
+  served_weight c b p q (Served.done a ss u (Change.optioned name r)) = one_weight n few (sends c b) s h _ _ q (option_weight (sends c b) s c name r)
+  served_weight c b p q (Served.done a ss u Change.echoed) = one_weight n few (sends c b) s h _ _ q (omega (arith, copy_weight (sends c b) s c 17 (data_short c b echo p refl)))
 
-  event-weight : (e : Event) {d : Decision} → decided e s ≡ d → Outcome s.table e d → weighs e s d.packets ≤ output_size n
+  event_weight : (e : Event) {d : Decision} → decided e s ≡ d → Outcome s.table e d → weighs e s d.packets ≤ output_size n
   unfolding silence
-  event-weight e q (Outcome.silenced f m r) = rw (weigh-none e s) (omega arith)
-  event-weight e q (Outcome.opened c o) = silent-weight n few e s h _ q
-  event-weight e q (Outcome.closed c o) = silent-weight n few e s h _ q
-  event-weight e q (Outcome.serves c b d o r) = served-weight c b refl q r
+  event_weight e q (Outcome.silenced f m r) = rw (weigh_none e s) (omega arith)
+  event_weight e q (Outcome.opened c o) = silent_weight n few e s h _ q
+  event_weight e q (Outcome.closed c o) = silent_weight n few e s h _ q
+  event_weight e q (Outcome.serves c b d o r) = served_weight c b refl q r
 
 pub output_fits : (n : ℕ) → n ≤ 256 → (e : Event) (s : Server) → Running n s → length (sent_bytes (answer e s).sent) ≤ output_size n
 unfolding answer weighs
-output_fits n few e s h = event-weight n few s h e refl (outcome e s)
+output_fits n few e s h = event_weight n few s h e refl (outcome e s)

@@ -15,7 +15,7 @@ use Rattle.packet.specs.Layout.{rules_of, request_shape, separators_of}
 use Rattle.packet.specs.Arguments.{join}
 use Rattle.packet.specs.Packet.{Reading, refused, got, read, requests, packet}
 use Rattle.packet.specs.Opaque.{past, hides, seen, visible, opaque, masked}
-use Rattle.packet_laws.proofs.Packets.{Headed, header-good, Got, read-got}
+use Rattle.packet_laws.proofs.Packets.{Headed, header_good, Got, read_got}
 use Rattle.packet_laws.proofs.Splitting.{split_join}
 use Rattle.packet_laws.proofs.Blindness.{visible_opaque}
 use Rattle.server.specs.Requests.{Event, sends, Request, reset, pre_sleep, echo, bad, can_do, cant_do, identify, grab, submit, work, get_status, option, requested, from_reading, request_in}
@@ -36,25 +36,25 @@ unfoldable pub weighs : Event → Server → List Send → ℕ
 weighs e s ss = length (sent_bytes (map (render e s) ss))
 
 module _ (e : Event) (s : Server) where
-  pub weigh-none : weighs e s [] ≡ 0
+  pub weigh_none : weighs e s [] ≡ 0
   unfolding weighs sent_bytes
-  weigh-none = refl
+  weigh_none = refl
 
-  pub weigh-more : (x : Send) (ss : List Send) → weighs e s (x ∷ ss) ≡ 13 + (length (render e s x).shown + length (render e s x).opaque_part) + weighs e s ss
+  pub weigh_more : (x : Send) (ss : List Send) → weighs e s (x ∷ ss) ≡ 13 + (length (render e s x).shown + length (render e s x).opaque_part) + weighs e s ss
   unfolding weighs sent_bytes
-  weigh-more x ss = length-append (addressed (render e s x)) _ ∙ ap (λ (k : ℕ). k + weighs e s ss) (length_addressed (render e s x))
+  weigh_more x ss = length-append (addressed (render e s x)) _ ∙ ap (λ (k : ℕ). k + weighs e s ss) (length_addressed (render e s x))
 
-  pub weigh-append : (ss rs : List Send) → weighs e s (ss ++ rs) ≡ weighs e s ss + weighs e s rs
-  weigh-append [] rs = rw weigh-none (omega arith)
-  weigh-append (x ∷ ss) rs = rw (weigh-more x (ss ++ rs), weigh-more x ss, weigh-append ss rs) (omega arith)
+  pub weigh_append : (ss rs : List Send) → weighs e s (ss ++ rs) ≡ weighs e s ss + weighs e s rs
+  weigh_append [] rs = rw weigh_none (omega arith)
+  weigh_append (x ∷ ss) rs = rw (weigh_more x (ss ++ rs), weigh_more x ss, weigh_append ss rs) (omega arith)
 
-  noop-weight : (c : ℕ) → length (render e s (noop c)).shown + length (render e s (noop c)).opaque_part ≡ 0
+  noop_weight : (c : ℕ) → length (render e s (noop c)).shown + length (render e s (noop c)).opaque_part ≡ 0
   unfolding render join
-  noop-weight c = refl
+  noop_weight c = refl
 
-  pub weigh-noops : (cs : List ℕ) → weighs e s (map noop cs) ≡ 13 * length cs
-  weigh-noops [] = rw mul-zero weigh-none
-  weigh-noops (c ∷ cs) = rw (weigh-more (noop c) (map noop cs), weigh-noops cs, noop-weight c, mul-suc) (omega arith)
+  pub weigh_noops : (cs : List ℕ) → weighs e s (map noop cs) ≡ 13 * length cs
+  weigh_noops [] = rw mul-zero weigh_none
+  weigh_noops (c ∷ cs) = rw (weigh_more (noop c) (map noop cs), weigh_noops cs, noop_weight c, mul-suc) (omega arith)
 
 -- ---- the data of an event's packet
 
@@ -77,8 +77,8 @@ header_visible b h =
 -- a packet that is read has at most 1,024 bytes of data
 read_short : (s : Bytes) (kind : ℕ) (args : List Bytes) → read requests s ≡ got kind args → (12 ≤ length s) × (length s ≤ 1036)
 read_short s kind args e =
-    let g : Got requests s kind args = read-got requests s kind args e in
-    let h : Headed requests.magic 1024 s = header-good requests.magic 1024 s g.headed in
+    let g : Got requests s kind args = read_got requests s kind args e in
+    let h : Headed requests.magic 1024 s = header_good requests.magic 1024 s g.headed in
     (h.long, omega (arith, h.whole, h.limited))
 
 abbrev pub is_bad : Request → Bool
@@ -138,7 +138,7 @@ requested_within kind a b c e = rw (← (get_or-map handle_within), e) (replicat
 reading_within : (s : Bytes) (r : Reading) → read requests s ≡ r → handle_within (from_reading r) ≡ true
 reading_within s (refused n) e = refl
 reading_within s (got kind args) e =
-    let g : Got requests s kind args = read-got requests s kind args e in
+    let g : Got requests s kind args = read_got requests s kind args e in
     let j = split_join (rules_of (request_shape kind)) (drop 12 s) args g.splits in
     let l = read_short s kind args e in
     requested_within kind (get_or args 0 []) _ _ (le-leb (length (get_or args 0 [])) 1024 (omega (arith, l.1, join_first args, ap length j.0, length-drop 12 s)))

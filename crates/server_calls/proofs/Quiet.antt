@@ -11,7 +11,7 @@ use Rattle.server.specs.Table.{Job, Table, no_job, connection_at, job_at, rows_o
 use Rattle.server.specs.Requests.{Work, tells, reports, ends, throws}
 use Rattle.server.specs.Events.{lost, unless_lost, dropped, wakes, to_wake_in, to_wake, worked}
 use Rattle.server.specs.Rules.{sleepers_idle}
-use Rattle.lists.proofs.Cases.{All2, all2-set, all2_map, all2_trans, cond_both}
+use Rattle.lists.proofs.Cases.{All2, all2_set, all2_map, all2_trans, cond_both}
 use Rattle.lists.proofs.Rows.{clash, or_left, or_right}
 use Rattle.server_laws.proofs.AtRest.{sleeps_on, choose_same, choose_none}
 
@@ -63,6 +63,6 @@ worker_wakes_nobody t p how n d i =
     let y = worked how n d (job_at t p) in
     none_woken t (dropped (set_job t p y)) refl refl
     (all2_trans {R = NoMore} {S = NoMore} {U = NoMore} (λ a b c f g ables x e. f ables x (g ables x e))
-    (all2-set NoMore no_more_same t.jobs p no_job y (no_more_worked how n d (job_at t p)))
+    (all2_set NoMore no_more_same t.jobs p no_job y (no_more_worked how n d (job_at t p)))
     (all2_map NoMore unless_lost no_more_dropped (set t.jobs p y)))
     i

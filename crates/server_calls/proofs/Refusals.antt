@@ -26,7 +26,7 @@ use Rattle.lists.proofs.Cases.{cond_cases}
 use Rattle.server_laws.proofs.Refusals.{error_packet, Refusal, refusal, Fate, is_done, is_refused, fate}
 use Rattle.lists.proofs.Rows.{or_false, clash}
 use Rattle.table_laws.proofs.Image.{image_back}
-use Rattle.server_calls.proofs.Workloads.{own-places}
+use Rattle.server_calls.proofs.Workloads.{own_places}
 
 -- ---- buffers that a call takes
 
@@ -91,21 +91,21 @@ pub record Refused (e : Event) (t w o : Bytes) (r : Result) : Type 0 where
 
 module _ (n : ℕ) (e : Event) (t w o : Bytes) where
   -- the server read from the bytes, laid over them, changes nothing
-  own-table : Taken n t w o → put 0 (bytes_of (server_in n t w).table) t ≡ t
+  own_table : Taken n t w o → put 0 (bytes_of (server_in n t w).table) t ≡ t
   unfolding server_in
-  own-table k = image_back n t k.image
+  own_table k = image_back n t k.image
 
-  own-workloads : put 0 (concat (server_in n t w).workloads) w ≡ w
+  own_workloads : put 0 (concat (server_in n t w).workloads) w ≡ w
   unfolding server_in
-  own-workloads = own-places 1024 w 32
+  own_workloads = own_places 1024 w 32
 
-  pub refused-by : Taken n t w o → Refusal e (server_in n t w) → Refused e t w o (performed e (server_in n t w) t w o)
+  pub refused_by_lem : Taken n t w o → Refusal e (server_in n t w) → Refused e t w o (performed e (server_in n t w) t w o)
   unfolding performed sent_bytes
-  refused-by k r =
+  refused_by_lem k r =
       let s = server_in n t w in
       record {
-        table = ap (λ (x : Server). put 0 (bytes_of x.table) t) r.keeps ∙ own-table k;
-        workloads = ap (λ (x : Server). put 0 (concat x.workloads) w) r.keeps ∙ own-workloads;
+        table = ap (λ (x : Server). put 0 (bytes_of x.table) t) r.keeps ∙ own_table k;
+        workloads = ap (λ (x : Server). put 0 (concat x.workloads) w) r.keeps ∙ own_workloads;
         most = r.most;
         silent = λ h. (ap (λ (ps : List Sent). length (sent_bytes ps)) (r.silent h), ap (λ (ps : List Sent). put 0 (sent_bytes ps) o) (r.silent h) ∙ put_none 0 o);
         tells = λ h.
@@ -116,39 +116,39 @@ module _ (n : ℕ) (e : Event) (t w o : Bytes) where
             record { sender = u.sender; bytes = u.bytes; is = u.is; length' = ap length q; output = ap (λ (x : Bytes). put 0 x o) q ∙ put_start p o l };
       }
 
-  refused-by-one : Refused e t w o (refused_by 1 t w o)
+  refused_by_one : Refused e t w o (refused_by 1 t w o)
   unfolding refused_by is_told same
-  refused-by-one = record { table = refl; workloads = refl; most = omega arith; silent = λ h. (refl, refl); tells = λ h. clash h refl }
+  refused_by_one = record { table = refl; workloads = refl; most = omega arith; silent = λ h. (refl, refl); tells = λ h. clash h refl }
 
   number_of : ¬ ((performed e (server_in n t w) t w o).number ≡ 0) → ¬ ((answer e (server_in n t w)).number ≡ 0)
   unfolding performed
   number_of z = z
 
   -- a call whose number is not 0 refuses
-  pub call-refused : ¬ ((call n e t w o).number ≡ 0) → Refused e t w o (call n e t w o)
+  pub call_refused : ¬ ((call n e t w o).number ≡ 0) → Refused e t w o (call n e t w o)
   unfolding call
-  call-refused =
+  call_refused =
       cond_cases (λ (r : Result). ¬ (r.number ≡ 0) → Refused e t w o r) (too_short n t w o || not (is_sound n t))
-      (λ _ _. refused-by-one) (λ h z. refused-by (taken n t w o h) (refusal e (server_in n t w) (number_of z)))
+      (λ _ _. refused_by_one) (λ h z. refused_by_lem (taken n t w o h) (refusal e (server_in n t w) (number_of z)))
 
   -- ---- the numbers
 
-  performed-number : (performed e (server_in n t w) t w o).number ≡ (answer e (server_in n t w)).number
+  performed_number : (performed e (server_in n t w) t w o).number ≡ (answer e (server_in n t w)).number
   unfolding performed
-  performed-number = refl
+  performed_number = refl
 
   -- every number is one of the table
-  pub number-most : (call n e t w o).number ≤ last_number
-  number-most = by (call n e t w o).number refl
+  pub number_most : (call n e t w o).number ≤ last_number
+  number_most = by (call n e t w o).number refl
     where
       by : (k : ℕ) → (call n e t w o).number ≡ k → k ≤ last_number
       by zero q = omega arith
-      by (suc k) q = omega (arith, (call-refused (λ z. absurd (omega arith))).most)
+      by (suc k) q = omega (arith, (call_refused (λ z. absurd (omega arith))).most)
 
   -- "1: a lent buffer is too short, or the table breaks a table rule", and by 1 nothing else is refused
-  pub one-if : too_short n t w o || not (is_sound n t) ≡ true → call n e t w o ≡ refused_by 1 t w o
+  pub one_if : too_short n t w o || not (is_sound n t) ≡ true → call n e t w o ≡ refused_by 1 t w o
   unfolding call
-  one-if q = rw q
+  one_if q = rw q
 
   pub one_only : (call n e t w o).number ≡ 1 → too_short n t w o || not (is_sound n t) ≡ true
   unfolding call
@@ -156,4 +156,4 @@ module _ (n : ℕ) (e : Event) (t w o : Bytes) where
     where
       by : (b : Bool) → (cond b (refused_by 1 t w o) (performed e (server_in n t w) t w o)).number ≡ 1 → b ≡ true
       by true q = refl
-      by false q = absurd (never_one_lem e (server_in n t w) (sym performed-number ∙ q))
+      by false q = absurd (never_one_lem e (server_in n t w) (sym performed_number ∙ q))

@@ -22,12 +22,12 @@ use Rattle.server.specs.Rules.{text_within, together, numbers_in_range, is_open,
 use Rattle.lists.specs.Lists.{implies}
 use Rattle.lists.proofs.Searches.{found}
 use Rattle.lists.proofs.Rows.{clash, implies_by, or_right, all_at, all_row}
-use Rattle.server.proofs.Rows.{range-fresh}
+use Rattle.server.proofs.Rows.{range_fresh}
 use Rattle.server_laws.proofs.Requests.{Submitted}
 use Rattle.server_laws.proofs.Openness.{none_open, open_insert}
 use Rattle.server_laws.proofs.Sound.{Sound, row_means}
 use Rattle.server_laws.proofs.Jobs.{Twin, New, sound_new}
-use Rattle.server_laws.proofs.Functions.{job_known, Place, there, free, Room, room, name_some, room-name, sound-name}
+use Rattle.server_laws.proofs.Functions.{job_known, Place, there, free, Room, room, name_some, room_name, sound_name}
 
 -- what a submission leaves of a row
 pub record Kept (r s : JobRow) : Type 0 where
@@ -86,49 +86,49 @@ module _ (c : ℕ) (t : Table) (inside : c < length t.connections) (opened : is_
   space : Room t f q
   space = room t f q here
 
-  abilities-open : only_open t (function_at t q).able ≡ true
-  abilities-open = all_row (λ x. only_open t x.able) t.functions q no_function h.abilities (none_open t)
+  abilities_open_lem : only_open t (function_at t q).able ≡ true
+  abilities_open_lem = all_row (λ x. only_open t x.able) t.functions q no_function h.abilities (none_open t)
 
-  sound-named : Sound table_named
-  sound-named = sound-name t f q place space refl g.function abilities-open h
+  sound_named : Sound table_named
+  sound_named = sound_name t f q place space refl g.function abilities_open_lem h
 
-  new-name : (function_at table_named new.row.function).name ≡ f
-  new-name = rw keeps.function (room-name t f q place space refl g.function abilities-open h)
+  new_name : (function_at table_named new.row.function).name ≡ f
+  new_name = rw keeps.function (room_name t f q place space refl g.function abilities_open_lem h)
 
   -- a job of this function has this very name
-  name-there : Place t f q → (i : ℕ) → i < length t.jobs → live (job_at t i).row ≡ true → q ≡ (job_at t i).row.function → (function_at t (job_at t i).row.function).name ≡ f
-  name-there (there e) i l v w = rw (← w) e
-  name-there (free e n) i l v w = clash (job_known t h i l v) (rw (← w, e) (ap not (same_refl [])))
+  name_there : Place t f q → (i : ℕ) → i < length t.jobs → live (job_at t i).row ≡ true → q ≡ (job_at t i).row.function → (function_at t (job_at t i).row.function).name ≡ f
+  name_there (there e) i l v w = rw (← w) e
+  name_there (free e n) i l v w = clash (job_known t h i l v) (rw (← w, e) (ap not (same_refl [])))
 
-  no-twin : (i : ℕ) → i < length t.jobs → Twin new (job_at t i) → ⊥
+  no_twin : (i : ℕ) → i < length t.jobs → Twin new (job_at t i) → ⊥
   unfolding joined
-  no-twin i l w =
+  no_twin i l w =
       let k = job_at t i in
-      let e : (function_at t k.row.function).name ≡ f = name-there space.place i l w.second (sym keeps.function ∙ w.function) in
+      let e : (function_at t k.row.function).name ≡ f = name_there space.place i l w.second (sym keeps.function ∙ w.function) in
       let n : joins t.functions f u k ≡ false = not-true _ (all_at (λ j. not (joins t.functions f u j)) t.jobs i no_job (found (joins t.functions f u) no_job t.jobs none alone) l) in
       let a : same k.unique u ≡ true = rw w.unique (same_refl k.unique) in
       clash (and_both (live k.row) _ w.second (and_both (not (same u [])) _ (ap not w.some_unique) (and_both (same k.unique u) _ a (rw e (same_refl f))))) n
 
-  new-means : row_means table_named new ≡ true
-  new-means =
+  new_means : row_means table_named new ≡ true
+  new_means =
       let l : live new.row ≡ true = rw keeps.serial (ap not (eqb-suc-zero t.last)) in
       let m = length (set t.functions q place) in
       let n = length t.connections in
-      rw l (submitted_range m n c background bare (range-fresh m n (suc t.last) q priority size g.low (rw (length-set t.functions q place) space.inside)))
+      rw l (submitted_range m n c background bare (range_fresh m n (suc t.last) q priority size g.low (rw (length-set t.functions q place) space.inside)))
 
-  is-new : New table_named new
+  is_new_lem : New table_named new
   unfolding every
-  is-new =
+  is_new_lem =
       record {
         serial = keeps.serial;
         texts = and_both (text_within unique_size u) true (unique_within u g.unique) refl;
-        sizes = rw (new-name, keeps.size) (le-leb (length f + length u + size) 1022 g.together);
-        means = new-means;
+        sizes = rw (new_name, keeps.size) (le-leb (length f + length u + size) 1022 g.together);
+        means = new_means;
         listeners = submitted_open t c inside opened background bare (none_open t);
         holder = rw keeps.holder;
-        named = rw (new-name, name_some f g.function);
-        alone = no-twin;
+        named = rw (new_name, name_some f g.function);
+        alone = no_twin;
       }
 
-  pub sound-accepted : t.last < 4294967295 → Sound (accepted q f p new t)
-  sound-accepted l = sound_new table_named p new l is-new sound-named
+  pub sound_accepted : t.last < 4294967295 → Sound (accepted q f p new t)
+  sound_accepted l = sound_new table_named p new l is_new_lem sound_named

@@ -19,18 +19,18 @@ use Rattle.server.specs.Requests.{sends, Request, request_in}
 use Rattle.server.specs.Events.{Send, opening, able_to, unable, unable_to_all, sleeping}
 use Rattle.server.specs.Sizes.{id_size}
 use Rattle.server.specs.Rules.{text_within, is_open, only_open, id_open}
-use Rattle.lists.proofs.Cases.{all2-set, all2_map, all2_by}
+use Rattle.lists.proofs.Cases.{all2_set, all2_map, all2_by}
 use Rattle.server_laws.proofs.Outcome.{Change, Stands}
 use Rattle.lists.proofs.Rows.{or_left, all_row, all_set}
 use Rattle.server_laws.proofs.Requests.{Good}
 use Rattle.server_laws.proofs.Openness.{none_open, open_insert, bearers_by, bearer_at}
 use Rattle.server_laws.proofs.Sound.{Sound, sound_ids}
 use Rattle.server_laws.proofs.Jobs.{Goes, on, sound_jobs}
-use Rattle.server_laws.proofs.Functions.{Less, less_same, less_unable, sound_less, room, sound-name}
-use Rattle.server_laws.proofs.Going.{sound_connection, sound_sleeping, still_same, grabbed_live, joined_found, held_found, still-grabbed, still-submitted, goes-worked}
+use Rattle.server_laws.proofs.Functions.{Less, less_same, less_unable, sound_less, room, sound_name}
+use Rattle.server_laws.proofs.Going.{sound_connection, sound_sleeping, still_same, grabbed_live, joined_found, held_found, still_grabbed, still_submitted, goes_worked}
 use Rattle.server_laws.proofs.Lengths.{long_change}
 use Rattle.server_laws.proofs.Places.{Becomes, stays, begins, joins, taken, told, becomes}
-use Rattle.server_laws.proofs.Accepting.{sound-accepted}
+use Rattle.server_laws.proofs.Accepting.{sound_accepted}
 
 pub sound_opening : (c : ℕ) (t : Table) → Sound t → Sound (opening c t)
 unfolding opening
@@ -54,12 +54,12 @@ module _ (c : ℕ) (t : Table) (b : Bytes) (cs : List Connection) (inside : c < 
   goes : {last p : ℕ} {k : Job} → Good (request_in b) → last ≡ t.last → Becomes t last p (job_at t p) (sends c b) k → Goes v (job_at t p) k
   goes g e (stays d z) = on (still_same v _)
   goes g e (begins c b priority background f u size i o q z r₁ r₂ r₃ l n) = absurd (omega arith)
-  goes {p = p} g e (joins c b priority background f u size o q r) = on (still-submitted v c inside opened (job_at t p) (joined_found t f u p r) background)
-  goes {p = p} g e (taken c b uniq o q r) = on (still-grabbed v c inside opened (job_at t p) (grabbed_live t c p r))
-  goes {p = p} g e (told c b how kind h n d o q r) = goes-worked v c inside opened (job_at t p) (held_found t c h p r) how n d (rw q at g)
+  goes {p = p} g e (joins c b priority background f u size o q r) = on (still_submitted v c inside opened (job_at t p) (joined_found t f u p r) background)
+  goes {p = p} g e (taken c b uniq o q r) = on (still_grabbed v c inside opened (job_at t p) (grabbed_live t c p r))
+  goes {p = p} g e (told c b how kind h n d o q r) = goes_worked v c inside opened (job_at t p) (held_found t c h p r) how n d (rw q at g)
 
-  sound-places : {a : Request} {ss : List Send} {u : Table} → Stands t c true → request_in b ≡ a → Good a → Change c t a ss u → u.last ≡ t.last → Sound v → Sound (with_jobs u.jobs v)
-  sound-places {u = u} o q g m e h = sound_jobs v (all2_by t.jobs u.jobs no_job no_job (sym (long_change c t m).jobs) (λ p. goes (rw q g) e (becomes o q m p))) h
+  sound_places : {a : Request} {ss : List Send} {u : Table} → Stands t c true → request_in b ≡ a → Good a → Change c t a ss u → u.last ≡ t.last → Sound v → Sound (with_jobs u.jobs v)
+  sound_places {u = u} o q g m e h = sound_jobs v (all2_by t.jobs u.jobs no_job no_job (sym (long_change c t m).jobs) (λ p. goes (rw q g) e (becomes o q m p))) h
 
 -- ---- client ids
 
@@ -81,20 +81,20 @@ sound_identified c t i o g h =
 pub sound_change : (c : ℕ) (t : Table) (b : Bytes) {a : Request} {ss : List Send} {u : Table} → Stands t c true → request_in b ≡ a → Good a → Sound t → Change c t a ss u → Sound u
 unfolding sleeping unable_to_all
 sound_change c t b o q g h (Change.able f i e) =
-    sound-name t f i (able_to c f (function_at t i)) (room t f i e) refl g
+    sound_name t f i (able_to c f (function_at t i)) (room t f i e) refl g
     (open_insert t (function_at t i).able c o.inside o.state (all_row (λ x. only_open t x.able) t.functions i no_function h.abilities (none_open t))) h
 sound_change c t b o q g h (Change.unknown f e) = h
-sound_change c t b o q g h (Change.disabled f i e) = sound_less t (all2-set (Less t) (less_same t) t.functions i no_function (unable c (function_at t i)) (less_unable t c (function_at t i))) h
+sound_change c t b o q g h (Change.disabled f i e) = sound_less t (all2_set (Less t) (less_same t) t.functions i no_function (unable c (function_at t i)) (less_unable t c (function_at t i))) h
 sound_change c t b o q g h (Change.identified i) = sound_identified c t i o.state g h
 sound_change c t b o q g h Change.cleared = sound_less t (all2_map (Less t) (unable c) (less_unable t c) t.functions) h
 sound_change c t b o q g h Change.slept = sound_sleeping t c true o.state h
 sound_change c t b o q g h (Change.no_job_for uniq e) = sound_sleeping t c false o.state h
 sound_change c t b o q g h (Change.grabbed uniq p e) =
-    sound-places c t b (sleeping false c t).connections (asker_inside c t false o.inside) (asker_open c t false o.inside o.state) o q g (Change.grabbed uniq p e) refl
+    sound_places c t b (sleeping false c t).connections (asker_inside c t false o.inside) (asker_open c t false o.inside o.state) o q g (Change.grabbed uniq p e) refl
     (sound_sleeping t c false o.state h)
-sound_change c t b o q g h (Change.joins priority background f v size p e) = sound-places c t b t.connections o.inside o.state o q g (Change.joins priority background f v size p e) refl h
-sound_change c t b o q g h (Change.accepts priority background f v size i p e₁ e₂ e₃ l) = sound-accepted c t o.inside o.state priority background f v size i p g e₁ e₂ h l
-sound_change c t b o q g h (Change.worker how kind k n d p e) = sound-places c t b t.connections o.inside o.state o q g (Change.worker how kind k n d p e) refl h
+sound_change c t b o q g h (Change.joins priority background f v size p e) = sound_places c t b t.connections o.inside o.state o q g (Change.joins priority background f v size p e) refl h
+sound_change c t b o q g h (Change.accepts priority background f v size i p e₁ e₂ e₃ l) = sound_accepted c t o.inside o.state priority background f v size i p g e₁ e₂ h l
+sound_change c t b o q g h (Change.worker how kind k n d p e) = sound_places c t b t.connections o.inside o.state o q g (Change.worker how kind k n d p e) refl h
 sound_change c t b o q g h (Change.status k p e) = h
 sound_change c t b o q g h (Change.optioned name e) = sound_connection t c _ o.state h
 sound_change c t b o q g h Change.echoed = h

@@ -20,8 +20,8 @@ use Rattle.server.specs.Sizes.{id_size}
 use Rattle.server.specs.Rules.{text_within, is_open, only_open, holder_open, id_open, ids_open}
 use Rattle.lists.proofs.Cases.{cond_cases, cond_both, all2_map}
 use Rattle.lists.proofs.Rows.{clash, or_right, all_both, all_map, all_set, set_default}
-use Rattle.server.proofs.Rows.{range-holder}
-use Rattle.server_laws.proofs.Openness.{open_remove, open-without, bearers_by, bearer_at}
+use Rattle.server.proofs.Rows.{range_holder}
+use Rattle.server_laws.proofs.Openness.{open_remove, open_without, bearers_by, bearer_at}
 use Rattle.server_laws.proofs.Sound.{Sound, row_means, free_none, sound_connections, sound_ids}
 use Rattle.server_laws.proofs.Jobs.{stored_both, Still, Goes, on, sound_jobs}
 use Rattle.server_laws.proofs.Functions.{Less, less_unable, sound_less}
@@ -39,29 +39,29 @@ pub left_serial : (c : ℕ) (j : Job) → (left_by c j).row.serial ≡ j.row.ser
 left_serial c j = cond_both (λ (k : Job). k.row.serial ≡ j.row.serial) (held_by c j.row) refl refl
 
 module _ (t : Table) (c : ℕ) where
-  left-means : (j : Job) → row_means t j ≡ true → row_means t (left_by c j) ≡ true
+  left_means : (j : Job) → row_means t j ≡ true → row_means t (left_by c j) ≡ true
   unfolding same
-  left-means j e = go (live j.row) refl
+  left_means j e = go (live j.row) refl
     where
       go : (b : Bool) → live j.row ≡ b → row_means t (left_by c j) ≡ true
       go true l =
           cond_both (λ (k : Job). row_means t k ≡ true) (held_by c j.row)
-          (live_means t j (with_texts (48 ∷ []) (48 ∷ []) (with_row (with_holder 0 (deaf_to c j.row)) j)) l refl (range-holder (length t.functions) (length t.connections) j.row 0 (omega arith)) e)
+          (live_means t j (with_texts (48 ∷ []) (48 ∷ []) (with_row (with_holder 0 (deaf_to c j.row)) j)) l refl (range_holder (length t.functions) (length t.connections) j.row 0 (omega arith)) e)
           (live_means t j (with_row (deaf_to c j.row) j) l refl (λ q. q) e)
       go false l =
           let n : j ≡ no_job = free_none j l (rw l at e) in
           subst (λ (k : Job). row_means t k ≡ true) (sym (ap (left_by c) n ∙ left_none c)) refl
 
-  still-left : (j : Job) → Still t j (left_by c j)
+  still_left : (j : Job) → Still t j (left_by c j)
   unfolding every
-  still-left j =
+  still_left j =
       record {
         serial = left_serial c j;
         function = cond_both (λ (k : Job). k.row.function ≡ j.row.function) (held_by c j.row) refl refl;
         size = cond_both (λ (k : Job). k.row.size ≡ j.row.size) (held_by c j.row) refl refl;
         unique = cond_both (λ (k : Job). k.unique ≡ j.unique) (held_by c j.row) refl refl;
         texts = λ e. cond_both (λ (k : Job). stored_both k ≡ true) (held_by c j.row) refl e;
-        means = left-means j;
+        means = left_means j;
         listeners = λ e. cond_both (λ (k : Job). only_open t k.row.listeners ≡ true) (held_by c j.row) (open_remove t j.row.listeners c e) (open_remove t j.row.listeners c e);
         holder = λ e. cond_both (λ (k : Job). holder_open t k.row.holder ≡ true) (held_by c j.row) refl e;
       }
@@ -100,15 +100,15 @@ sound_closing c t h =
     let long = length-set t.connections c closed in
     let others : (x : ℕ) → x ≢ c → is_open u x ≡ is_open t x = λ x d. ap (λ (y : Connection). y.opened) (get_or-set_other t.connections c x closed closed d) in
     let t₁ = with_jobs (map (left_by c) t.jobs) t in
-    let h₁ : Sound t₁ = sound_jobs t (all2_map (Goes t) (left_by c) (λ j. on (still-left t c j)) t.jobs) h in
+    let h₁ : Sound t₁ = sound_jobs t (all2_map (Goes t) (left_by c) (λ j. on (still_left t c j)) t.jobs) h in
     let t₂ = with_functions (map (unable c) t.functions) t₁ in
     let h₂ : Sound t₂ = sound_less t₁ (all2_map (Less t₁) (unable c) (less_unable t₁ c) t.functions) h₁ in
     let t₃ = with_ids (set t.ids c []) t₂ in
     let h₃ : Sound t₃ = sound_ids t₂ (set t.ids c []) (all_set (text_within id_size) t.ids c [] h.ids refl) (bearers_without t t₃ c refl refl (λ x d. refl) h.bearers) h₂ in
     sound_connections t₃ (set t.connections c closed) long
-    (all_map (λ x. only_open t x.able) _ (unable c) (λ x e. open-without t u long c others x.able e) t.functions h.abilities)
+    (all_map (λ x. only_open t x.able) _ (unable c) (λ x e. open_without t u long c others x.able e) t.functions h.abilities)
     (all_map (λ j. only_open t j.row.listeners) _ (left_by c)
-    (λ j e. cond_both (λ (k : Job). only_open u k.row.listeners ≡ true) (held_by c j.row) (open-without t u long c others j.row.listeners e) (open-without t u long c others j.row.listeners e))
+    (λ j e. cond_both (λ (k : Job). only_open u k.row.listeners ≡ true) (held_by c j.row) (open_without t u long c others j.row.listeners e) (open_without t u long c others j.row.listeners e))
     t.jobs h.listeners)
     (all_map (λ j. holder_open t j.row.holder && row_means t j) _ (left_by c) (left_holder t u c others) t.jobs (all_both _ _ t.jobs h.holders h.rows))
     (all_set _ t.connections c closed h.clear refl)

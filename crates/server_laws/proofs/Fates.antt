@@ -24,19 +24,19 @@ use Rattle.server_laws.proofs.Closing.{left_serial}
 use Rattle.server_laws.proofs.Accepting.{submitted_keeps, submitted_unlost}
 
 module _ (t : Table) (h : obeys t ≡ true) (p : ℕ) where
-  awaited-at : lost (job_at t p).row ≡ false
-  awaited-at =
+  awaited_at : lost (job_at t p).row ≡ false
+  awaited_at =
       let r = (job_at t p).row in
       awaited_kept (queued r) r.background (is_empty r.listeners) (all_row (λ j. implies (queued j.row) (j.row.background || not (is_empty j.row.listeners))) t.jobs p no_job (obeyed t h).awaited refl)
 
   -- whatever becomes of a job, somebody waits for it if it is queued
   unlost : {last : ℕ} {e : Event} {k : Job} → Becomes t last p (job_at t p) e k → lost k.row ≡ false
-  unlost (stays e z) = awaited-at
+  unlost (stays e z) = awaited_at
   unlost (begins c b priority background f u size i o q z r₁ r₂ r₃ l e) = submitted_unlost c background (fresh_row (suc t.last) i priority size)
   unlost (joins c b priority background f u size o q r) = submitted_unlost c background (job_at t p).row
   unlost (taken c b uniq o q r) = rw (ne_eqb (suc c) 0 (λ z. omega arith), and-false)
-  unlost (told c b tells kind x n d o q r) = awaited-at
-  unlost (told c b reports kind x n d o q r) = awaited-at
+  unlost (told c b tells kind x n d o q r) = awaited_at
+  unlost (told c b reports kind x n d o q r) = awaited_at
   unlost (told c b ends kind x n d o q r) = refl
   unlost (told c b throws kind x n d o q r) = refl
   unlost (left c o z) = z

@@ -21,11 +21,11 @@ use Rattle.server.specs.Sizes.{name_size}
 use Rattle.server.specs.Table.{Function, Table, no_function, no_job, function_at, job_at, set_function, live, known, or_else, room_for, with_functions}
 use Rattle.server.specs.Events.{unable}
 use Rattle.server.specs.Rules.{text_within, is_known, names_apart, only_open}
-use Rattle.lists.proofs.Cases.{All2, all2-set, all2_at}
+use Rattle.lists.proofs.Cases.{All2, all2_set, all2_at}
 use Rattle.lists.proofs.Searches.{found}
-use Rattle.lists.proofs.Rows.{clash, never, implies_by, implies_use, or_right, all_at, all_imp, all_kept, all_set, pairwise-kept, pairwise-set}
+use Rattle.lists.proofs.Rows.{clash, never, implies_by, implies_use, or_right, all_at, all_imp, all_kept, all_set, pairwise_kept, pairwise_set}
 use Rattle.server_laws.proofs.Openness.{open_remove}
-use Rattle.server_laws.proofs.Sound.{Sound, job_named, sound-functions}
+use Rattle.server_laws.proofs.Sound.{Sound, job_named, sound_functions}
 
 -- ---- fewer abilities
 
@@ -56,18 +56,18 @@ job_known t h i l e = implies_use (live (job_at t i).row) _ (all_at (job_named t
 
 pub sound_less : (t : Table) {fs : List Function} → All2 (Less t) t.functions fs → Sound t → Sound (with_functions fs t)
 sound_less t {fs} g h =
-    sound-functions t fs (length_all2 g)
+    sound_functions t fs (length_all2 g)
     (λ i l e. (all2_at {R = Less t} g (job_at t i).row.function no_function no_function (less_same t no_function)).name)
     (all_kept _ _ (λ x y r e. rw r.name e) g h.names)
-    (pairwise-kept names_apart (λ a b x y r s e. rw (r.name, s.name) e) g h.functions)
+    (pairwise_kept names_apart (λ a b x y r s e. rw (r.name, s.name) e) g h.functions)
     (all_kept _ _ (λ x y r e. r.opened e) g h.abilities)
     (all_kept _ _ (λ x y r e. implies_by (not (is_empty y.able)) (is_known y) (λ q. rw r.name
-    (implies_use (not (is_empty x.able)) _ e (not-idle (is_empty x.able) (is_empty y.able) r.idle q)))) g h.ables_known)
+    (implies_use (not (is_empty x.able)) _ e (not_idle (is_empty x.able) (is_empty y.able) r.idle q)))) g h.ables_known)
     h
   where
-    not-idle : (a b : Bool) → (a ≡ true → b ≡ true) → not b ≡ true → not a ≡ true
-    not-idle false b f e = refl
-    not-idle true b f e = clash (f refl) (not-true b e)
+    not_idle : (a b : Bool) → (a ≡ true → b ≡ true) → not b ≡ true → not a ≡ true
+    not_idle false b f e = refl
+    not_idle true b f e = clash (f refl) (not-true b e)
 
 -- ---- the place for a function
 
@@ -100,39 +100,39 @@ name_some [] e = clash e refl
 name_some (x ∷ f) e = refl
 
 module _ (t : Table) (f : Bytes) (q : ℕ) (x : Function) (r : Room t f q) (n : x.name ≡ f) (fit : fits function f ≡ true) (o : only_open t x.able ≡ true) (h : Sound t) where
-  known-new : is_known x ≡ true
-  known-new = rw (n, name_some f fit)
+  known_new : is_known x ≡ true
+  known_new = rw (n, name_some f fit)
 
   names_apart_lem : Place t f q → pairwise names_apart (set t.functions q x) ≡ true
   names_apart_lem (there e) =
-      pairwise-kept names_apart {R = λ a b. b.name ≡ a.name} (λ a b y z u v w. rw (u, v) w)
-      (all2-set (λ a b. b.name ≡ a.name) (λ a. refl) t.functions q no_function x (n ∙ sym e)) h.functions
+      pairwise_kept names_apart {R = λ a b. b.name ≡ a.name} (λ a b y z u v w. rw (u, v) w)
+      (all2_set (λ a b. b.name ≡ a.name) (λ a. refl) t.functions q no_function x (n ∙ sym e)) h.functions
   names_apart_lem (free e w) =
-      pairwise-set names_apart t.functions q x h.functions
+      pairwise_set names_apart t.functions q x h.functions
       (all_imp _ _ (λ y v. or_right (not (is_known x)) _ (rw n (other_way y v))) t.functions w)
       (all_imp _ _ (λ y v. or_right (not (is_known y)) _ (rw n v)) t.functions w)
     where
       other_way : (y : Function) → not (same y.name f) ≡ true → not (same f y.name) ≡ true
       other_way y v = ap not (never (same f y.name) (λ s. clash (rw (same_is f y.name s) (same_refl y.name)) (not-true (same y.name f) v)))
 
-  pub room-name : (function_at (set_function t q x) q).name ≡ f
-  room-name = ap (λ (y : Function). y.name) (get_or-set_same t.functions q x no_function r.inside) ∙ n
+  pub room_name : (function_at (set_function t q x) q).name ≡ f
+  room_name = ap (λ (y : Function). y.name) (get_or-set_same t.functions q x no_function r.inside) ∙ n
 
   -- a known function keeps its name
-  pub known-stays : (k : ℕ) → is_known (function_at t k) ≡ true → (function_at (set_function t q x) k).name ≡ (function_at t k).name
-  known-stays k e = go (ℕ_discrete k q) r.place
+  pub known_stays : (k : ℕ) → is_known (function_at t k) ≡ true → (function_at (set_function t q x) k).name ≡ (function_at t k).name
+  known_stays k e = go (ℕ_discrete k q) r.place
     where
       go : Dec (k ≡ q) → Place t f q → (function_at (set_function t q x) k).name ≡ (function_at t k).name
       go (no d) p = ap (λ (y : Function). y.name) (get_or-set_other t.functions q k x no_function d)
-      go (yes i) (there w) = rw i (room-name ∙ sym w)
+      go (yes i) (there w) = rw i (room_name ∙ sym w)
       go (yes i) (free w v) = clash e (rw (i, w) (ap not (same_refl [])))
 
-  pub sound-name : Sound (set_function t q x)
-  sound-name =
-      sound-functions t (set t.functions q x) (length-set t.functions q x)
-      (λ i l e. known-stays (job_at t i).row.function (job_known t h i l e))
+  pub sound_name : Sound (set_function t q x)
+  sound_name =
+      sound_functions t (set t.functions q x) (length-set t.functions q x)
+      (λ i l e. known_stays (job_at t i).row.function (job_known t h i l e))
       (all_set _ t.functions q x h.names (rw n (name_within f fit)))
       (names_apart_lem r.place)
       (all_set _ t.functions q x h.abilities o)
-      (all_set _ t.functions q x h.ables_known (implies_by (not (is_empty x.able)) (is_known x) (λ e. known-new)))
+      (all_set _ t.functions q x h.ables_known (implies_by (not (is_empty x.able)) (is_known x) (λ e. known_new)))
       h

@@ -20,7 +20,7 @@ use Rattle.server.specs.Events.{sleeping, submitted_by, holds_handle, worked, he
 use Rattle.server.specs.Rules.{stored_number, row_has_meaning, is_open}
 use Rattle.lists.proofs.Searches.{found}
 use Rattle.lists.proofs.Rows.{implies_by, all_imp, all_set}
-use Rattle.server.proofs.Rows.{range-holder}
+use Rattle.server.proofs.Rows.{range_holder}
 use Rattle.server_laws.proofs.Numbers.{row_at, rows_long}
 use Rattle.server_laws.proofs.Requests.{Told}
 use Rattle.server_laws.proofs.Openness.{open_more, holder_more, still_open, bearers_more}
@@ -105,21 +105,21 @@ free_place_lem t p e =
 -- ---- jobs that go on
 
 module _ (t : Table) (c : ℕ) (inside : c < length t.connections) (opened : is_open t c ≡ true) (j : Job) (l : live j.row ≡ true) where
-  pub still-grabbed : Still t j (with_row (with_holder (suc c) j.row) j)
-  still-grabbed =
+  pub still_grabbed : Still t j (with_row (with_holder (suc c) j.row) j)
+  still_grabbed =
       record {
         serial = refl;
         function = refl;
         size = refl;
         unique = refl;
         texts = λ e. e;
-        means = live_means t j (with_row (with_holder (suc c) j.row) j) l refl (range-holder (length t.functions) (length t.connections) j.row (suc c) inside);
+        means = live_means t j (with_row (with_holder (suc c) j.row) j) l refl (range_holder (length t.functions) (length t.connections) j.row (suc c) inside);
         listeners = λ e. e;
         holder = λ e. opened;
       }
 
-  pub still-submitted : (b : Bool) → Still t j (with_row (submitted_by c b j.row) j)
-  still-submitted b =
+  pub still_submitted : (b : Bool) → Still t j (with_row (submitted_by c b j.row) j)
+  still_submitted b =
       let k = submitted_keeps c b j.row in
       record {
         serial = k.serial;
@@ -132,10 +132,10 @@ module _ (t : Table) (c : ℕ) (inside : c < length t.connections) (opened : is_
         holder = λ e. rw k.holder e;
       }
 
-  pub goes-worked : (how : Work) (n d : Bytes) → Told how n d → Goes t j (worked how n d j)
+  pub goes_worked : (how : Work) (n d : Bytes) → Told how n d → Goes t j (worked how n d j)
   unfolding fits
-  goes-worked tells n d g = on (still_same t j)
-  goes-worked reports n d g =
+  goes_worked tells n d g = on (still_same t j)
+  goes_worked reports n d g =
       on (record {
         serial = refl;
         function = refl;
@@ -146,5 +146,5 @@ module _ (t : Table) (c : ℕ) (inside : c < length t.connections) (opened : is_
         listeners = λ e. e;
         holder = λ e. e;
       })
-  goes-worked ends n d g = over
-  goes-worked throws n d g = over
+  goes_worked ends n d g = over
+  goes_worked throws n d g = over

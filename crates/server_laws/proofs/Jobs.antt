@@ -14,7 +14,7 @@ use Rattle.server.specs.Sizes.{unique_size}
 use Rattle.server.specs.Table.{Job, Table, no_job, function_at, job_at, live, with_last_serial, with_jobs, set_job}
 use Rattle.server.specs.Rules.{serials_below, serials_apart, text_within, stored_number, together, is_known, only_open, holder_open, uniques_apart}
 use Rattle.lists.proofs.Cases.{All2}
-use Rattle.lists.proofs.Rows.{implies_by, implies_use, or_right, all-by, all_imp, all_kept, all_set, pairwise-kept, pairwise-set}
+use Rattle.lists.proofs.Rows.{implies_by, implies_use, or_right, all_by, all_imp, all_kept, all_set, pairwise_kept, pairwise_set}
 use Rattle.server_laws.proofs.Openness.{none_open, holder_more}
 use Rattle.server_laws.proofs.Sound.{Sound, job_named, row_means, none_together}
 
@@ -94,7 +94,7 @@ sound_jobs t {ks} g h =
     record {
       small = h.small;
       below = all_kept _ _ (below_goes t) g h.below;
-      serials = pairwise-kept serials_apart (serials_go t) g h.serials;
+      serials = pairwise_kept serials_apart (serials_go t) g h.serials;
       names = h.names;
       texts = all_kept _ _ (texts_go t) g h.texts;
       sizes = all_kept _ _ (λ j k s. sizes_go t j k s (none_together t h.names)) g h.sizes;
@@ -104,7 +104,7 @@ sound_jobs t {ks} g h =
       listeners = all_kept _ _ (listeners_go t) g h.listeners;
       holders = all_kept _ _ (λ j k s e. holder_more t (with_jobs ks t) (λ c o. o) k.row.holder (holders_go t j k s e)) g h.holders;
       clear = h.clear;
-      uniques = pairwise-kept uniques_apart (uniques_go t) g h.uniques;
+      uniques = pairwise_kept uniques_apart (uniques_go t) g h.uniques;
       ids = h.ids;
       bearers = h.bearers;
       named = h.named;
@@ -161,7 +161,7 @@ sound_new t p j l n h =
       small = lt-ltb (suc t.last) 4294967296 (omega arith);
       below = all_set _ t.jobs p j (given_out t _ (λ k e. le-leb k.row.serial (suc t.last) (omega arith)) h.below) (rw n.serial (le-leb (suc t.last) (suc t.last) (omega arith)));
       serials =
-          pairwise-set serials_apart t.jobs p j h.serials
+          pairwise_set serials_apart t.jobs p j h.serials
           (given_out t _ (λ k e. or_right (not (live j.row)) _ (ap not (ne_eqb _ _ (λ (q : j.row.serial ≡ k.row.serial). omega (arith, n.serial))))) h.below)
           (given_out t _ (λ k e. or_right (not (live k.row)) _ (ap not (ne_eqb _ _ (λ (q : k.row.serial ≡ j.row.serial). omega (arith, n.serial))))) h.below);
       names = h.names;
@@ -176,9 +176,9 @@ sound_new t p j l n h =
           (holder_more t (with_new t p j) (λ c o. o) j.row.holder n.holder);
       clear = h.clear;
       uniques =
-          pairwise-set uniques_apart t.jobs p j h.uniques
-          (all-by _ t.jobs no_job (λ i g. apart_by j (job_at t i) (n.alone i g)))
-          (all-by _ t.jobs no_job (λ i g. apart_by (job_at t i) j (λ w. n.alone i g (turned w))));
+          pairwise_set uniques_apart t.jobs p j h.uniques
+          (all_by _ t.jobs no_job (λ i g. apart_by j (job_at t i) (n.alone i g)))
+          (all_by _ t.jobs no_job (λ i g. apart_by (job_at t i) j (λ w. n.alone i g (turned w))));
       ids = h.ids;
       bearers = h.bearers;
       named = h.named;

@@ -119,11 +119,11 @@ start_obeys n hub good = obeys_fresh n hub good
 
 start_shaped : (n : ℕ) (hub : Bytes) → Shaped n (start n hub)
 unfolding start fresh
-start_shaped n hub = record { connections = length-replicate n closed; ids = length-replicate {A = Bytes} n []; functions = refl; jobs = refl; workloads = refl; whole = whole-workloads 32 }
+start_shaped n hub = record { connections = length-replicate n closed; ids = length-replicate {A = Bytes} n []; functions = refl; jobs = refl; workloads = refl; whole = whole_workloads 32 }
   where
-    whole-workloads : (k : ℕ) → All Whole (replicate k (replicate 1024 0))
-    whole-workloads zero = All.none
-    whole-workloads (suc k) = All.more (length-replicate {A = ℕ} 1024 0) (whole-workloads k)
+    whole_workloads : (k : ℕ) → All Whole (replicate k (replicate 1024 0))
+    whole_workloads zero = All.none
+    whole_workloads (suc k) = All.more (length-replicate {A = ℕ} 1024 0) (whole_workloads k)
 
 -- document 01's table rules hold after any history from a fresh table
 pub obeys_after : (n : ℕ) (hub : Bytes) → is_hub_name hub ≡ true → (h : List Event) → obeys (after (start n hub) h).table ≡ true

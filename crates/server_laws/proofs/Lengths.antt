@@ -16,7 +16,7 @@ use Rattle.server.specs.Server.{Server, reworked, rework, decided, next, after, 
 use Rattle.lists.proofs.Lists.{length_fit}
 use Rattle.lists.proofs.Cases.{cond_both, All}
 use Rattle.server_laws.proofs.Outcome.{Change, Served, Outcome, outcome}
-use Rattle.lists.proofs.Rows.{length-mapFrom}
+use Rattle.lists.proofs.Rows.{length_map_from}
 
 -- u has as many places as t, and the same hub
 pub record AsLong (t u : Table) : Type 0 where
@@ -35,49 +35,49 @@ module _ (t : Table) where
   long_same : AsLong t t
   long_same = record { connections = refl; ids = refl; functions = refl; jobs = refl; hub = refl }
 
-  long-connection : (c : ℕ) (x : Connection) → AsLong t (set_connection t c x)
-  long-connection c x = record { connections = length-set t.connections c x; ids = refl; functions = refl; jobs = refl; hub = refl }
+  long_connection : (c : ℕ) (x : Connection) → AsLong t (set_connection t c x)
+  long_connection c x = record { connections = length-set t.connections c x; ids = refl; functions = refl; jobs = refl; hub = refl }
 
-  long-id : (c : ℕ) (i : Bytes) → AsLong t (set_id t c i)
-  long-id c i = record { connections = refl; ids = length-set t.ids c i; functions = refl; jobs = refl; hub = refl }
+  long_id : (c : ℕ) (i : Bytes) → AsLong t (set_id t c i)
+  long_id c i = record { connections = refl; ids = length-set t.ids c i; functions = refl; jobs = refl; hub = refl }
 
-  long-function : (q : ℕ) (x : Function) → AsLong t (set_function t q x)
-  long-function q x = record { connections = refl; ids = refl; functions = length-set t.functions q x; jobs = refl; hub = refl }
+  long_function : (q : ℕ) (x : Function) → AsLong t (set_function t q x)
+  long_function q x = record { connections = refl; ids = refl; functions = length-set t.functions q x; jobs = refl; hub = refl }
 
-  long-job : (p : ℕ) (j : Job) → AsLong t (set_job t p j)
-  long-job p j = record { connections = refl; ids = refl; functions = refl; jobs = length-set t.jobs p j; hub = refl }
+  long_job : (p : ℕ) (j : Job) → AsLong t (set_job t p j)
+  long_job p j = record { connections = refl; ids = refl; functions = refl; jobs = length-set t.jobs p j; hub = refl }
 
-  long-unable : (c : ℕ) → AsLong t (unable_to_all c t)
+  long_unable : (c : ℕ) → AsLong t (unable_to_all c t)
   unfolding unable_to_all
-  long-unable c = record { connections = refl; ids = refl; functions = length-map t.functions (unable c); jobs = refl; hub = refl }
+  long_unable c = record { connections = refl; ids = refl; functions = length-map t.functions (unable c); jobs = refl; hub = refl }
 
-  long-left : (c : ℕ) → AsLong t (with_jobs (map (left_by c) t.jobs) t)
-  long-left c = record { connections = refl; ids = refl; functions = refl; jobs = length-map t.jobs (left_by c); hub = refl }
+  long_left : (c : ℕ) → AsLong t (with_jobs (map (left_by c) t.jobs) t)
+  long_left c = record { connections = refl; ids = refl; functions = refl; jobs = length-map t.jobs (left_by c); hub = refl }
 
-  long-last : {u : Table} {s : ℕ} → AsLong t u → AsLong t (with_last_serial s u)
-  long-last a = record { connections = a.connections; ids = a.ids; functions = a.functions; jobs = a.jobs; hub = a.hub }
+  long_last : {u : Table} {s : ℕ} → AsLong t u → AsLong t (with_last_serial s u)
+  long_last a = record { connections = a.connections; ids = a.ids; functions = a.functions; jobs = a.jobs; hub = a.hub }
 
 pub long_settle : (ss : List Send) (t : Table) → AsLong t (settle ss t).table
 unfolding settle dropped woken_in forgot
-long_settle ss t = record { connections = length-mapFrom _ 0 t.connections; ids = refl; functions = length-mapFrom _ 0 t.functions; jobs = length-map t.jobs unless_lost; hub = refl }
+long_settle ss t = record { connections = length_map_from _ 0 t.connections; ids = refl; functions = length_map_from _ 0 t.functions; jobs = length-map t.jobs unless_lost; hub = refl }
 
 -- ---- every event
 
 pub long_change : (c : ℕ) (t : Table) {a : Request} {ss : List Send} {u : Table} → Change c t a ss u → AsLong t u
 unfolding sleeping
-long_change c t (Change.able f q e) = long-function t q _
+long_change c t (Change.able f q e) = long_function t q _
 long_change c t (Change.unknown f e) = long_same t
-long_change c t (Change.disabled f q e) = long-function t q _
-long_change c t (Change.identified i) = long-id t c i
-long_change c t Change.cleared = long-unable t c
-long_change c t Change.slept = long-connection t c _
-long_change c t (Change.no_job_for uniq e) = long-connection t c _
-long_change c t (Change.grabbed uniq p e) = long_then (long-connection t c _) (long-job (sleeping false c t) p _)
-long_change c t (Change.joins priority background f v size p e) = long-job t p _
-long_change c t (Change.accepts priority background f v size q p e₁ e₂ e₃ l) = long_then (long-function t q (with_name f (function_at t q))) (long-last _ (long-job (set_function t q (with_name f (function_at t q))) p _))
-long_change c t (Change.worker how kind h n d p e) = long-job t p _
+long_change c t (Change.disabled f q e) = long_function t q _
+long_change c t (Change.identified i) = long_id t c i
+long_change c t Change.cleared = long_unable t c
+long_change c t Change.slept = long_connection t c _
+long_change c t (Change.no_job_for uniq e) = long_connection t c _
+long_change c t (Change.grabbed uniq p e) = long_then (long_connection t c _) (long_job (sleeping false c t) p _)
+long_change c t (Change.joins priority background f v size p e) = long_job t p _
+long_change c t (Change.accepts priority background f v size q p e₁ e₂ e₃ l) = long_then (long_function t q (with_name f (function_at t q))) (long_last _ (long_job (set_function t q (with_name f (function_at t q))) p _))
+long_change c t (Change.worker how kind h n d p e) = long_job t p _
 long_change c t (Change.status h o e) = long_same t
-long_change c t (Change.optioned name e) = long-connection t c _
+long_change c t (Change.optioned name e) = long_connection t c _
 long_change c t Change.echoed = long_same t
 
 long_served : (c : ℕ) (t : Table) {a : Request} {d : Decision} → Served c t a d → AsLong t d.table
@@ -88,11 +88,11 @@ long_served c t (Served.done a ss u m) = long_then (long_change c t m) (long_set
 pub long_outcome : (t : Table) {e : Event} {d : Decision} → Outcome t e d → AsLong t d.table
 unfolding silence opening closing unable_to_all
 long_outcome t (Outcome.silenced e n r) = long_same t
-long_outcome t (Outcome.opened c o) = long_then (long-connection t c _) (long_settle [] (opening c t))
+long_outcome t (Outcome.opened c o) = long_then (long_connection t c _) (long_settle [] (opening c t))
 long_outcome t (Outcome.closed c o) =
     let t₁ = set_id (set_connection t c closed) c [] in
-    let a : AsLong t t₁ = long_then (long-connection t c closed) (long-id (set_connection t c closed) c []) in
-    let b : AsLong t₁ (closing c t) = long_then (long-unable t₁ c) (long-left (unable_to_all c t₁) c) in
+    let a : AsLong t t₁ = long_then (long_connection t c closed) (long_id (set_connection t c closed) c []) in
+    let b : AsLong t₁ (closing c t) = long_then (long_unable t₁ c) (long_left (unable_to_all c t₁) c) in
     long_then (long_then a b) (long_settle [] (closing c t))
 long_outcome t (Outcome.serves c b d o r) = long_served c t r
 

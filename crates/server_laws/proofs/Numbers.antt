@@ -13,18 +13,18 @@ module _ (t : Table) where
   pub row_at : (p : ℕ) → get_or (rows_of t) p no_row ≡ (job_at t p).row
   row_at p = get_or-map (λ (j : Job). j.row) t.jobs p no_job
 
-  pub able-at : (q : ℕ) → get_or (ables_of t) q 0 ≡ (function_at t q).able
-  able-at q = get_or-map (λ (x : Function). x.able) t.functions q no_function
+  pub able_at_lem : (q : ℕ) → get_or (ables_of t) q 0 ≡ (function_at t q).able
+  able_at_lem q = get_or-map (λ (x : Function). x.able) t.functions q no_function
 
   pub rows_long : length (rows_of t) ≡ length t.jobs
   rows_long = length-map t.jobs (λ (j : Job). j.row)
 
-  pub ables-long : length (ables_of t) ≡ length t.functions
-  ables-long = length-map t.functions (λ (x : Function). x.able)
+  pub ables_long : length (ables_of t) ≡ length t.functions
+  ables_long = length-map t.functions (λ (x : Function). x.able)
 
   module _ (test : JobRow → Bool) where
-    pub row-passes : (i : ℕ) → i < length t.jobs → test (job_at t i).row ≡ true → any test (rows_of t) ≡ true
-    row-passes i l e = any_at test (rows_of t) i no_row (rw rows_long l) (rw (row_at i) e)
+    pub row_passes : (i : ℕ) → i < length t.jobs → test (job_at t i).row ≡ true → any test (rows_of t) ≡ true
+    row_passes i l e = any_at test (rows_of t) i no_row (rw rows_long l) (rw (row_at i) e)
 
-    pub row-where : any test (rows_of t) ≡ true → (i : ℕ) × (i < length t.jobs) × (test (job_at t i).row ≡ true)
-    row-where e = let (i, l, g) = any_where test (rows_of t) no_row e in (i, rw rows_long at l, rw (row_at i) at g)
+    pub row_where : any test (rows_of t) ≡ true → (i : ℕ) × (i < length t.jobs) × (test (job_at t i).row ≡ true)
+    row_where e = let (i, l, g) = any_where test (rows_of t) no_row e in (i, rw rows_long at l, rw (row_at i) at g)

@@ -13,8 +13,8 @@ use Rattle.server.specs.declared.JobRow.{JobRow}
 use Rattle.server.specs.Table.{Function, Table, no_function, no_job, function_at, job_at, rows_of, live, wanted}
 use Rattle.lists.specs.Lists.{implies}
 use Rattle.server.specs.Rules.{next_small, serials_below, serials_distinct, names_within, texts_within, sizes_within, rows_have_meaning, row_has_meaning, is_known, functions_distinct, as_defined, functions_as_defined, abilities_open, listeners_open, holders_open, closed_clear, queued_awaited, uniques_distinct, sleepers_idle, ids_within, ids_open, obeys}
-use Rattle.lists.proofs.Rows.{clash, implies_by, or_left, all_at, all-by}
-use Rattle.server.proofs.Rows.{in-range}
+use Rattle.lists.proofs.Rows.{clash, implies_by, or_left, all_at, all_by}
+use Rattle.server.proofs.Rows.{in_range}
 use Rattle.server_laws.proofs.Sound.{Sound, job_named, jobs_named, ables_named, row_means}
 use Rattle.server_laws.proofs.Settled.{place_defined, job_wants}
 
@@ -54,14 +54,14 @@ wanted_named t e q l w =
 
 jobs_named_lem : (t : Table) → functions_as_defined t ≡ true → rows_have_meaning t ≡ true → jobs_named t ≡ true
 jobs_named_lem t e r =
-    all-by (job_named t) t.jobs no_job (λ i l. implies_by (live (job_at t i).row) _ (λ v.
+    all_by (job_named t) t.jobs no_job (λ i l. implies_by (live (job_at t i).row) _ (λ v.
     let m : row_has_meaning t (job_at t i) ≡ true = rw v at (all_at (row_means t) t.jobs i no_job r l) in
-    let n = (in-range (length t.functions) (length t.connections) (job_at t i).row m).function in
+    let n = (in_range (length t.functions) (length t.connections) (job_at t i).row m).function in
     wanted_named t e (job_at t i).row.function n (job_wants t i (function_at t (job_at t i).row.function) l v)))
 
 ables_named_lem : (t : Table) → functions_as_defined t ≡ true → ables_named t ≡ true
 ables_named_lem t e =
-    all-by (λ x. implies (not (is_empty x.able)) (is_known x)) t.functions no_function (λ q l. implies_by (not (is_empty (function_at t q).able)) _ (λ n.
+    all_by (λ x. implies (not (is_empty x.able)) (is_known x)) t.functions no_function (λ q l. implies_by (not (is_empty (function_at t q).able)) _ (λ n.
     wanted_named t e q l (or_left (not (is_empty (function_at t q).able)) _ n)))
 
 -- ---- the rules one by one

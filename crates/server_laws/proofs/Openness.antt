@@ -81,8 +81,8 @@ module _ (t u : Table) (long : length u.connections ≡ length t.connections) wh
   open_more more s e = let a = among t s e in only_open_lem u s (record { small = rw long a.small; opened = λ c h. more c (a.opened c h) })
 
   -- connection c was closed, and was taken out
-  pub open-without : (c : ℕ) → ((x : ℕ) → x ≢ c → is_open u x ≡ is_open t x) → (s : ℕ) → only_open t s ≡ true → only_open u (remove s c) ≡ true
-  open-without c others s e = only_open_lem u (remove s c) (record { small = rw long (omega (arith, remove_le s c, a.small)); opened = λ x. go x (ℕ_discrete x c) })
+  pub open_without : (c : ℕ) → ((x : ℕ) → x ≢ c → is_open u x ≡ is_open t x) → (s : ℕ) → only_open t s ≡ true → only_open u (remove s c) ≡ true
+  open_without c others s e = only_open_lem u (remove s c) (record { small = rw long (omega (arith, remove_le s c, a.small)); opened = λ x. go x (ℕ_discrete x c) })
     where
       a : Among t s
       a = among t s e

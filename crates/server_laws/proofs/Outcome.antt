@@ -86,99 +86,99 @@ module _ (c : ℕ) (t : Table) where
   ok : {a : Request} {ss : List Send} {u : Table} → Change c t a ss u → Served c t a (settle ss u)
   ok m = done _ _ _ m
 
-  o-canDo : (f : Bytes) (o : Option ℕ) → room_for t.functions f ≡ o → Served c t (can_do f) (can_do_at o c f t)
+  o_can_do : (f : Bytes) (o : Option ℕ) → room_for t.functions f ≡ o → Served c t (can_do f) (can_do_at o c f t)
   unfolding can_do_at
-  o-canDo f none e = refused _ _ (no_room f e)
-  o-canDo f (some q) e = ok (able f q e)
+  o_can_do f none e = refused _ _ (no_room f e)
+  o_can_do f (some q) e = ok (able f q e)
 
-  o-cantDo : (f : Bytes) (o : Option ℕ) → known t.functions f ≡ o → Served c t (cant_do f) (cant_do_at o c t)
+  o_cant_do : (f : Bytes) (o : Option ℕ) → known t.functions f ≡ o → Served c t (cant_do f) (cant_do_at o c t)
   unfolding cant_do_at
-  o-cantDo f none e = ok (unknown f e)
-  o-cantDo f (some q) e = ok (disabled f q e)
+  o_cant_do f none e = ok (unknown f e)
+  o_cant_do f (some q) e = ok (disabled f q e)
 
-  o-grab : (uniq : Bool) (o : Option ℕ) → best t c ≡ o → Served c t (grab uniq) (grab_at o uniq c (sleeping false c t))
+  o_grab : (uniq : Bool) (o : Option ℕ) → best t c ≡ o → Served c t (grab uniq) (grab_at o uniq c (sleeping false c t))
   unfolding grab_at
-  o-grab uniq none e = ok (no_job_for uniq e)
-  o-grab uniq (some p) e = ok (grabbed uniq p e)
+  o_grab uniq none e = ok (no_job_for uniq e)
+  o_grab uniq (some p) e = ok (grabbed uniq p e)
 
-  o-work : (how : Work) (kind : ℕ) (h n d : Bytes) (o : Option ℕ) → held_job_of t c h ≡ o → Served c t (work how kind h n d) (work_at o how kind c n d t)
+  o_work : (how : Work) (kind : ℕ) (h n d : Bytes) (o : Option ℕ) → held_job_of t c h ≡ o → Served c t (work how kind h n d) (work_at o how kind c n d t)
   unfolding work_at
-  o-work how kind h n d none e = refused _ _ (not_held how kind h n d e)
-  o-work how kind h n d (some p) e = ok (worker how kind h n d p e)
+  o_work how kind h n d none e = refused _ _ (not_held how kind h n d e)
+  o_work how kind h n d (some p) e = ok (worker how kind h n d p e)
 
-  o-status : (h : Bytes) (o : Option ℕ) → job_of t h ≡ o → Served c t (get_status h) (status_at o c h t)
+  o_status : (h : Bytes) (o : Option ℕ) → job_of t h ≡ o → Served c t (get_status h) (status_at o c h t)
   unfolding status_at
-  o-status h o e = ok (status h o e)
+  o_status h o e = ok (status h o e)
 
-  o-option : (name : Bytes) (b : Bool) → same name exceptions_name ≡ b → Served c t (option name) (option_if b c name t)
+  o_option : (name : Bytes) (b : Bool) → same name exceptions_name ≡ b → Served c t (option name) (option_if b c name t)
   unfolding option_if
-  o-option name false e = refused _ _ (no_option name e)
-  o-option name true e = ok (optioned name e)
+  o_option name false e = refused _ _ (no_option name e)
+  o_option name true e = ok (optioned name e)
 
-  o-new : (priority : ℕ) (background : Bool) (f u : Bytes) (size : ℕ) → joined t f u ≡ none → (o r : Option ℕ) → room_for t.functions f ≡ o → free_place t ≡ r
+  o_new : (priority : ℕ) (background : Bool) (f u : Bytes) (size : ℕ) → joined t f u ≡ none → (o r : Option ℕ) → room_for t.functions f ≡ o → free_place t ≡ r
       → Served c t (submit priority background f u size) (submit_new o r c priority background f u size t)
   unfolding submit_new
-  o-new priority background f u size j none r e g = refused _ _ (no_function priority background f u size j e)
-  o-new priority background f u size j (some q) none e g = refused _ _ (no_place priority background f u size q j e g)
-  o-new priority background f u size j (some q) (some p) e g =
+  o_new priority background f u size j none r e g = refused _ _ (no_function priority background f u size j e)
+  o_new priority background f u size j (some q) none e g = refused _ _ (no_place priority background f u size q j e g)
+  o_new priority background f u size j (some q) (some p) e g =
       cond_cases (Served c t (submit priority background f u size)) (ltb t.last 4294967295)
       (λ h. ok (accepts priority background f u size q p j e g (ltb-true t.last 4294967295 h)))
       (λ h. refused _ _ (no_serial priority background f u size q p j e g h))
 
-  o-submit : (priority : ℕ) (background : Bool) (f u : Bytes) (size : ℕ) (o : Option ℕ) → joined t f u ≡ o
+  o_submit : (priority : ℕ) (background : Bool) (f u : Bytes) (size : ℕ) (o : Option ℕ) → joined t f u ≡ o
       → Served c t (submit priority background f u size) (submit_to o c priority background f u size t)
   unfolding submit_to
-  o-submit priority background f u size none e = o-new priority background f u size e (room_for t.functions f) (free_place t) refl refl
-  o-submit priority background f u size (some p) e = ok (joins priority background f u size p e)
+  o_submit priority background f u size none e = o_new priority background f u size e (room_for t.functions f) (free_place t) refl refl
+  o_submit priority background f u size (some p) e = ok (joins priority background f u size p e)
 
-  pub served-by : (a : Request) → Served c t a (served c a t)
+  pub served_by : (a : Request) → Served c t a (served c a t)
   unfolding served
-  served-by (bad n) = refused _ _ (unread n)
-  served-by (can_do f) = o-canDo f (room_for t.functions f) refl
-  served-by (cant_do f) = o-cantDo f (known t.functions f) refl
-  served-by (identify i) = ok (identified i)
-  served-by reset = ok cleared
-  served-by pre_sleep = ok slept
-  served-by (grab uniq) = o-grab uniq (best t c) refl
-  served-by (submit priority background f u size) = o-submit priority background f u size (joined t f u) refl
-  served-by (work how kind h n d) = o-work how kind h n d _ refl
-  served-by (get_status h) = o-status h _ refl
-  served-by (option name) = o-option name _ refl
-  served-by echo = ok echoed
+  served_by (bad n) = refused _ _ (unread n)
+  served_by (can_do f) = o_can_do f (room_for t.functions f) refl
+  served_by (cant_do f) = o_cant_do f (known t.functions f) refl
+  served_by (identify i) = ok (identified i)
+  served_by reset = ok cleared
+  served_by pre_sleep = ok slept
+  served_by (grab uniq) = o_grab uniq (best t c) refl
+  served_by (submit priority background f u size) = o_submit priority background f u size (joined t f u) refl
+  served_by (work how kind h n d) = o_work how kind h n d _ refl
+  served_by (get_status h) = o_status h _ refl
+  served_by (option name) = o_option name _ refl
+  served_by echo = ok echoed
 
 module _ (t : Table) (c : ℕ) where
   -- what an event comes to that only an open connection may bring, or only a closed one
-  if-open : {e : Event} (d : Decision) → From e c → (Stands t c false → Silences t e 3) → (Stands t c true → Outcome t e d)
+  if_open : {e : Event} (d : Decision) → From e c → (Stands t c false → Silences t e 3) → (Stands t c true → Outcome t e d)
       → (b o : Bool) → is_connection t c ≡ b → (connection_at t c).opened ≡ o → Outcome t e (only_if_open b o t d)
   unfolding only_if_open
-  if-open d f bars lets false o i s = silenced _ 2 (no_connection f i)
-  if-open d f bars lets true false i s = silenced _ 3 (bars (record { inside = ltb-true c (length t.connections) i; state = s }))
-  if-open d f bars lets true true i s = lets (record { inside = ltb-true c (length t.connections) i; state = s })
+  if_open d f bars lets false o i s = silenced _ 2 (no_connection f i)
+  if_open d f bars lets true false i s = silenced _ 3 (bars (record { inside = ltb-true c (length t.connections) i; state = s }))
+  if_open d f bars lets true true i s = lets (record { inside = ltb-true c (length t.connections) i; state = s })
 
-  if-closed : {e : Event} (d : Decision) → From e c → (Stands t c true → Silences t e 4) → (Stands t c false → Outcome t e d)
+  if_closed : {e : Event} (d : Decision) → From e c → (Stands t c true → Silences t e 4) → (Stands t c false → Outcome t e d)
       → (b o : Bool) → is_connection t c ≡ b → (connection_at t c).opened ≡ o → Outcome t e (only_if_closed b o t d)
   unfolding only_if_closed
-  if-closed d f bars lets false o i s = silenced _ 2 (no_connection f i)
-  if-closed d f bars lets true true i s = silenced _ 4 (bars (record { inside = ltb-true c (length t.connections) i; state = s }))
-  if-closed d f bars lets true false i s = lets (record { inside = ltb-true c (length t.connections) i; state = s })
+  if_closed d f bars lets false o i s = silenced _ 2 (no_connection f i)
+  if_closed d f bars lets true true i s = silenced _ 4 (bars (record { inside = ltb-true c (length t.connections) i; state = s }))
+  if_closed d f bars lets true false i s = lets (record { inside = ltb-true c (length t.connections) i; state = s })
 
 pub outcome : (e : Event) (s : Server) → Outcome s.table e (decided e s)
 unfolding decided
-outcome (opens c) s = if-closed s.table c _ (by_open c) (opens_twice c) (opened c) _ _ refl refl
-outcome (closes c) s = if-open s.table c _ (by_close c) (closes_none c) (closed c) _ _ refl refl
-outcome (sends c b) s = if-open s.table c _ (by_packet c b) (sends_closed c b) (λ o. serves c b _ o (served-by c s.table (request_in b))) _ _ refl refl
+outcome (opens c) s = if_closed s.table c _ (by_open c) (opens_twice c) (opened c) _ _ refl refl
+outcome (closes c) s = if_open s.table c _ (by_close c) (closes_none c) (closed c) _ _ refl refl
+outcome (sends c b) s = if_open s.table c _ (by_packet c b) (sends_closed c b) (λ o. serves c b _ o (served_by c s.table (request_in b))) _ _ refl refl
 
 -- ---- what is decided where the connection stands as the event asks
 
 module _ (s : Server) (c : ℕ) where
-  pub opening-decided : Stands s.table c false → decided (opens c) s ≡ settle [] (opening c s.table)
+  pub opening_decided : Stands s.table c false → decided (opens c) s ≡ settle [] (opening c s.table)
   unfolding decided only_if_closed
-  opening-decided o = rw (lt-ltb c (length s.table.connections) o.inside, o.state)
+  opening_decided o = rw (lt-ltb c (length s.table.connections) o.inside, o.state)
 
-  pub closing-decided : Stands s.table c true → decided (closes c) s ≡ settle [] (closing c s.table)
+  pub closing_decided : Stands s.table c true → decided (closes c) s ≡ settle [] (closing c s.table)
   unfolding decided only_if_open
-  closing-decided o = rw (lt-ltb c (length s.table.connections) o.inside, o.state)
+  closing_decided o = rw (lt-ltb c (length s.table.connections) o.inside, o.state)
 
-  pub served-decided : (b : Bytes) → Stands s.table c true → decided (sends c b) s ≡ served c (request_in b) s.table
+  pub served_decided : (b : Bytes) → Stands s.table c true → decided (sends c b) s ≡ served c (request_in b) s.table
   unfolding decided only_if_open
-  served-decided b o = rw (lt-ltb c (length s.table.connections) o.inside, o.state)
+  served_decided b o = rw (lt-ltb c (length s.table.connections) o.inside, o.state)

@@ -52,23 +52,23 @@ told_each how kind t r {P} f g = all_map (to_listener how kind t r) (λ l m. con
 -- ---- the walk
 
 module _ (c : ℕ) (b : Bytes) (t : Table) where
-  change-sends : {a : Request} {ss : List Send} {u : Table} → request_in b ≡ a → Change c t a ss u → All (Sends t u.last (sends c b)) ss
+  change_sends : {a : Request} {ss : List Send} {u : Table} → request_in b ≡ a → Change c t a ss u → All (Sends t u.last (sends c b)) ss
   unfolding unable_to_all sleeping
-  change-sends q (Change.able f k r) = All.none
-  change-sends q (Change.unknown f r) = All.none
-  change-sends q (Change.disabled f k r) = All.none
-  change-sends q (Change.identified i) = All.none
-  change-sends q Change.cleared = All.none
-  change-sends q Change.slept = All.none
-  change-sends q (Change.no_job_for uniq r) = All.more (no_job_lem c b uniq q r) All.none
-  change-sends q (Change.grabbed uniq p r) = All.more (the_job c b uniq q p r) All.none
-  change-sends q (Change.joins priority background f u size p r) = All.more (handle_joined c b priority background f u size q p r) All.none
-  change-sends q (Change.accepts priority background f u size k p r₁ r₂ r₃ l) = All.more (handle_made c b priority background f u size q l refl) All.none
-  change-sends q (Change.worker how kind h n d p r) =
+  change_sends q (Change.able f k r) = All.none
+  change_sends q (Change.unknown f r) = All.none
+  change_sends q (Change.disabled f k r) = All.none
+  change_sends q (Change.identified i) = All.none
+  change_sends q Change.cleared = All.none
+  change_sends q Change.slept = All.none
+  change_sends q (Change.no_job_for uniq r) = All.more (no_job_lem c b uniq q r) All.none
+  change_sends q (Change.grabbed uniq p r) = All.more (the_job c b uniq q p r) All.none
+  change_sends q (Change.joins priority background f u size p r) = All.more (handle_joined c b priority background f u size q p r) All.none
+  change_sends q (Change.accepts priority background f u size k p r₁ r₂ r₃ l) = All.more (handle_made c b priority background f u size q l refl) All.none
+  change_sends q (Change.worker how kind h n d p r) =
       told_each how kind t (job_at t p).row (a_copy c b how kind h n d q p r) (a_failure c b how kind h n d q p r)
-  change-sends q (Change.status h o r) = All.more (a_status c b h q o r) All.none
-  change-sends q (Change.optioned name r) = All.more (an_option_lem c b name q r) All.none
-  change-sends q Change.echoed = All.more (an_echo c b q) All.none
+  change_sends q (Change.status h o r) = All.more (a_status c b h q o r) All.none
+  change_sends q (Change.optioned name r) = All.more (an_option_lem c b name q r) All.none
+  change_sends q Change.echoed = All.more (an_echo c b q) All.none
 
 settled_sends : {t : Table} (e : Event) (ss : List Send) (u : Table) → All (Sends t u.last e) ss → All (Sends t (settle ss u).table.last e) (settle ss u).packets
 unfolding settle
@@ -77,7 +77,7 @@ settled_sends {t} e ss u p = rw (settled_last ss u) (all_append p (all_map noop 
 served_sends : (c : ℕ) (b : Bytes) (t : Table) {a : Request} {d : Decision} → request_in b ≡ a → Served c t a d → All (Sends t d.table.last (sends c b)) d.packets
 unfolding refuse
 served_sends c b t q (Served.refused a n r) = cond_cases (All (Sends t t.last (sends c b))) (is_told n) (λ h. All.more (an_error c b n h) All.none) (λ h. All.none)
-served_sends c b t q (Served.done a ss u m) = settled_sends (sends c b) ss u (change-sends c b t q m)
+served_sends c b t q (Served.done a ss u m) = settled_sends (sends c b) ss u (change_sends c b t q m)
 
 outcome_sends : (t : Table) {e : Event} {d : Decision} → Outcome t e d → All (Sends t d.table.last e) d.packets
 unfolding silence

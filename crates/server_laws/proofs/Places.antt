@@ -76,35 +76,35 @@ pub data Settles (t : Table) (last p : ℕ) (j : Job) (e : Event) : Job → Type
 
 module _ {t : Table} {c : ℕ} {b : Bytes} where
   -- a packet that changes no job
-  none-becomes : {a : Request} {last : ℕ} → request_in b ≡ a → place_changed c t a ≡ none → (p : ℕ) → Becomes t last p (job_at t p) (sends c b) (job_at t p)
-  none-becomes q r p = stays (sends c b) (λ o (y : place_changed c t (request_in b) ≡ some p). let z : ◌≡◌ {A = ℕ} 0 1 = cc in omega arith)
+  none_becomes : {a : Request} {last : ℕ} → request_in b ≡ a → place_changed c t a ≡ none → (p : ℕ) → Becomes t last p (job_at t p) (sends c b) (job_at t p)
+  none_becomes q r p = stays (sends c b) (λ o (y : place_changed c t (request_in b) ≡ some p). let z : ◌≡◌ {A = ℕ} 0 1 = cc in omega arith)
 
   -- one that changes the job at place i
-  one-becomes : {a : Request} {last : ℕ} (i : ℕ) {k : Job} → request_in b ≡ a → place_changed c t a ≡ some i → i < length t.jobs → Becomes t last i (job_at t i) (sends c b) k
+  one_becomes : {a : Request} {last : ℕ} (i : ℕ) {k : Job} → request_in b ≡ a → place_changed c t a ≡ some i → i < length t.jobs → Becomes t last i (job_at t i) (sends c b) k
       → (p : ℕ) → Becomes t last p (job_at t p) (sends c b) (get_or (set t.jobs i k) p no_job)
-  one-becomes {last = last} i {k} q r l f =
+  one_becomes {last = last} i {k} q r l f =
       each_set (λ p j. Becomes t last p (job_at t p) (sends c b) j) t.jobs i k no_job l f
       (λ p n. stays (sends c b) (λ o (y : place_changed c t (request_in b) ≡ some p). n (cc)))
 
   -- the walk: what a change makes of each place, before the table is settled
   pub becomes : {a : Request} {ss : List Send} {u : Table} → Stands t c true → request_in b ≡ a → Change c t a ss u → (p : ℕ) → Becomes t u.last p (job_at t p) (sends c b) (job_at u p)
   unfolding place_changed unable_to_all sleeping
-  becomes o q (Change.able f i r) = none-becomes q refl
-  becomes o q (Change.unknown f r) = none-becomes q refl
-  becomes o q (Change.disabled f i r) = none-becomes q refl
-  becomes o q (Change.identified i) = none-becomes q refl
-  becomes o q Change.cleared = none-becomes q refl
-  becomes o q Change.slept = none-becomes q refl
-  becomes o q (Change.no_job_for uniq r) = none-becomes q r
-  becomes o q (Change.grabbed uniq i r) = one-becomes i q r (best_found t c i r).0 (taken c b uniq o q r)
-  becomes o q (Change.joins priority background f u size i r) = one-becomes i q (rw r) (joined_inside t f u i r) (joins c b priority background f u size o q r)
+  becomes o q (Change.able f i r) = none_becomes q refl
+  becomes o q (Change.unknown f r) = none_becomes q refl
+  becomes o q (Change.disabled f i r) = none_becomes q refl
+  becomes o q (Change.identified i) = none_becomes q refl
+  becomes o q Change.cleared = none_becomes q refl
+  becomes o q Change.slept = none_becomes q refl
+  becomes o q (Change.no_job_for uniq r) = none_becomes q r
+  becomes o q (Change.grabbed uniq i r) = one_becomes i q r (best_found t c i r).0 (taken c b uniq o q r)
+  becomes o q (Change.joins priority background f u size i r) = one_becomes i q (rw r) (joined_inside t f u i r) (joins c b priority background f u size o q r)
   becomes o q (Change.accepts priority background f u size k i r₁ r₂ r₃ l) =
       let (z, m) = free_place_lem t i r₃ in
-      one-becomes i q (rw (r₁, r₂, r₃, lt-ltb t.last 4294967295 l)) m (begins c b priority background f u size k o q z r₁ r₂ r₃ l refl)
-  becomes o q (Change.worker how kind h n d i r) = one-becomes i q r (found (λ j. holds_handle t.hub c h j.row) no_job t.jobs (some i) r).inside (told c b how kind h n d o q r)
-  becomes o q (Change.status h i r) = none-becomes q refl
-  becomes o q (Change.optioned name r) = none-becomes q refl
-  becomes o q Change.echoed = none-becomes q refl
+      one_becomes i q (rw (r₁, r₂, r₃, lt-ltb t.last 4294967295 l)) m (begins c b priority background f u size k o q z r₁ r₂ r₃ l refl)
+  becomes o q (Change.worker how kind h n d i r) = one_becomes i q r (found (λ j. holds_handle t.hub c h j.row) no_job t.jobs (some i) r).inside (told c b how kind h n d o q r)
+  becomes o q (Change.status h i r) = none_becomes q refl
+  becomes o q (Change.optioned name r) = none_becomes q refl
+  becomes o q Change.echoed = none_becomes q refl
 
 -- a request that is refused changes no job
 refused_none : {c : ℕ} {t : Table} {a : Request} {n : ℕ} → Refuses c t a n → place_changed c t a ≡ none
@@ -141,10 +141,10 @@ module _ {t : Table} where
   settled : {p : ℕ} {e : Event} (ss : List Send) (u : Table) → Becomes t u.last p (job_at t p) e (job_at u p) → Settles t (settle ss u).table.last p (job_at t p) e (job_at (settle ss u).table p)
   settled {p} ss u x = rw (settled_last ss u, settled_at ss u p) (cond_cases (Settles t u.last p (job_at t p) _) (lost (job_at u p).row) (is_lost x) (λ z. goes_on x))
 
-  settles-served : {c : ℕ} {b : Bytes} {a : Request} {d : Decision} → Stands t c true → request_in b ≡ a → Served c t a d → (p : ℕ) → Settles t d.table.last p (job_at t p) (sends c b) (job_at d.table p)
+  settles_served : {c : ℕ} {b : Bytes} {a : Request} {d : Decision} → Stands t c true → request_in b ≡ a → Served c t a d → (p : ℕ) → Settles t d.table.last p (job_at t p) (sends c b) (job_at d.table p)
   unfolding refuse
-  settles-served o q (Served.refused a n r) p = goes_on (none-becomes q (refused_none r) p)
-  settles-served o q (Served.done a ss u m) p = settled ss u (becomes o q m p)
+  settles_served o q (Served.refused a n r) p = goes_on (none_becomes q (refused_none r) p)
+  settles_served o q (Served.done a ss u m) p = settled ss u (becomes o q m p)
 
   pub settles : {e : Event} {d : Decision} → Outcome t e d → (p : ℕ) → Settles t d.table.last p (job_at t p) e (job_at d.table p)
   unfolding silence opening closing
@@ -153,4 +153,4 @@ module _ {t : Table} where
   settles (Outcome.closed c o) p =
       rw (settled_at [] (closing c t) p ∙ ap unless_lost (left_at c t.jobs p))
       (cond_cases (Settles t _ p (job_at t p) (closes c)) (lost (left_by c (job_at t p)).row) (λ z. goes_on (drops c o z)) (λ z. goes_on (left c o z)))
-  settles (Outcome.serves c b d o r) p = settles-served o refl r p
+  settles (Outcome.serves c b d o r) p = settles_served o refl r p

@@ -17,7 +17,7 @@ use Rattle.packet.specs.Layout.{function, unique, number, client_id, rules_of, r
 use Rattle.packet.specs.Arguments.{fits, fit_all, join}
 use Rattle.packet.specs.Packet.{Reading, refused, got, read, requests}
 use Rattle.packet.specs.Opaque.{masked}
-use Rattle.packet_laws.proofs.Packets.{Headed, header-good, Got, read-got}
+use Rattle.packet_laws.proofs.Packets.{Headed, header_good, Got, read_got}
 use Rattle.packet_laws.proofs.Splitting.{split_join}
 use Rattle.server.specs.Requests.{Work, tells, reports, ends, throws, Request, reset, pre_sleep, echo, bad, can_do, cant_do, identify, grab, submit, work, get_status, option, requested, from_reading, request_in}
 use Rattle.lists.proofs.Cases.{cond_both}
@@ -121,9 +121,9 @@ module _ (kind : ℕ) (args : List Bytes) (small : length (join args) ≤ 1024) 
   unfolding rules_of
   report e = record { numerator = fits_at_lem (rules_of WorkStatus) args 1 e (omega arith); denominator = fits_at_lem (rules_of WorkStatus) args 2 e (omega arith) }
 
-  pub good-requested : fit_all (rules_of (request_shape kind)) args ≡ true → Good (requested kind (get_or args 0 []) (get_or args 1 []) (get_or args 2 []))
+  pub good_requested : fit_all (rules_of (request_shape kind)) args ≡ true → Good (requested kind (get_or args 0 []) (get_or args 1 []) (get_or args 2 []))
   unfolding requested request_shape
-  good-requested =
+  good_requested =
       beside_at {R = Asks} (λ s e. tt)
       (line (λ e. tt) (line ability (line (λ e. tt) (line (λ e. tt) (line (λ e. tt) (line (λ e. tt) (line (λ e. tt)  -- 0 to 6
       (line submission (line (λ e. tt) (line (λ e. tt) (line (λ e. tt) (line (λ e. tt)  -- 7 to 11
@@ -139,10 +139,10 @@ module _ (kind : ℕ) (args : List Bytes) (small : length (join args) ≤ 1024) 
 pub good_reading : (s : Bytes) (r : Reading) → read requests s ≡ r → Good (from_reading r)
 good_reading s (refused n) e = tt
 good_reading s (got kind args) e =
-    let g : Got requests s kind args = read-got requests s kind args e in
+    let g : Got requests s kind args = read_got requests s kind args e in
     let j = split_join (rules_of (request_shape kind)) (drop 12 s) args g.splits in
-    let h : Headed requests.magic 1024 s = header-good requests.magic 1024 s g.headed in
-    good-requested kind args (omega (arith, ap length j.0, length-drop 12 s, h.whole, h.limited)) j.1
+    let h : Headed requests.magic 1024 s = header_good requests.magic 1024 s g.headed in
+    good_requested kind args (omega (arith, ap length j.0, length-drop 12 s, h.whole, h.limited)) j.1
 
 pub good_request : (b : Bytes) → Good (request_in b)
 unfolding request_in

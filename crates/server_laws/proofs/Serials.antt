@@ -88,8 +88,8 @@ module _ {c : ℕ} {t : Table} (o : Stands t c true) (b : Bytes) where
   serves_by : {a : Request} {d : Decision} → request_in b ≡ a → Served c t a d → Outcome t (sends c b) d
   serves_by {d = d} q r = serves c b d o (rw q r)
 
-  same-last : {a : Request} {ss : List Send} {u : Table} → request_in b ≡ a → Change c t a ss u → u.last ≡ t.last → Moves (sends c b) t (settle ss u)
-  same-last {ss = ss} {u} q m e = quiet (serves_by q (done _ ss u m)) (settled_last ss u ∙ e)
+  same_last : {a : Request} {ss : List Send} {u : Table} → request_in b ≡ a → Change c t a ss u → u.last ≡ t.last → Moves (sends c b) t (settle ss u)
+  same_last {ss = ss} {u} q m e = quiet (serves_by q (done _ ss u m)) (settled_last ss u ∙ e)
 
   made : (priority : ℕ) (background : Bool) (f u : Bytes) (size i p : ℕ) → request_in b ≡ submit priority background f u size
       → joined t f u ≡ none → room_for t.functions f ≡ some i → free_place t ≡ some p → t.last < 4294967295
@@ -116,34 +116,34 @@ module _ {c : ℕ} {t : Table} (o : Stands t c true) (b : Bytes) where
         packets = refl;
       }
 
-  change-moves : {a : Request} {ss : List Send} {u : Table} → request_in b ≡ a → Change c t a ss u → Moves (sends c b) t (settle ss u)
+  change_moves : {a : Request} {ss : List Send} {u : Table} → request_in b ≡ a → Change c t a ss u → Moves (sends c b) t (settle ss u)
   unfolding unable_to_all sleeping
-  change-moves q (able f i e) = same-last q (able f i e) refl
-  change-moves q (unknown f e) = same-last q (unknown f e) refl
-  change-moves q (disabled f i e) = same-last q (disabled f i e) refl
-  change-moves q (identified i) = same-last q (identified i) refl
-  change-moves q cleared = same-last q cleared refl
-  change-moves q slept = same-last q slept refl
-  change-moves q (no_job_for uniq e) = same-last q (no_job_for uniq e) refl
-  change-moves q (grabbed uniq p e) = same-last q (grabbed uniq p e) refl
-  change-moves q (Change.joins priority background f u size p e) = same-last q (Change.joins priority background f u size p e) refl
-  change-moves q (accepts priority background f u size i p e₁ e₂ e₃ l) = adds c (submits c b (rw q is_submit_lem)) (made priority background f u size i p q e₁ e₂ e₃ l)
-  change-moves q (worker how kind h n d p e) = same-last q (worker how kind h n d p e) refl
-  change-moves q (status h i e) = same-last q (status h i e) refl
-  change-moves q (optioned name e) = same-last q (optioned name e) refl
-  change-moves q echoed = same-last q echoed refl
+  change_moves q (able f i e) = same_last q (able f i e) refl
+  change_moves q (unknown f e) = same_last q (unknown f e) refl
+  change_moves q (disabled f i e) = same_last q (disabled f i e) refl
+  change_moves q (identified i) = same_last q (identified i) refl
+  change_moves q cleared = same_last q cleared refl
+  change_moves q slept = same_last q slept refl
+  change_moves q (no_job_for uniq e) = same_last q (no_job_for uniq e) refl
+  change_moves q (grabbed uniq p e) = same_last q (grabbed uniq p e) refl
+  change_moves q (Change.joins priority background f u size p e) = same_last q (Change.joins priority background f u size p e) refl
+  change_moves q (accepts priority background f u size i p e₁ e₂ e₃ l) = adds c (submits c b (rw q is_submit_lem)) (made priority background f u size i p q e₁ e₂ e₃ l)
+  change_moves q (worker how kind h n d p e) = same_last q (worker how kind h n d p e) refl
+  change_moves q (status h i e) = same_last q (status h i e) refl
+  change_moves q (optioned name e) = same_last q (optioned name e) refl
+  change_moves q echoed = same_last q echoed refl
 
-  served-moves : {a : Request} {d : Decision} → request_in b ≡ a → Served c t a d → Moves (sends c b) t d
+  served_moves : {a : Request} {d : Decision} → request_in b ≡ a → Served c t a d → Moves (sends c b) t d
   unfolding refuse
-  served-moves q (refused a n r) = quiet (serves_by q (refused a n r)) refl
-  served-moves q (done a ss u m) = change-moves q m
+  served_moves q (refused a n r) = quiet (serves_by q (refused a n r)) refl
+  served_moves q (done a ss u m) = change_moves q m
 
 outcome_moves : {t : Table} {e : Event} {d : Decision} → Outcome t e d → Moves e t d
 unfolding opening closing silence
 outcome_moves (silenced e n r) = quiet (silenced e n r) refl
 outcome_moves {t} (opened c o) = quiet (opened c o) (settled_last [] (opening c t))
 outcome_moves {t} (closed c o) = quiet (closed c o) (settled_last [] (closing c t))
-outcome_moves (serves c b d o r) = served-moves o b refl r
+outcome_moves (serves c b d o r) = served_moves o b refl r
 
 pub moved : (e : Event) (s : Server) → Moves e s.table (decided e s)
 moved e s = outcome_moves (outcome e s)

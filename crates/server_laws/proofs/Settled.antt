@@ -19,10 +19,10 @@ use Rattle.server.specs.Table.{Function, Job, Table, closed, no_function, connec
 use Rattle.server.specs.Events.{lost, unless_lost, dropped, wakes, awake, woken_in, woken, forgot}
 use Rattle.server.specs.Rules.{text_within, is_known, names_apart, as_defined, functions_as_defined, is_open, only_open, queued_awaited, sleeper_idle, sleepers_idle_from, sleepers_idle}
 use Rattle.lists.proofs.Cases.{cond_both, cond_cases, All2, all2_map, all2_at}
-use Rattle.lists.proofs.Rows.{clash, never, implies_by, implies_use, or_right, or_false, all_row, all_imp, all_made, all_kept, pairwise-kept, any_at, any-imp, any_where, length-mapFrom, map_from_at, all2_map_from}
-use Rattle.server_laws.proofs.Numbers.{row_at, able-at, rows_long}
+use Rattle.lists.proofs.Rows.{clash, never, implies_by, implies_use, or_right, or_false, all_row, all_imp, all_made, all_kept, pairwise_kept, any_at, any_imp, any_where, length_map_from, map_from_at, all2_map_from}
+use Rattle.server_laws.proofs.Numbers.{row_at, able_at_lem, rows_long}
 use Rattle.server_laws.proofs.Openness.{none_open, open_more, holder_more, bearers_more}
-use Rattle.server_laws.proofs.Sound.{Sound, sound_connections, sound-functions}
+use Rattle.server_laws.proofs.Sound.{Sound, sound_connections, sound_functions}
 use Rattle.server_laws.proofs.Jobs.{Goes, over, on, sound_jobs, either}
 use Rattle.server_laws.proofs.Functions.{job_known}
 use Rattle.server_laws.proofs.Going.{still_same}
@@ -66,7 +66,7 @@ unfolding woken_in
 sound_woken t h =
     let u = woken t in
     let g : All2 Woke t.connections u.connections = all2_map_from Woke (rouse t) (rouse_woke t) 0 t.connections in
-    let long = length-mapFrom (rouse t) 0 t.connections in
+    let long = length_map_from (rouse t) 0 t.connections in
     let more : (c : ℕ) → is_open t c ≡ true → is_open u c ≡ true = λ c e. (all2_at {R = Woke} g c closed closed (record { opened = refl; clear = λ q. q })).opened ∙ e in
     sound_connections t u.connections long
     (all_imp _ _ (λ y e. open_more t u long more y.able e) t.functions h.abilities)
@@ -112,17 +112,17 @@ pub sound_forgot : (t : Table) → Sound t → Sound (forgot t)
 unfolding forgot first_zero
 sound_forgot t h =
     let g : All2 Forgets t.functions (forgot t).functions = all2_map_from Forgets (forget t) (λ q x. cond_both (Forgets x) (wanted (rows_of t) q x.able) kept gone) 0 t.functions in
-    sound-functions t (forgot t).functions (length-mapFrom (forget t) 0 t.functions)
+    sound_functions t (forgot t).functions (length_map_from (forget t) 0 t.functions)
     (λ i l e. ap (λ (x : Function). x.name) (stays t (job_at t i).row.function (job_wants t i (function_at t (job_at t i).row.function) l e)))
-    (all_kept _ _ (λ x y r. forgets-all (λ (z : Function). text_within name_size z.name ≡ true) r refl) g h.names)
-    (pairwise-kept names_apart names_forgot g h.functions)
-    (all_kept _ _ (λ x y r. forgets-all (λ (z : Function). only_open t z.able ≡ true) r (none_open t)) g h.abilities)
-    (all_kept _ _ (λ x y r. forgets-all (λ (z : Function). implies (not (is_empty z.able)) (is_known z) ≡ true) r refl) g h.ables_known)
+    (all_kept _ _ (λ x y r. forgets_all (λ (z : Function). text_within name_size z.name ≡ true) r refl) g h.names)
+    (pairwise_kept names_apart names_forgot g h.functions)
+    (all_kept _ _ (λ x y r. forgets_all (λ (z : Function). only_open t z.able ≡ true) r (none_open t)) g h.abilities)
+    (all_kept _ _ (λ x y r. forgets_all (λ (z : Function). implies (not (is_empty z.able)) (is_known z) ≡ true) r refl) g h.ables_known)
     h
   where
-    forgets-all : (P : Function → Type 0) {x y : Function} → Forgets x y → P no_function → P x → P y
-    forgets-all P kept n p = p
-    forgets-all P gone n p = n
+    forgets_all : (P : Function → Type 0) {x y : Function} → Forgets x y → P no_function → P x → P y
+    forgets_all P kept n p = p
+    forgets_all P gone n p = n
 
 -- a wanted place has a name
 wanted_known : (t : Table) → Sound t → (q : ℕ) → wanted (rows_of t) q (function_at t q).able ≡ true → is_known (function_at t q) ≡ true
@@ -168,8 +168,8 @@ forgot_defined t h =
 -- forgetting makes nobody able
 forgot_able : (t : Table) (q c : ℕ) → able (ables_of (forgot t)) q c ≡ true → able (ables_of t) q c ≡ true
 forgot_able t q c e =
-    let a : has (function_at (forgot t) q).able c ≡ true = rw (able-at (forgot t) q) at e in
-    rw (able-at t q)
+    let a : has (function_at (forgot t) q).able c ≡ true = rw (able_at_lem (forgot t) q) at e in
+    rw (able_at_lem t q)
     (cond_both (λ (x : Function). has x.able c ≡ true → has (function_at t q).able c ≡ true) (wanted (rows_of t) q (function_at t q).able) (λ g. g) (λ g. clash g (zero_has c))
     (subst (λ (x : Function). has x.able c ≡ true) (forgot_at t q) a))
 
@@ -189,7 +189,7 @@ rouse_idle t c x =
     cond_cases (λ (y : Connection). sleeper_idle (forgot (woken t)) c y ≡ true) (wakes (ables_of t) (rows_of t) c x)
     (λ e. refl)
     (λ e. implies_by x.asleep _ (λ s. ap not (never _ (λ a. clash (and_both x.asleep _ s
-    (any-imp (grabbable (ables_of (forgot (woken t))) c) (grabbable (ables_of t) c) still (rows_of t) a)) e))))
+    (any_imp (grabbable (ables_of (forgot (woken t))) c) (grabbable (ables_of t) c) still (rows_of t) a)) e))))
   where
     still : (r : JobRow) → grabbable (ables_of (forgot (woken t))) c r ≡ true → grabbable (ables_of t) c r ≡ true
     still r g = and_both (queued r) _ (and_left (queued r) _ g) (forgot_able (woken t) r.function c (and_right (queued r) _ g))

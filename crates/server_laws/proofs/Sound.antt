@@ -16,7 +16,7 @@ use Rattle.lists.specs.Lists.{all, implies}
 use Rattle.server.specs.Sizes.{name_size}
 use Rattle.server.specs.Table.{Function, Job, Table, no_function, no_row, no_job, function_at, job_at, live, with_connections, with_ids, with_functions}
 use Rattle.server.specs.Rules.{next_small, serials_below, serials_distinct, text_within, names_within, texts_within, together, sizes_within, numbers_free, row_is_free, row_has_meaning, rows_have_meaning, is_known, functions_distinct, abilities_open, listeners_open, holders_open, closed_clear, uniques_distinct, ids_within, ids_open, hub_named}
-use Rattle.lists.proofs.Rows.{implies_by, implies_use, all_at, all_row, all-by, all_imp}
+use Rattle.lists.proofs.Rows.{implies_by, implies_use, all_at, all_row, all_by, all_imp}
 use Rattle.server.proofs.Rows.{free_row_lem}
 use Rattle.server_laws.proofs.Openness.{holder_more}
 
@@ -134,8 +134,8 @@ module _ (t : Table) (fs : List Function) (long : length fs ≡ length t.functio
   abbrev pub NamesStay : Type 0
   NamesStay = (i : ℕ) → i < length t.jobs → live (job_at t i).row ≡ true → (function_at (with_functions fs t) (job_at t i).row.function).name ≡ (function_at t (job_at t i).row.function).name
 
-  sizes-stay : NamesStay → Sound t → names_within (with_functions fs t) ≡ true → sizes_within (with_functions fs t) ≡ true
-  sizes-stay s h n = all-by (λ j. leb (together (with_functions fs t) j) 1022) t.jobs no_job (λ i l. go i l (live (job_at t i).row) refl)
+  sizes_stay : NamesStay → Sound t → names_within (with_functions fs t) ≡ true → sizes_within (with_functions fs t) ≡ true
+  sizes_stay s h n = all_by (λ j. leb (together (with_functions fs t) j) 1022) t.jobs no_job (λ i l. go i l (live (job_at t i).row) refl)
     where
       go : (i : ℕ) → i < length t.jobs → (b : Bool) → live (job_at t i).row ≡ b → leb (together (with_functions fs t) (job_at t i)) 1022 ≡ true
       go i l true e = rw (s i l e) (all_at (λ j. leb (together t j) 1022) t.jobs i no_job h.sizes l)
@@ -143,20 +143,20 @@ module _ (t : Table) (fs : List Function) (long : length fs ≡ length t.functio
           let m : row_is_free (job_at t i) ≡ true = rw e at (all_at (row_means t) t.jobs i no_job h.rows l) in
           subst (λ (j : Job). leb (together (with_functions fs t) j) 1022 ≡ true) (sym (free_none (job_at t i) e m)) (none_together (with_functions fs t) n)
 
-  jobs-stay : NamesStay → Sound t → jobs_named (with_functions fs t) ≡ true
-  jobs-stay s h = all-by (job_named (with_functions fs t)) t.jobs no_job (λ i l. implies_by (live (job_at t i).row) _ (λ e.
+  jobs_stay : NamesStay → Sound t → jobs_named (with_functions fs t) ≡ true
+  jobs_stay s h = all_by (job_named (with_functions fs t)) t.jobs no_job (λ i l. implies_by (live (job_at t i).row) _ (λ e.
       rw (s i l e) (implies_use (live (job_at t i).row) _ (all_at (job_named t) t.jobs i no_job h.jobs_known l) e)))
 
-  pub sound-functions : NamesStay → let u = with_functions fs t in
+  pub sound_functions : NamesStay → let u = with_functions fs t in
       names_within u ≡ true → functions_distinct u ≡ true → abilities_open u ≡ true → ables_named u ≡ true → Sound t → Sound u
-  sound-functions s n f a k h =
+  sound_functions s n f a k h =
       record {
         small = h.small;
         below = h.below;
         serials = h.serials;
         names = n;
         texts = h.texts;
-        sizes = sizes-stay s h n;
+        sizes = sizes_stay s h n;
         rows = rw long h.rows;
         functions = f;
         abilities = a;
@@ -167,6 +167,6 @@ module _ (t : Table) (fs : List Function) (long : length fs ≡ length t.functio
         ids = h.ids;
         bearers = h.bearers;
         named = h.named;
-        jobs_known = jobs-stay s h;
+        jobs_known = jobs_stay s h;
         ables_known = k;
       }

@@ -21,7 +21,7 @@ use Rattle.server.specs.Requests.{pre_sleep}
 use Rattle.server.specs.Events.{settle, lost, unless_lost, wakes, woken_in, woken, to_wake_in, to_wake, noop, closing, left_by, sleeping, served}
 use Rattle.server.specs.Rules.{sleeper_idle, obeys}
 use Rattle.lists.proofs.Cases.{cond_cases}
-use Rattle.lists.proofs.Rows.{clash, never, or_right, length-mapFrom}
+use Rattle.lists.proofs.Rows.{clash, never, or_right, length_map_from}
 use Rattle.server_laws.proofs.Places.{settled_at}
 use Rattle.server_laws.proofs.Closing.{left_at}
 use Rattle.server_laws.proofs.Settled.{rouse, woken_at, idle_by}
@@ -55,55 +55,55 @@ module _ (t : Table) (c : ℕ) (inside : c < length t.connections) (h : obeys t 
   abbrev sleeper : Connection
   sleeper = with_asleep true (connection_at t c)
 
-  at-asker : connection_at asked c ≡ sleeper
+  at_asker : connection_at asked c ≡ sleeper
   unfolding sleeping
-  at-asker = get_or-set_same t.connections c sleeper closed inside
+  at_asker = get_or-set_same t.connections c sleeper closed inside
 
   at_other : (k : ℕ) → k ≢ c → connection_at asked k ≡ connection_at t k
   unfolding sleeping
   at_other k d = get_or-set_other t.connections c k sleeper closed d
 
   -- without a grabbable job it sleeps, and nothing is sent
-  pub presleep-sleeps : has_work t c ≡ false → served c pre_sleep t ≡ done [] (sleeping true c t)
+  pub presleep_sleeps : has_work t c ≡ false → served c pre_sleep t ≡ done [] (sleeping true c t)
   unfolding served sleeping
-  presleep-sleeps e = settle_idle [] asked (obeyed t h).defined (obeyed t h).awaited (idle_by asked (λ k l. go k (rw length-set at l) (ℕ_discrete k c)))
+  presleep_sleeps e = settle_idle [] asked (obeyed t h).defined (obeyed t h).awaited (idle_by asked (λ k l. go k (rw length-set at l) (ℕ_discrete k c)))
     where
       go : (k : ℕ) → k < length t.connections → Dec (k ≡ c) → sleeper_idle t k (connection_at asked k) ≡ true
-      go k l (yes i) = rw (i, at-asker) (ap not e)
+      go k l (yes i) = rw (i, at_asker) (ap not e)
       go k l (no d) = rw (at_other k d) (idle_at t (obeyed t h).idle k l)
 
   -- with one it is sent NOOP, does not sleep, and the table stays as it was
   module _ (w : has_work t c ≡ true) where
-    was-awake : (connection_at t c).asleep ≡ false
-    was-awake = never _ (λ e. clash (and_both (connection_at t c).asleep _ e w) (sleeps_on t (obeyed t h).idle c inside))
+    was_awake : (connection_at t c).asleep ≡ false
+    was_awake = never _ (λ e. clash (and_both (connection_at t c).asleep _ e w) (sleeps_on t (obeyed t h).idle c inside))
 
-    only-asker : (k : ℕ) → k < length t.connections → Dec (k ≡ c) → wakes (ables_of t) (rows_of t) k (connection_at asked k) ≡ eqb k c
-    only-asker k l (yes i) = rw (i, at-asker) (w ∙ sym (eq-eqb c c refl))
-    only-asker k l (no d) = rw (at_other k d, ne_eqb k c d) (sleeps_on t (obeyed t h).idle k l)
+    only_asker : (k : ℕ) → k < length t.connections → Dec (k ≡ c) → wakes (ables_of t) (rows_of t) k (connection_at asked k) ≡ eqb k c
+    only_asker k l (yes i) = rw (i, at_asker) (w ∙ sym (eq-eqb c c refl))
+    only_asker k l (no d) = rw (at_other k d, ne_eqb k c d) (sleeps_on t (obeyed t h).idle k l)
 
-    wakes-asker : to_wake asked ≡ c ∷ []
+    wakes_asker : to_wake asked ≡ c ∷ []
     unfolding to_wake_in sleeping
-    wakes-asker =
-        choose_same _ (λ k. eqb k c) (length (set t.connections c sleeper)) (λ k l. only-asker k (rw length-set at l) (ℕ_discrete k c))
+    wakes_asker =
+        choose_same _ (λ k. eqb k c) (length (set t.connections c sleeper)) (λ k l. only_asker k (rw length-set at l) (ℕ_discrete k c))
         ∙ choose_one c 0 (length (set t.connections c sleeper)) (omega arith) (rw length-set (omega arith))
 
-    row-again : (k : ℕ) → k < length t.connections → Dec (k ≡ c) → rouse asked k (connection_at asked k) ≡ connection_at t k
+    row_again : (k : ℕ) → k < length t.connections → Dec (k ≡ c) → rouse asked k (connection_at asked k) ≡ connection_at t k
     unfolding sleeping
-    row-again k l (yes i) = rw (i, at-asker, w) (λ x. with_asleep (sym was-awake x) (connection_at t c))
-    row-again k l (no d) = rw (at_other k d, sleeps_on t (obeyed t h).idle k l)
+    row_again k l (yes i) = rw (i, at_asker, w) (λ x. with_asleep (sym was_awake x) (connection_at t c))
+    row_again k l (no d) = rw (at_other k d, sleeps_on t (obeyed t h).idle k l)
 
     as_before : woken asked ≡ t
     unfolding woken_in sleeping
     as_before =
         ap (λ (cs : List Connection). with_connections cs t)
-        (ext_get_or closed (woken asked).connections t.connections long (λ k l. woken_at asked k ∙ row-again k (rw long at l) (ℕ_discrete k c)))
+        (ext_get_or closed (woken asked).connections t.connections long (λ k l. woken_at asked k ∙ row_again k (rw long at l) (ℕ_discrete k c)))
       where
         long : length (woken asked).connections ≡ length t.connections
-        long = length-mapFrom (rouse asked) 0 (set t.connections c sleeper) ∙ length-set t.connections c sleeper
+        long = length_map_from (rouse asked) 0 (set t.connections c sleeper) ∙ length-set t.connections c sleeper
 
-    pub presleep-noop : served c pre_sleep t ≡ done (noop c ∷ []) t
+    pub presleep_noop : served c pre_sleep t ≡ done (noop c ∷ []) t
     unfolding served settle sleeping
-    presleep-noop = rw (drops_none asked (obeyed t h).awaited, wakes-asker, as_before, forgets_none t (obeyed t h).defined)
+    presleep_noop = rw (drops_none asked (obeyed t h).awaited, wakes_asker, as_before, forgets_none t (obeyed t h).defined)
 
 -- ---- close
 

@@ -21,11 +21,11 @@ use Rattle.server.specs.Events.{plain, assign, Decision, settle, sleeping, grab_
 use Rattle.server.specs.Rules.{queued_awaited, sleepers_idle, obeys}
 use Rattle.lists.proofs.Searches.{found}
 use Rattle.lists.proofs.Rows.{clash, implies_by, never, or_false, all_at, any_where, row_set}
-use Rattle.server_laws.proofs.Numbers.{row_at, rows_long, row-passes, row-where}
+use Rattle.server_laws.proofs.Numbers.{row_at, rows_long, row_passes, row_where}
 use Rattle.server_laws.proofs.Going.{best_found}
 use Rattle.server_laws.proofs.Obeyed.{obeyed}
 use Rattle.server_laws.proofs.Words.{has_work}
-use Rattle.server_words.proofs.Quiet.{and_off, Quiet, quiet, idle_kept, awaited, one-job-quiet}
+use Rattle.server_words.proofs.Quiet.{and_off, Quiet, quiet, idle_kept, awaited, one_job_quiet}
 
 -- ---- which job is given
 
@@ -41,18 +41,18 @@ pub record First (t : Table) (c p : ℕ) : Type 0 where
   pub first : (i : ℕ) → i < length t.jobs → grabbable (ables_of t) c (job_at t i).row ≡ true → Before (job_at t p).row (job_at t i).row
 
 module _ {A : Type 0} (f : A → ℕ) where
-  greatest-at : (l : List A) (i : ℕ) (d : A) → i < length l → f (get_or l i d) ≤ greatest (map f l)
-  greatest-at [] i d h = absurd (not-suc-le-zero h)
-  greatest-at (x ∷ l) zero d h = omega arith
-  greatest-at (x ∷ l) (suc i) d h = let r = greatest-at l i d (le_of_suc-le-suc h) in omega arith
+  greatest_at : (l : List A) (i : ℕ) (d : A) → i < length l → f (get_or l i d) ≤ greatest (map f l)
+  greatest_at [] i d h = absurd (not-suc-le-zero h)
+  greatest_at (x ∷ l) zero d h = omega arith
+  greatest_at (x ∷ l) (suc i) d h = let r = greatest_at l i d (le_of_suc-le-suc h) in omega arith
 
   -- the greatest is some entry's, or 0
-  greatest-reached : (m : ℕ) (l : List A) → any (λ x. eqb (f x) m) l ≡ false → m ≡ greatest (map f l) → m ≡ 0
-  greatest-reached m [] n e = e
-  greatest-reached m (x ∷ l) n e =
+  greatest_reached : (m : ℕ) (l : List A) → any (λ x. eqb (f x) m) l ≡ false → m ≡ greatest (map f l) → m ≡ 0
+  greatest_reached m [] n e = e
+  greatest_reached m (x ∷ l) n e =
       let (p, q) = or_false (eqb (f x) m) _ n in
       let z : f x ≡ m → ⊥ = eqb-false (f x) m p in
-      greatest-reached m l q (omega arith)
+      greatest_reached m l q (omega arith)
 
 rank_is : (ables : List ℕ) (c : ℕ) (r : JobRow) → grabbable ables c r ≡ true → rank ables c r ≡ r.priority * 4294967296 + (4294967296 - r.serial)
 unfolding rank
@@ -68,21 +68,21 @@ ordered r q a b l = go (ltb q.priority r.priority) refl
     go false e = let k : r.priority ≤ q.priority = ltb-false _ _ e in older (omega arith) (omega arith)
 
 module _ (t : Table) (c : ℕ) (h : obeys t ≡ true) where
-  serial-small : (i : ℕ) → i < length t.jobs → (job_at t i).row.serial < 4294967296
-  serial-small i l =
+  serial_small : (i : ℕ) → i < length t.jobs → (job_at t i).row.serial < 4294967296
+  serial_small i l =
       let o = (obeyed t h).sound in
       omega (arith, leb-true (job_at t i).row.serial t.last (all_at (λ j. leb j.row.serial t.last) t.jobs i no_job o.below l), ltb-true t.last 4294967296 o.small)
 
   abbrev rank_at : JobRow → ℕ
   rank_at r = rank (ables_of t) c r
 
-  best-rank : (i : ℕ) → i < length t.jobs → rank_at (job_at t i).row ≤ greatest (map rank_at (rows_of t))
-  best-rank i l = rw (row_at t i) at (greatest-at rank_at (rows_of t) i no_row (rw (rows_long t) l))
+  best_rank : (i : ℕ) → i < length t.jobs → rank_at (job_at t i).row ≤ greatest (map rank_at (rows_of t))
+  best_rank i l = rw (row_at t i) at (greatest_at rank_at (rows_of t) i no_row (rw (rows_long t) l))
 
   -- the place that a search for the greatest rank finds
-  pub best-first : (p : ℕ) → best t c ≡ some p → First t c p
+  pub best_first : (p : ℕ) → best t c ≡ some p → First t c p
   unfolding best_row
-  best-first p e =
+  best_first p e =
       let (i, g) = best_found t c p e in
       let m = greatest (map rank_at (rows_of t)) in
       let w = found (λ r. not (eqb m 0) && eqb (rank_at r) m) no_row (rows_of t) (some p) e in
@@ -91,24 +91,24 @@ module _ (t : Table) (c : ℕ) (h : obeys t ≡ true) where
         inside = i;
         can = g;
         first = λ k l q.
-            ordered (job_at t p).row (job_at t k).row (serial-small p i) (serial-small k l)
-            (omega (arith, best-rank k l, r, rank_is (ables_of t) c (job_at t p).row g, rank_is (ables_of t) c (job_at t k).row q));
+            ordered (job_at t p).row (job_at t k).row (serial_small p i) (serial_small k l)
+            (omega (arith, best_rank k l, r, rank_is (ables_of t) c (job_at t p).row g, rank_is (ables_of t) c (job_at t k).row q));
       }
 
   -- there is a job to give exactly if there is one that can be grabbed
-  best-some : (p : ℕ) → best t c ≡ some p → has_work t c ≡ true
-  best-some p e = let (i, g) = best_found t c p e in row-passes t (grabbable (ables_of t) c) p i g
+  best_some : (p : ℕ) → best t c ≡ some p → has_work t c ≡ true
+  best_some p e = let (i, g) = best_found t c p e in row_passes t (grabbable (ables_of t) c) p i g
 
   best_none : best t c ≡ none → has_work t c ≡ false
   unfolding best_row
   best_none e = never _ (λ w.
-      let (i, l, g) = row-where t (grabbable (ables_of t) c) w in
+      let (i, l, g) = row_where t (grabbable (ables_of t) c) w in
       let m = greatest (map rank_at (rows_of t)) in
-      let s = serial-small i l in
-      let big : 1 ≤ m = omega (arith, best-rank i l, rank_is (ables_of t) c (job_at t i).row g) in
+      let s = serial_small i l in
+      let big : 1 ≤ m = omega (arith, best_rank i l, rank_is (ables_of t) c (job_at t i).row g) in
       let z : m ≡ 0 → ⊥ = λ q. absurd (omega arith) in
       let n : all (λ r. not (not (eqb m 0) && eqb (rank_at r) m)) (rows_of t) ≡ true = found (λ r. not (eqb m 0) && eqb (rank_at r) m) no_row (rows_of t) none e in
-      z (greatest-reached rank_at m (rows_of t) (never _ (λ a.
+      z (greatest_reached rank_at m (rows_of t) (never _ (λ a.
       let (k, b, q) = any_where (λ r. eqb (rank_at r) m) (rows_of t) no_row a in
       clash (and_both (not (eqb m 0)) _ (ap not (ne_eqb m 0 z)) q) (not-true _ (all_at (λ r. not (not (eqb m 0) && eqb (rank_at r) m)) (rows_of t) k no_row n b)))) refl))
 
@@ -125,9 +125,9 @@ module _ (t : Table) (c : ℕ) (h : obeys t ≡ true) where
   abbrev up : Table
   up = sleeping false c t
 
-  up-idle : sleepers_idle up ≡ true
+  up_idle : sleepers_idle up ≡ true
   unfolding sleeping
-  up-idle =
+  up_idle =
       idle_kept t up
       (record {
         long = length-set t.connections c _;
@@ -136,38 +136,38 @@ module _ (t : Table) (c : ℕ) (h : obeys t ≡ true) where
       })
       (obeyed t h).idle
 
-  up-awaited : queued_awaited up ≡ true
+  up_awaited : queued_awaited up ≡ true
   unfolding sleeping
-  up-awaited = (obeyed t h).awaited
+  up_awaited = (obeyed t h).awaited
 
   abbrev taken : ℕ → Job
   taken p = with_row (with_holder (suc c) (job_at up p).row) (job_at up p)
 
   -- a job that is held is not in the queue
-  not-queued : (p : ℕ) → queued (taken p).row ≡ false
-  not-queued p = rw (eqb-suc-zero c) (and_off (live (taken p).row))
+  not_queued : (p : ℕ) → queued (taken p).row ≡ false
+  not_queued p = rw (eqb-suc-zero c) (and_off (live (taken p).row))
 
-  given-quiet : (uniq : Bool) (p : ℕ) → p < length t.jobs → Quiet (assign uniq c p ∷ []) (set_job up p (taken p)) (settle (assign uniq c p ∷ []) (set_job up p (taken p)))
+  given_quiet : (uniq : Bool) (p : ℕ) → p < length t.jobs → Quiet (assign uniq c p ∷ []) (set_job up p (taken p)) (settle (assign uniq c p ∷ []) (set_job up p (taken p)))
   unfolding sleeping
-  given-quiet uniq p i =
-      one-job-quiet up up-awaited up-idle p (taken p) i (implies_by (queued (taken p).row) _ (λ e. clash e (not-queued p)))
-      (λ fs k e. clash (and_left (queued (taken p).row) _ e) (not-queued p)) (assign uniq c p ∷ [])
+  given_quiet uniq p i =
+      one_job_quiet up up_awaited up_idle p (taken p) i (implies_by (queued (taken p).row) _ (λ e. clash e (not_queued p)))
+      (λ fs k e. clash (and_left (queued (taken p).row) _ e) (not_queued p)) (assign uniq c p ∷ [])
 
-  grab-given : (uniq : Bool) (p : ℕ) → best t c ≡ some p → Quiet (assign uniq c p ∷ []) (set_job up p (taken p)) (served c (grab uniq) t)
+  grab_given : (uniq : Bool) (p : ℕ) → best t c ≡ some p → Quiet (assign uniq c p ∷ []) (set_job up p (taken p)) (served c (grab uniq) t)
   unfolding served grab_at
-  grab-given uniq p e = rw e (given-quiet uniq p (best_found t c p e).0)
+  grab_given uniq p e = rw e (given_quiet uniq p (best_found t c p e).0)
 
-  none-quiet : (uniq : Bool) → best t c ≡ none → Quiet (plain c 10 [] ∷ []) up (served c (grab uniq) t)
+  none_quiet : (uniq : Bool) → best t c ≡ none → Quiet (plain c 10 [] ∷ []) up (served c (grab uniq) t)
   unfolding served grab_at
-  none-quiet uniq e = rw e (quiet (plain c 10 [] ∷ []) up up-awaited up-idle)
+  none_quiet uniq e = rw e (quiet (plain c 10 [] ∷ []) up up_awaited up_idle)
 
   -- "NO_JOB exactly if there is none"
-  pub grab-no-job : (uniq : Bool) → has_work t c ≡ false → (served c (grab uniq) t).packets ≡ plain c 10 [] ∷ []
-  grab-no-job uniq w = go (best t c) refl
+  pub grab_no_job : (uniq : Bool) → has_work t c ≡ false → (served c (grab uniq) t).packets ≡ plain c 10 [] ∷ []
+  grab_no_job uniq w = go (best t c) refl
     where
       go : (o : Option ℕ) → best t c ≡ o → (served c (grab uniq) t).packets ≡ plain c 10 [] ∷ []
-      go none e = (none-quiet uniq e).packets
-      go (some p) e = clash (best-some t c h p e) w
+      go none e = (none_quiet uniq e).packets
+      go (some p) e = clash (best_some t c h p e) w
 
   -- "the highest priority, then the lowest serial"
   pub grab_job : (uniq : Bool) → has_work t c ≡ true → Assigned t c uniq (served c (grab uniq) t)
@@ -176,16 +176,16 @@ module _ (t : Table) (c : ℕ) (h : obeys t ≡ true) where
     where
       go : (o : Option ℕ) → best t c ≡ o → Assigned t c uniq (served c (grab uniq) t)
       go none e = clash w (best_none t c h e)
-      go (some p) e = let q = grab-given uniq p e in record { place = p; given = best-first t c h p e; packets = q.packets; jobs = q.jobs }
+      go (some p) e = let q = grab_given uniq p e in record { place = p; given = best_first t c h p e; packets = q.packets; jobs = q.jobs }
 
   -- "Grabbing ends sleep"
-  pub grab-awake : (uniq : Bool) → c < length t.connections → (connection_at (served c (grab uniq) t).table c).asleep ≡ false
+  pub grab_awake : (uniq : Bool) → c < length t.connections → (connection_at (served c (grab uniq) t).table c).asleep ≡ false
   unfolding sleeping
-  grab-awake uniq i = go (best t c) refl
+  grab_awake uniq i = go (best t c) refl
     where
       awake : (connection_at up c).asleep ≡ false
       awake = ap (λ (x : Connection). x.asleep) (get_or-set_same t.connections c _ closed i)
 
       go : (o : Option ℕ) → best t c ≡ o → (connection_at (served c (grab uniq) t).table c).asleep ≡ false
-      go none e = ap (λ (cs : List Connection). (get_or cs c closed).asleep) (none-quiet uniq e).connections ∙ awake
-      go (some p) e = ap (λ (cs : List Connection). (get_or cs c closed).asleep) (grab-given uniq p e).connections ∙ awake
+      go none e = ap (λ (cs : List Connection). (get_or cs c closed).asleep) (none_quiet uniq e).connections ∙ awake
+      go (some p) e = ap (λ (cs : List Connection). (get_or cs c closed).asleep) (grab_given uniq p e).connections ∙ awake

@@ -16,12 +16,12 @@ use Rattle.server.specs.Requests.{sends, request_in, submit}
 use Rattle.server.specs.Events.{Decision, created, submitted_by, submit_to, served, only_if_open}
 use Rattle.server.specs.Server.{Server, opaque_of, rework, decided, next}
 use Rattle.server.specs.Rules.{obeys}
-use Rattle.lists.proofs.Cases.{All2, all2-set}
+use Rattle.lists.proofs.Cases.{All2, all2_set}
 use Rattle.lists.proofs.Searches.{found}
 use Rattle.server_laws.proofs.Outcome.{Stands}
 use Rattle.server_laws.proofs.Accepting.{Kept, submitted_keeps, submitted_awaited}
 use Rattle.server_laws.proofs.Obeyed.{obeyed}
-use Rattle.server_words.proofs.Quiet.{Quiet, awaited, one-job-quiet}
+use Rattle.server_words.proofs.Quiet.{Quiet, awaited, one_job_quiet}
 
 joined_grabbable : (c : ℕ) (background : Bool) (j : Job) (ables : List ℕ) (k : ℕ) → grabbable ables k (submitted_by c background j.row) ≡ true → grabbable ables k j.row ≡ true
 joined_grabbable c true j ables k e = e
@@ -39,25 +39,25 @@ module _ (t : Table) (c priority : ℕ) (background : Bool) (f u : Bytes) (size 
   inside = (found (joins t.functions f u) no_job t.jobs (some p) here).inside
 
   -- JOB_CREATED with the job's own handle, and nothing else
-  pub join-quiet : Quiet (created t.hub c (job_at t p).row.serial ∷ []) (set_job t p joiner) answered
+  pub join_quiet : Quiet (created t.hub c (job_at t p).row.serial ∷ []) (set_job t p joiner) answered
   unfolding served submit_to
-  join-quiet =
+  join_quiet =
       rw here
-      (one-job-quiet t (obeyed t h).awaited (obeyed t h).idle p joiner inside (submitted_awaited c background (job_at t p).row) (joined_grabbable c background (job_at t p)) (created t.hub c (job_at t p).row.serial ∷ []))
+      (one_job_quiet t (obeyed t h).awaited (obeyed t h).idle p joiner inside (submitted_awaited c background (job_at t p).row) (joined_grabbable c background (job_at t p)) (created t.hub c (job_at t p).row.serial ∷ []))
 
-  row-after : (i : ℕ) → job_at answered.table i ≡ get_or (set t.jobs p joiner) i no_job
-  row-after i = ap (λ (js : List Job). get_or js i no_job) join-quiet.jobs
+  row_after : (i : ℕ) → job_at answered.table i ≡ get_or (set t.jobs p joiner) i no_job
+  row_after i = ap (λ (js : List Job). get_or js i no_job) join_quiet.jobs
 
   -- serial, function, priority, holder and size stay, at the same place
-  pub join-keeps : Kept (job_at t p).row (job_at answered.table p).row
-  join-keeps = rw (row-after p, get_or-set_same t.jobs p joiner no_job inside) (submitted_keeps c background (job_at t p).row)
+  pub join_keeps : Kept (job_at t p).row (job_at answered.table p).row
+  join_keeps = rw (row_after p, get_or-set_same t.jobs p joiner no_job inside) (submitted_keeps c background (job_at t p).row)
 
   -- every other job stays as it is
-  pub join-others : (i : ℕ) → i ≢ p → job_at answered.table i ≡ job_at t i
-  join-others i d = row-after i ∙ get_or-set_other t.jobs p i joiner no_job d
+  pub join_others : (i : ℕ) → i ≢ p → job_at answered.table i ≡ job_at t i
+  join_others i d = row_after i ∙ get_or-set_other t.jobs p i joiner no_job d
 
-  pub join-connections : answered.table.connections ≡ t.connections
-  join-connections = join-quiet.connections
+  pub join_connections : answered.table.connections ≡ t.connections
+  join_connections = join_quiet.connections
 
 -- ---- workloads
 
@@ -73,6 +73,6 @@ unfolding next decided only_if_open
 join_workloads c b s priority background f u size p q here o h =
     let t = s.table in
     let j = with_row (submitted_by c background (job_at t p).row) (job_at t p) in
-    let z : (decided (sends c b) s).table.jobs ≡ set t.jobs p j = rw (lt-ltb c (length t.connections) o.inside, o.state, q) (join-quiet t c priority background f u size p here h).jobs in
+    let z : (decided (sends c b) s).table.jobs ≡ set t.jobs p j = rw (lt-ltb c (length t.connections) o.inside, o.state, q) (join_quiet t c priority background f u size p here h).jobs in
     ap (λ (ks : List Job). rework t.jobs ks (opaque_of (sends c b)) s.workloads) z
-    ∙ kept_workloads (all2-set (λ (j k : Job). k.row.serial ≡ j.row.serial) (λ j. refl) t.jobs p no_job j (submitted_keeps c background (job_at t p).row).serial) (opaque_of (sends c b)) s.workloads
+    ∙ kept_workloads (all2_set (λ (j k : Job). k.row.serial ≡ j.row.serial) (λ j. refl) t.jobs p no_job j (submitted_keeps c background (job_at t p).row).serial) (opaque_of (sends c b)) s.workloads

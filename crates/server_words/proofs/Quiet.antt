@@ -15,7 +15,7 @@ use Rattle.server.specs.Events.{Send, Decision, settle, forgot}
 use Rattle.lists.specs.Lists.{implies}
 use Rattle.server.specs.Rules.{queued_awaited, sleepers_idle}
 use Rattle.lists.proofs.Rows.{clash, never, implies_by, all_set, any_at, any_where}
-use Rattle.server_laws.proofs.Numbers.{row-passes, row-where}
+use Rattle.server_laws.proofs.Numbers.{row_passes, row_where}
 use Rattle.server_laws.proofs.Settled.{idle_by}
 use Rattle.server_laws.proofs.AtRest.{drops_none, sleeps_on, none_to_wake, connections_stay}
 use Rattle.server_laws.proofs.Words.{has_work}
@@ -60,8 +60,8 @@ idle_kept t u m i =
 pub work_from : (t u : Table) (k : ℕ) → length u.jobs ≡ length t.jobs
     → ((i : ℕ) → grabbable (ables_of u) k (job_at u i).row ≡ true → grabbable (ables_of t) k (job_at t i).row ≡ true) → has_work u k ≡ true → has_work t k ≡ true
 work_from t u k long f w =
-    let (i, l, g) = row-where u (grabbable (ables_of u) k) w in
-    row-passes t (grabbable (ables_of t) k) i (rw long at l) (f i g)
+    let (i, l, g) = row_where u (grabbable (ables_of u) k) w in
+    row_passes t (grabbable (ables_of t) k) i (rw long at l) (f i g)
 
 -- ---- one job anew
 
@@ -71,13 +71,13 @@ awaited r = implies (queued r) (r.background || not (is_empty r.listeners))
 
 module _ (t : Table) (w : queued_awaited t ≡ true) (s : sleepers_idle t ≡ true) (p : ℕ) (x : Job) (inside : p < length t.jobs) (a : awaited x.row ≡ true)
     (g : (ables : List ℕ) (k : ℕ) → grabbable ables k x.row ≡ true → grabbable ables k (job_at t p).row ≡ true) where
-  job-before : (k i : ℕ) → Dec (i ≡ p) → grabbable (ables_of t) k (job_at (set_job t p x) i).row ≡ true → grabbable (ables_of t) k (job_at t i).row ≡ true
-  job-before k i (yes e) q =
+  job_before : (k i : ℕ) → Dec (i ≡ p) → grabbable (ables_of t) k (job_at (set_job t p x) i).row ≡ true → grabbable (ables_of t) k (job_at t i).row ≡ true
+  job_before k i (yes e) q =
       let z : job_at (set_job t p x) i ≡ x = rw e (get_or-set_same t.jobs p x no_job inside) in
       rw e (g (ables_of t) k (rw z at q))
-  job-before k i (no d) q = let z : job_at (set_job t p x) i ≡ job_at t i = get_or-set_other t.jobs p i x no_job d in rw z at q
+  job_before k i (no d) q = let z : job_at (set_job t p x) i ≡ job_at t i = get_or-set_other t.jobs p i x no_job d in rw z at q
 
-  pub one-job-quiet : (ss : List Send) → Quiet ss (set_job t p x) (settle ss (set_job t p x))
-  one-job-quiet ss =
-      let m : NoMore t (set_job t p x) = record { long = refl; asleep = λ k e. e; grabs = λ k. work_from t (set_job t p x) k (length-set t.jobs p x) (λ i. job-before k i (ℕ_discrete i p)) } in
+  pub one_job_quiet : (ss : List Send) → Quiet ss (set_job t p x) (settle ss (set_job t p x))
+  one_job_quiet ss =
+      let m : NoMore t (set_job t p x) = record { long = refl; asleep = λ k e. e; grabs = λ k. work_from t (set_job t p x) k (length-set t.jobs p x) (λ i. job_before k i (ℕ_discrete i p)) } in
       quiet ss (set_job t p x) (all_set (λ j. awaited j.row) t.jobs p x w a) (idle_kept t (set_job t p x) m s)

@@ -26,7 +26,7 @@ use Rattle.lists.proofs.Cases.{cond_both}
 use Rattle.lists.proofs.Searches.{found}
 use Rattle.lists.proofs.Rows.{clash, iff, or_off, all_at}
 use Rattle.server_laws.proofs.Obeyed.{obeyed}
-use Rattle.server_words.proofs.Quiet.{Quiet, awaited, one-job-quiet}
+use Rattle.server_words.proofs.Quiet.{Quiet, awaited, one_job_quiet}
 
 -- ---- members of a set, in order
 
@@ -108,21 +108,21 @@ worked_grabbable ends n d j ables k e = clash e refl
 worked_grabbable throws n d j ables k e = clash e refl
 
 module _ (t : Table) (c : ℕ) (how : Work) (kind : ℕ) (job n d : Bytes) (p : ℕ) (here : held_job_of t c job ≡ some p) (h : obeys t ≡ true) where
-  work-quiet : Quiet (to_listeners how kind t (job_at t p).row) (set_job t p (worked how n d (job_at t p))) (served c (work how kind job n d) t)
+  work_quiet : Quiet (to_listeners how kind t (job_at t p).row) (set_job t p (worked how n d (job_at t p))) (served c (work how kind job n d) t)
   unfolding served work_at
-  work-quiet =
+  work_quiet =
       let o = obeyed t h in
       let i : p < length t.jobs = (found (λ j. holds_handle t.hub c job j.row) no_job t.jobs (some p) here).inside in
       rw here
-      (one-job-quiet t o.awaited o.idle p (worked how n d (job_at t p)) i
+      (one_job_quiet t o.awaited o.idle p (worked how n d (job_at t p)) i
       (worked_awaited how n d (job_at t p) (all_at (λ j. awaited j.row) t.jobs p no_job o.awaited i)) (worked_grabbable how n d (job_at t p)) (to_listeners how kind t (job_at t p).row))
 
-  pub work-told : ToldOnce t how kind p (served c (work how kind job n d) t)
+  pub work_told : ToldOnce t how kind p (served c (work how kind job n d) t)
   unfolding to_listeners
-  work-told =
+  work_told =
       record {
         listeners = listeners_of t (job_at t p).row;
-        packets = work-quiet.packets;
+        packets = work_quiet.packets;
         rising = members_rise (length t.connections) (job_at t p).row.listeners;
         exactly = members_are (length t.connections) (job_at t p).row.listeners;
       }

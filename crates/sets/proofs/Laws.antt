@@ -257,24 +257,24 @@ pub only_shift : (c : ℕ) → c < 32 → 1 * 2 ^ c % 4294967296 ≡ 2 ^ c
 only_shift c h = shl_exact {a = 1} 1 c 32 (omega arith) (omega arith) ∙ one-mul (2 ^ c)
 
 module _ (s c : ℕ) (r : Bool) (e : r ≡ has s c) where
-  pub insert-old : r ≡ true → s ≡ insert s c
-  insert-old h = sym (insert_present s c (sym e ∙ h))
+  pub insert_old : r ≡ true → s ≡ insert s c
+  insert_old h = sym (insert_present s c (sym e ∙ h))
 
-  pub insert-new : (b : ℕ) → b ≡ 2 ^ c → r ≡ false → s + b ≡ insert s c
+  pub insert_new : (b : ℕ) → b ≡ 2 ^ c → r ≡ false → s + b ≡ insert s c
   unfolding insert
-  insert-new b q h = rw (← e, h, q)
+  insert_new b q h = rw (← e, h, q)
 
   -- the sum is no larger than a set can be
-  pub insert-fits : (b : ℕ) → b ≡ 2 ^ c → r ≡ false → c < 32 → s < 2 ^ 32 → s + b < 2 ^ 32
-  insert-fits b q h l f = rw q (add_below s c 32 (no_bit s c (sym e ∙ h)) l f)
+  pub insert_fits : (b : ℕ) → b ≡ 2 ^ c → r ≡ false → c < 32 → s < 2 ^ 32 → s + b < 2 ^ 32
+  insert_fits b q h l f = rw q (add_below s c 32 (no_bit s c (sym e ∙ h)) l f)
 
-  pub remove-old : (b : ℕ) → b ≡ 2 ^ c → r ≡ true → s - b ≡ remove s c
+  pub remove_old : (b : ℕ) → b ≡ 2 ^ c → r ≡ true → s - b ≡ remove s c
   unfolding remove
-  remove-old b q h = rw (← e, h, q)
+  remove_old b q h = rw (← e, h, q)
 
   -- what is taken out is in it
-  pub remove-fits : (b : ℕ) → b ≡ 2 ^ c → r ≡ true → b ≤ s
-  remove-fits b q h = rw q (large s c (is_bit s c (sym e ∙ h)))
+  pub remove_fits : (b : ℕ) → b ≡ 2 ^ c → r ≡ true → b ≤ s
+  remove_fits b q h = rw q (large s c (is_bit s c (sym e ∙ h)))
 
-  pub remove-none : r ≡ false → s ≡ remove s c
-  remove-none h = sym (remove_absent s c (sym e ∙ h))
+  pub remove_none : r ≡ false → s ≡ remove s c
+  remove_none h = sym (remove_absent s c (sym e ∙ h))

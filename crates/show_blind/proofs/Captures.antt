@@ -19,10 +19,10 @@ use Rattle.lists.proofs.Cases.{All2}
 use Rattle.server_calls.proofs.Follows.{Running, running_next}
 use Rattle.server_calls.proofs.Histories.{running_start}
 use Rattle.server_blind.proofs.Alike.{Alike}
-use Rattle.server_blind.proofs.Blind.{table-alike}
+use Rattle.server_blind.proofs.Blind.{table_alike}
 use Rattle.capture.specs.Spoken.{spoken_to, spoken}
 use Rattle.show_line.specs.Shown.{answered_text, line_text, shown_text, text_size}
-use Rattle.show_line.proofs.Texts.{show-text}
+use Rattle.show_line.proofs.Texts.{show_text}
 use Rattle.show_blind.proofs.Words.{words_alike}
 
 -- ---- what it is to differ in opaque bytes alone
@@ -43,14 +43,14 @@ record Pair (s r : Server) : Type 0 where
   tables : s.table ≡ r.table
 
 module _ (s r : Server) (p : Pair s r) where
-  spoken-alike : {f g : Option Event} → AlikeFrames f g → (k : ℕ) → spoken_to (line_text k) f s ≡ spoken_to (line_text k) g r
-  spoken-alike nothing k = ap (λ (t : Table). line_text k none [] 16 t t) p.tables
-  spoken-alike (alike a) k = words_alike a s r p.first p.second p.tables k
+  spoken_alike : {f g : Option Event} → AlikeFrames f g → (k : ℕ) → spoken_to (line_text k) f s ≡ spoken_to (line_text k) g r
+  spoken_alike nothing k = ap (λ (t : Table). line_text k none [] 16 t t) p.tables
+  spoken_alike (alike a) k = words_alike a s r p.first p.second p.tables k
 
-  pair-after : {f g : Option Event} → AlikeFrames f g → Pair (server_after f s) (server_after g r)
-  pair-after nothing = p
-  pair-after (alike {e = e} {f = f} a) =
-      record { first = running_next connection_count e s p.first; second = running_next connection_count f r p.second; tables = table-alike a s r p.tables }
+  pair_after : {f g : Option Event} → AlikeFrames f g → Pair (server_after f s) (server_after g r)
+  pair_after nothing = p
+  pair_after (alike {e = e} {f = f} a) =
+      record { first = running_next connection_count e s p.first; second = running_next connection_count f r p.second; tables = table_alike a s r p.tables }
 
 -- ---- captures
 
@@ -58,11 +58,11 @@ captures_alike : {ls ms : List Bytes} → All2 AlikeLines ls ms → (k : ℕ) (s
 unfolding spoken
 captures_alike All2.none k s r p = refl
 captures_alike (All2.more {a = l} {b = m} a rest) k s r p =
-    ap₂ {C = Bytes} (λ (x y : Bytes). x ++ y) (spoken-alike s r p a k) (captures_alike rest (suc k) (server_after (frame l) s) (server_after (frame m) r) (pair-after s r p a))
+    ap₂ {C = Bytes} (λ (x y : Bytes). x ++ y) (spoken_alike s r p a k) (captures_alike rest (suc k) (server_after (frame l) s) (server_after (frame m) r) (pair_after s r p a))
 
 -- by the definitions
-pub show_blind : (hub : Bytes) → is_hub_name hub ≡ true → (ls ms : List Bytes) → All2 AlikeLines ls ms → answered_text ls (start connection_count hub) ≡ answered_text ms (start connection_count hub)
-show_blind hub good ls ms a =
+pub show_blind_lem : (hub : Bytes) → is_hub_name hub ≡ true → (ls ms : List Bytes) → All2 AlikeLines ls ms → answered_text ls (start connection_count hub) ≡ answered_text ms (start connection_count hub)
+show_blind_lem hub good ls ms a =
     let s = start connection_count hub in
     let h = running_start connection_count hub good in
     captures_alike a 1 s s (record { first = h; second = h; tables = refl })
@@ -80,6 +80,6 @@ pub record Lent (t w o x : Bytes) : Type 0 where
 pub shown_blind : (hub : Bytes) → is_hub_name hub ≡ true → (ls ms : List Bytes) → All2 AlikeLines ls ms → (t w o x : Bytes) → Lent t w o x → (u v p y : Bytes) → Lent u v p y
     → shown_text ls (make connection_count hub t w).table (make connection_count hub t w).workloads o x ≡ shown_text ms (make connection_count hub u v).table (make connection_count hub u v).workloads p y
 shown_blind hub good ls ms a t w o x h u v p y g =
-    show-text hub good t w h.table h.workloads ls o x h.output h.text
-    ∙ show_blind hub good ls ms a
-    ∙ sym (show-text hub good u v g.table g.workloads ms p y g.output g.text)
+    show_text hub good t w h.table h.workloads ls o x h.output h.text
+    ∙ show_blind_lem hub good ls ms a
+    ∙ sym (show_text hub good u v g.table g.workloads ms p y g.output g.text)

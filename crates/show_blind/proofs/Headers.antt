@@ -9,10 +9,10 @@ use Rattle.octets.specs.Bytes.{Bytes}
 use Rattle.packet.specs.Opaque.{hides, masked, opaque, visible, with_opaque}
 use Rattle.packet.specs.Packet.{Reading, refused, got, read, requests}
 use Rattle.packet_laws.proofs.Packets.{requests_well}
-use Rattle.packet_laws.proofs.Blindness.{read_alike, read-masked}
+use Rattle.packet_laws.proofs.Blindness.{read_alike, read_masked}
 use Rattle.server.specs.Requests.{Event}
 use Rattle.server_blind.proofs.Alike.{Alike, opening, closing, sending}
-use Rattle.show_packet.proofs.Blind.{same-header, same-packet}
+use Rattle.show_packet.proofs.Blind.{same_header, same_packet}
 use Rattle.show_parts.specs.Parts.{digits_text, frame_digits, header_in, header_seen}
 
 -- whichever opaque part is put back
@@ -30,12 +30,12 @@ unfolding header_seen
 header_alike a b v l = either (hides requests a) refl
   where
     either : (h : Bool) → hides requests a ≡ h → header_in a (read requests a) ≡ header_in b (read requests b)
-    either false e = ap header_seen (same-packet requests requests_well a b v l e)
+    either false e = ap header_seen (same_packet requests requests_well a b v l e)
     either true e =
         let m : Reading = read requests (masked requests a) in
-        ap (header_in a) (read-masked requests requests_well a)
+        ap (header_in a) (read_masked requests requests_well a)
         ∙ header_masked a (opaque requests a) m
-        ∙ header_front a b (same-header requests requests_well a b v l e) m
+        ∙ header_front a b (same_header requests requests_well a b v l e) m
         ∙ sym (ap (header_in b) (read_alike requests requests_well a b v l) ∙ header_masked b (opaque requests b) m)
 
 pub digits_alike : {e f : Event} → Alike e f → digits_text (some e) ≡ digits_text (some f)

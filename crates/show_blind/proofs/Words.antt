@@ -14,7 +14,7 @@ use Rattle.server.specs.Server.{Server, Sent, addressed, next, answer}
 use Rattle.lists.proofs.Cases.{All2}
 use Rattle.server_calls.proofs.Follows.{Running}
 use Rattle.server_blind.proofs.Alike.{Alike, opening, closing, sending}
-use Rattle.server_blind.proofs.Blind.{answer-alike, table-alike}
+use Rattle.server_blind.proofs.Blind.{answer_alike, table_alike}
 use Rattle.server_blind.proofs.OpaqueParts.{packet_of, sent_apt}
 use Rattle.server_blind.proofs.Outputs.{AlikeSent, all_alike}
 use Rattle.show_packet.specs.Lines.{response_line}
@@ -24,7 +24,7 @@ use Rattle.capture.specs.Packets.{packet_lines}
 use Rattle.capture.specs.Spoken.{spoken_to}
 use Rattle.show_parts.specs.Parts.{answer_text, event_text, heading_text, jobs_after, packet_jobs, sent_text, table_text}
 use Rattle.show_line.specs.Shown.{line_text, line_with}
-use Rattle.show_blind.proofs.Concerned.{concerned-alike}
+use Rattle.show_blind.proofs.Concerned.{concerned_alike}
 use Rattle.show_blind.proofs.Headers.{digits_alike}
 
 -- ---- what the line says
@@ -51,23 +51,23 @@ packets_alike (All2.more {a = p} {b = q} a rest) = ap₂ {C = Bytes} (λ (x y : 
 -- ---- the jobs, and the line
 
 module _ {ps qs : List Sent} (r : All2 AlikeSent ps qs) where
-  jobs-alike : (hub : Bytes) {e f : Event} → Alike e f → (n : ℕ) (u v : List JobRow) → jobs_after hub (some e) (map addressed ps) n u v ≡ jobs_after hub (some f) (map addressed qs) n u v
+  jobs_alike : (hub : Bytes) {e f : Event} → Alike e f → (n : ℕ) (u v : List JobRow) → jobs_after hub (some e) (map addressed ps) n u v ≡ jobs_after hub (some f) (map addressed qs) n u v
   unfolding jobs_after
-  jobs-alike hub opening n u v = refl
-  jobs-alike hub closing n u v = refl
-  jobs-alike hub (sending {a = a} {b = b} w l) n u v = ap (λ (s : S.Serial). packet_jobs hub s u v) (concerned-alike hub a b w l r)
+  jobs_alike hub opening n u v = refl
+  jobs_alike hub closing n u v = refl
+  jobs_alike hub (sending {a = a} {b = b} w l) n u v = ap (λ (s : S.Serial). packet_jobs hub s u v) (concerned_alike hub a b w l r)
 
-  line-alike : {e f : Event} → Alike e f → (k n : ℕ) (u t : Table) → line_text k (some e) (map addressed ps) n u t ≡ line_text k (some f) (map addressed qs) n u t
+  line_alike : {e f : Event} → Alike e f → (k n : ℕ) (u t : Table) → line_text k (some e) (map addressed ps) n u t ≡ line_text k (some f) (map addressed qs) n u t
   unfolding line_with heading_text answer_text table_text
-  line-alike a k n u t = rw (digits_alike a, event_alike a, packets_alike r, jobs-alike t.hub a n _ _)
+  line_alike a k n u t = rw (digits_alike a, event_alike a, packets_alike r, jobs_alike t.hub a n _ _)
 
 -- ---- two servers
 
 pub words_alike : {e f : Event} → Alike e f → (s r : Server) → Running connection_count s → Running connection_count r → s.table ≡ r.table → (k : ℕ)
     → spoken_to (line_text k) (some e) s ≡ spoken_to (line_text k) (some f) r
 words_alike {e} {f} a s r h g q k =
-    let b = answer-alike a s r q in
+    let b = answer_alike a s r q in
     let ps : All2 AlikeSent (answer e s).sent (answer f r).sent = all_alike b.sent (sent_apt connection_count e s h) (sent_apt connection_count f r g) in
-    line-alike ps a k (answer e s).number s.table (next e s).table
+    line_alike ps a k (answer e s).number s.table (next e s).table
     ∙ ap (λ (u : Table). line_text k (some f) (map addressed (answer f r).sent) (answer e s).number u (next e s).table) q
-    ∙ ap₂ {C = Bytes} (λ (n : ℕ) (t : Table). line_text k (some f) (map addressed (answer f r).sent) n r.table t) b.number (table-alike a s r q)
+    ∙ ap₂ {C = Bytes} (λ (n : ℕ) (t : Table). line_text k (some f) (map addressed (answer f r).sent) n r.table t) b.number (table_alike a s r q)

@@ -27,13 +27,13 @@ use Rattle.show_job.specs.Concerned.{concerned, first_sent, handle_in, job_named
 -- ---- a handle by its shape
 
 module _ (hub : Bytes) (shape : Shape) (a : Bytes) (names : Bool) (e : names ≡ names_job shape) where
-  pub handle-none : not names ≡ true → SV.None ≡ handle_in hub shape a
+  pub handle_none : not names ≡ true → SV.None ≡ handle_in hub shape a
   unfolding handle_in
-  handle-none h = rw (sym e ∙ not-true names h)
+  handle_none h = rw (sym e ∙ not-true names h)
 
-  pub handle-first : not names ≡ false → (b : Bytes) → b ≡ a → (r : S.Serial) → r ≡ serial_of hub b → r ≡ handle_in hub shape a
+  pub handle_first : not names ≡ false → (b : Bytes) → b ≡ a → (r : S.Serial) → r ≡ serial_of hub b → r ≡ handle_in hub shape a
   unfolding handle_in
-  handle-first h b q r f = rw (sym e ∙ not-false names h, ← q) f
+  handle_first h b q r f = rw (sym e ∙ not-false names h, ← q) f
 
 -- ---- the job that a packet names
 
@@ -42,10 +42,10 @@ module _ (hub : Bytes) (w : Direction) (s : Bytes) where
   unfolding job_named named_by
   named_none n e = rw (refused_answer (read w s) n (sym e))
 
-  pub named-first : (k : ℕ) (ends : Ends) → RV.Packet k ends ≡ answer_of (read w s) → (shape : Shape) → shape ≡ w.shape k
+  pub named_first : (k : ℕ) (ends : Ends) → RV.Packet k ends ≡ answer_of (read w s) → (shape : Shape) → shape ≡ w.shape k
       → handle_in hub shape (argument_at s ends 0) ≡ job_named hub w s
   unfolding job_named named_by
-  named-first k ends e shape q =
+  named_first k ends e shape q =
       let r = read_answer (read w s) k ends (sym e) in
       let a : argument_at s ends 0 ≡ get_or r.0 0 [] = ap (λ (x : Ends). argument_at s x 0) r.2 ∙ argument_read w s k r.0 r.1 0 (lit≤ tt) in
       rw (q, a) (sym (ap (named_by hub w.shape) r.1))
@@ -83,23 +83,23 @@ module _ (b : Bytes) (k : Packed b) (h : length b ≡ 0 → ⊥) where
   first : First b
   first = first_of b h k.packets k.formed k.whole
 
-  pub first-long : 13 ≤ length b
-  first-long = first.long
+  pub first_long : 13 ≤ length b
+  first_long = first.long
 
   module _ (n : ℕ) (e : n ≡ packet_length b) where
-    pub first-inside : n ≤ length b
-    first-inside = rw e first.inside
+    pub first_inside : n ≤ length b
+    first_inside = rw e first.inside
 
-    pub first-named : (hub : Bytes) (r : S.Serial) → r ≡ job_named hub responses (take (n - 1) (drop 1 b)) → r ≡ job_named hub responses (first_sent (packets_in b))
-    first-named hub r f = f ∙ rw e (ap (job_named hub responses) first.is)
+    pub first_named : (hub : Bytes) (r : S.Serial) → r ≡ job_named hub responses (take (n - 1) (drop 1 b)) → r ≡ job_named hub responses (first_sent (packets_in b))
+    first_named hub r f = f ∙ rw e (ap (job_named hub responses) first.is)
 
 -- ---- the job that is concerned
 
 module _ (hub s : Bytes) (ps : List Bytes) where
-  pub concerned-own : (n : ℕ) → SV.Of n ≡ job_named hub requests s → SV.Of n ≡ concerned hub s ps
+  pub concerned_own : (n : ℕ) → SV.Of n ≡ job_named hub requests s → SV.Of n ≡ concerned hub s ps
   unfolding concerned
-  concerned-own n e = rw (← e)
+  concerned_own n e = rw (← e)
 
-  pub concerned-sent : SV.None ≡ job_named hub requests s → (r : S.Serial) → r ≡ job_named hub responses (first_sent ps) → r ≡ concerned hub s ps
+  pub concerned_sent : SV.None ≡ job_named hub requests s → (r : S.Serial) → r ≡ job_named hub responses (first_sent ps) → r ≡ concerned hub s ps
   unfolding concerned
-  concerned-sent e r f = rw (← e) f
+  concerned_sent e r f = rw (← e) f

@@ -17,7 +17,7 @@ use Rattle.server.specs.Rules.{hub_named}
 use Rattle.server.specs.Requests.{Event}
 use Rattle.capture.specs.Packets.{Packed, packets_in}
 use Rattle.capture.proofs.Cutting.{packets_in_lem}
-use Rattle.octets.proofs.Runs.{laid_then, laid-third, room_first, room-second, room-then, room-third}
+use Rattle.octets.proofs.Runs.{laid_then, laid_third, room_first, room_second, room_then, room_third}
 use Rattle.show_parts.specs.Parts.{answer_text, heading_text, table_text}
 use Rattle.show_parts.proofs.Bounds.{heading_short}
 use Rattle.show_line.specs.Shown.{line_end, line_with, text_size}
@@ -44,30 +44,30 @@ module _ (k : ℕ) (f : Option Event) (b : Bytes) (n : ℕ) (before : List JobRo
         let l : length (line_with k f (packets_in b) n before t) ≤ text_size = rw q (line_short k f packed.packets n before t named packed.formed (omega (arith, ap length packed.whole))) in
         omega (arith, l)
 
-    pub heading-room : 0 + length heading ≤ length x
+    pub heading_room : 0 + length heading ≤ length x
     unfolding line_with
-    heading-room = room_first 0 heading (answer ++ (standing ++ line_end)) (length x) all
+    heading_room = room_first 0 heading (answer ++ (standing ++ line_end)) (length x) all
 
     module _ (p : ℕ) (o : Bytes) (e : Laid 0 heading x p o) where
-      pub packets-room : p + length b * 14 ≤ length o
-      packets-room = omega (arith, e.0, ap length e.1 ∙ length_put 0 heading x, heading_short k f)
+      pub packets_room : p + length b * 14 ≤ length o
+      packets_room = omega (arith, e.0, ap length e.1 ∙ length_put 0 heading x, heading_short k f)
 
       pub answer_room : p + length answer ≤ length o
       unfolding line_with
-      answer_room = room-second 0 heading answer (standing ++ line_end) x p o e all
+      answer_room = room_second 0 heading answer (standing ++ line_end) x p o e all
 
       module _ (q : ℕ) (u : Bytes) (g : Laid p answer o q u) where
-        rest-room : q + length (standing ++ line_end) ≤ length u
+        rest_room : q + length (standing ++ line_end) ≤ length u
         unfolding line_with
-        rest-room = room-third 0 heading answer (standing ++ line_end) x p o e q u g all
+        rest_room = room_third 0 heading answer (standing ++ line_end) x p o e q u g all
 
-        pub table-room : q + length standing ≤ length u
-        table-room = room_first q standing line_end (length u) rest-room
+        pub table_room : q + length standing ≤ length u
+        table_room = room_first q standing line_end (length u) rest_room
 
-        pub end-room : (r : ℕ) (v : Bytes) → Laid q standing u r v → r + length line_end ≤ length v
-        end-room r v h = room-then q standing line_end u r v h rest-room
+        pub end_room : (r : ℕ) (v : Bytes) → Laid q standing u r v → r + length line_end ≤ length v
+        end_room r v h = room_then q standing line_end u r v h rest_room
 
-  pub line-laid : (p : ℕ) (o : Bytes) → Laid 0 heading x p o → (q : ℕ) (u : Bytes) → Laid p answer o q u → (r : ℕ) (v : Bytes) → Laid q standing u r v → (i : ℕ) (z : Bytes) → Laid r line_end v i z
+  pub line_laid : (p : ℕ) (o : Bytes) → Laid 0 heading x p o → (q : ℕ) (u : Bytes) → Laid p answer o q u → (r : ℕ) (v : Bytes) → Laid q standing u r v → (i : ℕ) (z : Bytes) → Laid r line_end v i z
       → Laid 0 (line_with k f (packets_in b) n before t) x i z
   unfolding line_with
-  line-laid p o e q u g r v h i z l = laid-third 0 heading answer (standing ++ line_end) x p o e q u g i z (laid_then q standing line_end u r v h i z l)
+  line_laid p o e q u g r v h i z l = laid_third 0 heading answer (standing ++ line_end) x p o e q u g i z (laid_then q standing line_end u r v h i z l)

@@ -20,11 +20,11 @@ use Rattle.show_line.proofs.Bounds.{line_fits}
 
 -- of the hub of this name, in any bytes that are long enough
 module _ (hub : Bytes) (good : is_hub_name hub ≡ true) (t w : Bytes) (lt : table_size connection_count ≤ length t) (lw : workloads_size ≤ length w) where
-  pub show-text : (lines : List Bytes) (o x : Bytes) → output_size connection_count ≤ length o → text_size ≤ length x
+  pub show_text : (lines : List Bytes) (o x : Bytes) → output_size connection_count ≤ length o → text_size ≤ length x
       → shown_text lines (make connection_count hub t w).table (make connection_count hub t w).workloads o x ≡ answered_text lines (start connection_count hub)
-  show-text lines o x lo lx = text_said text_size line_text line_fits t w lt lw hub good 1 lines o x lo lx
+  show_text lines o x lo lx = text_said text_size line_text line_fits t w lt lw hub good 1 lines o x lo lx
 
   -- from text to text, with a buffer for a line that holds one digit more than a frame has
-  pub show-whole : (buffer text o x : Bytes) → longest_line < length buffer → output_size connection_count ≤ length o → text_size ≤ length x
+  pub show_whole : (buffer text o x : Bytes) → longest_line < length buffer → output_size connection_count ≤ length o → text_size ≤ length x
       → shown_text (texts_seen (run_of buffer text)) (make connection_count hub t w).table (make connection_count hub t w).workloads o x ≡ show_of hub text
-  show-whole buffer text o x lb lo lx = whole_said hub good t w lt lw text_size line_text line_fits buffer text o x lb lo lx
+  show_whole buffer text o x lb lo lx = whole_said hub good t w lt lw text_size line_text line_fits buffer text o x lb lo lx

@@ -39,17 +39,17 @@ name_word kind = words_readable 18 names [] tt tt kind
 
 -- by the tests of the code
 module _ (kind : ℕ) where
-  pub type-low : kind < 1 → type_word ++ decimal kind ≡ name_of kind
+  pub type_low : kind < 1 → type_word ++ decimal kind ≡ name_of kind
   unfolding name_of
-  type-low h = rw (lt-leb 1 kind h)
+  type_low h = rw (lt-leb 1 kind h)
 
-  pub type-high : 36 < kind → type_word ++ decimal kind ≡ name_of kind
+  pub type_high : 36 < kind → type_word ++ decimal kind ≡ name_of kind
   unfolding name_of
-  type-high h = rw (le-leb 1 kind (omega arith), lt-leb kind 36 h)
+  type_high h = rw (le-leb 1 kind (omega arith), lt-leb kind 36 h)
 
-  pub type-named : 1 ≤ kind → kind ≤ 36 → get_or names kind [] ≡ name_of kind
+  pub type_named : 1 ≤ kind → kind ≤ 36 → get_or names kind [] ≡ name_of kind
   unfolding name_of
-  type-named l h = rw (le-leb 1 kind l, le-leb kind 36 h)
+  type_named l h = rw (le-leb 1 kind l, le-leb kind 36 h)
 
 pub reason_word : (number : ℕ) → word (padded 23 (reason_of number)) ≡ reason_of number
 unfolding reason_of readable word same first_zero
@@ -94,16 +94,16 @@ row_at width (x ∷ l) (suc n) k (suc i) g h = row_at width l n k i (omega arith
 
 -- the label that stands in row i of a shape's labels
 module _ (shape : Shape) (rows : List Bytes) (i : ℕ) (e : rows ≡ label_rows shape) (h : i < 5) where
-  label-row : get_or rows i [] ≡ padded 11 (label_of shape i)
+  label_row : get_or rows i [] ≡ padded 11 (label_of shape i)
   unfolding label_of label_rows
-  label-row = rw (e, row_at 11 (labels_of shape) 5 5 i (omega arith) h)
+  label_row = rw (e, row_at 11 (labels_of shape) 5 5 i (omega arith) h)
 
-  pub label-word : word (get_or rows i []) ≡ label_of shape i
+  pub label_word : word (get_or rows i []) ≡ label_of shape i
   unfolding label_of
-  label-word = ap word label-row ∙ words_readable 11 (labels_of shape) [] none_readable (labels_pass_both shape).1 i
+  label_word = ap word label_row ∙ words_readable 11 (labels_of shape) [] none_readable (labels_pass_both shape).1 i
 
-  pub label-width : 11 ≡ length (get_or rows i [])
-  label-width = rw (label-row, length-take-le 11 (label_of shape i ++ replicate 11 0) (rw length-append (omega (arith, length-replicate {A = ℕ} 11 0))))
+  pub label_width : 11 ≡ length (get_or rows i [])
+  label_width = rw (label_row, length-take-le 11 (label_of shape i ++ replicate 11 0) (rw length-append (omega (arith, length-replicate {A = ℕ} 11 0))))
 
 -- ---- the part of a row or of a buffer that the code lays
 

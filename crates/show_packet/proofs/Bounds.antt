@@ -16,15 +16,15 @@ use Rattle.packet.specs.Opaque.{is_opaque}
 use Rattle.packet.specs.Arguments.{join}
 use Rattle.packet.specs.Packet.{Direction, Reading, refused, got, read, requests, responses}
 use Rattle.packet_laws.proofs.Splitting.{fit_length, split_join}
-use Rattle.packet_laws.proofs.Packets.{Headed, header-good, Got, read-got}
+use Rattle.packet_laws.proofs.Packets.{Headed, header_good, Got, read_got}
 use Rattle.packet_kinds.proofs.Shapes.{at_most_five}
 use Rattle.handle.specs.Handle.{decimal}
 use Rattle.handle.proofs.Decimal.{decimal_most}
 use Rattle.show_names.specs.Names.{label_of, name_of, reason_of, space}
 use Rattle.prints.specs.Pieces.{pieces}
-use Rattle.prints.proofs.Pieces.{more-long}
+use Rattle.prints.proofs.Pieces.{more_long}
 use Rattle.prints.specs.Printed.{printed_or}
-use Rattle.prints.proofs.Printed.{printed-or-short}
+use Rattle.prints.proofs.Printed.{printed_or_short}
 use Rattle.show_names.proofs.Words.{label_short, name_short, reason_short}
 use Rattle.show_packet.specs.Lines.{argument_text, argument_texts, byte_word, bytes_word, closing, from_server, label_before, packet_text, quotes, read_text, refusal_text, refused_text, request_line, response_line, saying, sized, to_server, unreadable_text, value_of}
 
@@ -44,7 +44,7 @@ value_short rule a = either (is_opaque rule)
   where
     either : (b : Bool) → length (cond b (sized (length a)) (printed_or quotes a)) ≤ length a + 16
     either true = omega (arith, size_short (length a))
-    either false = omega (arith, printed-or-short quotes a)
+    either false = omega (arith, printed_or_short quotes a)
 
 label_before_short : (shape : Shape) (i : ℕ) → length (label_before shape i) ≤ 12
 unfolding label_before
@@ -71,7 +71,7 @@ texts_short : (shape : Shape) (f : ℕ → Bytes) (n : ℕ) → length (argument
 unfolding argument_texts pieces total
 texts_short shape f zero = omega arith
 texts_short shape f (suc n) =
-    omega (arith, more-long (λ i. argument_text shape i (f i)) n, texts_short shape f n, argument_text_short shape n (f n))
+    omega (arith, more_long (λ i. argument_text shape i (f i)) n, texts_short shape f n, argument_text_short shape n (f n))
 
 total_first : (a : Bytes) (args : List Bytes) (n : ℕ) → total (λ i. get_or (a ∷ args) i []) (suc n) ≡ length a + total (λ i. get_or args i []) n
 unfolding total
@@ -109,8 +109,8 @@ module _ (w : Direction) (most : w.most ≤ 1088) (s : Bytes) where
   unfolding read_text packet_text
   read_short (refused n) e = (omega (arith, refused_short (number_at s 4) n), omega (arith, refused_short (number_at s 4) n))
   read_short (got k args) e =
-      let g : Got w s k args = read-got w s k args e in
-      let h : Headed w.magic w.most s = header-good _ _ s g.headed in
+      let g : Got w s k args = read_got w s k args e in
+      let h : Headed w.magic w.most s = header_good _ _ s g.headed in
       let j = split_join _ (drop 12 s) args g.splits in
       let l : length (join args) ≡ length s - 12 = ap length j.0 ∙ length-drop 12 s in
       let n : length args ≡ length (rules_of (w.shape k)) = fit_length _ args j.1 in
@@ -121,22 +121,22 @@ module _ (w : Direction) (most : w.most ≤ 1088) (s : Bytes) where
       omega (arith, length-append (name_of k) a, name_short k, texts_short (w.shape k) f (length (rules_of (w.shape k))), at_most_five (w.shape k), t, l, h.whole) in
       (omega (arith, m, h.limited, h.whole, most), m)
 
-  saying-short : (length (saying w s) ≤ 1251) × (length (saying w s) ≤ length s + 151)
+  saying_short : (length (saying w s) ≤ 1251) × (length (saying w s) ≤ length s + 151)
   unfolding saying
-  saying-short = read_short (read w s) refl
+  saying_short = read_short (read w s) refl
 
 -- ---- one line
 
 pub request_line_short : (c : ℕ) (s : Bytes) → length (request_line c s) ≤ 1265
 unfolding request_line
-request_line_short c s = omega (arith, length-append (decimal c) (to_server ++ saying requests s), decimal_most c, (saying-short requests (omega arith) s).0)
+request_line_short c s = omega (arith, length-append (decimal c) (to_server ++ saying requests s), decimal_most c, (saying_short requests (omega arith) s).0)
 
 module _ (c : ℕ) (s : Bytes) where
-  pub response-line-short : length (response_line c s) ≤ 1265
+  pub response_line_short : length (response_line c s) ≤ 1265
   unfolding response_line
-  response-line-short = omega (arith, length-append (decimal c) (from_server ++ saying responses s), decimal_most c, (saying-short responses (omega arith) s).0)
+  response_line_short = omega (arith, length-append (decimal c) (from_server ++ saying responses s), decimal_most c, (saying_short responses (omega arith) s).0)
 
   -- not much longer than the packet
-  pub response-line-near : length (response_line c s) ≤ length s + 165
+  pub response_line_near : length (response_line c s) ≤ length s + 165
   unfolding response_line
-  response-line-near = omega (arith, length-append (decimal c) (from_server ++ saying responses s), decimal_most c, (saying-short responses (omega arith) s).1)
+  response_line_near = omega (arith, length-append (decimal c) (from_server ++ saying responses s), decimal_most c, (saying_short responses (omega arith) s).1)

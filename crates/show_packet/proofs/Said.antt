@@ -16,7 +16,7 @@ use Rattle.packet.specs.Layout.{rules_of}
 use Rattle.packet.specs.Packet.{Direction, refused, header, read}
 use Rattle.packet.specs.Answers.{answer_of, argument_at}
 use Rattle.packet_laws.proofs.Answers.{read_answer, refused_answer}
-use Rattle.packet_laws.proofs.Packets.{Headed, header-good, read-got}
+use Rattle.packet_laws.proofs.Packets.{Headed, header_good, read_got}
 use Rattle.packet_laws.proofs.Places.{argument_read}
 use Rattle.packet_kinds.proofs.Shapes.{at_most_five}
 use Rattle.show_names.specs.Names.{name_of}
@@ -33,14 +33,14 @@ texts_same shape f g n h = same_pieces (λ i. argument_text shape i (f i)) (λ i
 
 module _ (w : Direction) (s : Bytes) where
   module _ (n : ℕ) (e : RV.Refused n ≡ answer_of (read w s)) where
-    pub said-refused : refused_text (number_at s 4) n ≡ saying w s
+    pub said_refused : refused_text (number_at s 4) n ≡ saying w s
     unfolding saying read_text
-    said-refused = rw (refused_answer (read w s) n (sym e))
+    said_refused = rw (refused_answer (read w s) n (sym e))
 
     -- a header under 12 bytes is refused by 5
-    pub refused-long : 9 ≤ n → 8 ≤ length s
+    pub refused_long : 9 ≤ n → 8 ≤ length s
     unfolding read header
-    refused-long h = by_length (ltb (length s) 12) refl
+    refused_long h = by_length (ltb (length s) 12) refl
       where
         by_length : (b : Bool) → ltb (length s) 12 ≡ b → 8 ≤ length s
         by_length true q =
@@ -49,9 +49,9 @@ module _ (w : Direction) (s : Bytes) where
         by_length false q = omega (arith, ltb-false (length s) 12 q)
 
   module _ (k : ℕ) (ends : Ends) (e : RV.Packet k ends ≡ answer_of (read w s)) where
-    pub said-packet : (shape : Shape) → shape ≡ w.shape k → packet_text k shape (argument_at s ends) ≡ saying w s
+    pub said_packet : (shape : Shape) → shape ≡ w.shape k → packet_text k shape (argument_at s ends) ≡ saying w s
     unfolding saying read_text packet_text
-    said-packet shape q =
+    said_packet shape q =
         let r = read_answer (read w s) k ends (sym e) in
         let g : (i : ℕ) → i < length (rules_of (w.shape k)) → argument_at s ends i ≡ get_or r.0 i [] =
         λ i l. ap (λ (x : Ends). argument_at s x i) r.2 ∙ argument_read w s k r.0 r.1 i (omega (arith, at_most_five (w.shape k))) in
@@ -60,8 +60,8 @@ module _ (w : Direction) (s : Bytes) where
         let u : saying w s ≡ packet_text k (w.shape k) (λ i. get_or r.0 i []) = ap (read_text w.shape (number_at s 4)) r.1 in
         rw q (t ∙ sym u)
 
-    pub packet-short : w.most ≤ 1088 → length s < 2 ^ 32
-    packet-short m =
+    pub packet_short : w.most ≤ 1088 → length s < 2 ^ 32
+    packet_short m =
         let r = read_answer (read w s) k ends (sym e) in
-        let h : Headed w.magic w.most s = header-good _ _ s (read-got w s k r.0 r.1).headed in
+        let h : Headed w.magic w.most s = header_good _ _ s (read_got w s k r.0 r.1).headed in
         omega (arith, h.limited, h.whole, m)

@@ -15,7 +15,7 @@ use Rattle.packet.specs.declared.Shape.{Shape}
 use Rattle.packet.specs.Layout.{rules_of}
 use Rattle.packet.specs.Opaque.{is_opaque}
 use Rattle.packet.specs.contracts.Rule.{the_type}
-use Rattle.packet_kinds.proofs.Tests.{bools, key-arm}
+use Rattle.packet_kinds.proofs.Tests.{bools, key_arm}
 use Rattle.handle.specs.Handle.{decimal}
 use Rattle.show_names.specs.Names.{label_of, name_of, space}
 use Rattle.prints.specs.Printed.{printed_or}
@@ -42,30 +42,30 @@ value_opaque r a e = rw e
 pub value_visible : (r : Rule) (a : Bytes) → OneOf (0 ∷ 1 ∷ 2 ∷ 3 ∷ 5 ∷ []) (number r) → printed_or quotes a ≡ value_of r a
 unfolding value_of
 value_visible r a o =
-    let q : false ≡ is_opaque r = key-arm bools (λ k. eqb k 4) (0 ∷ 1 ∷ 2 ∷ 3 ∷ 5 ∷ []) tt (number r) o ∙ opaque_number r in
+    let q : false ≡ is_opaque r = key_arm bools (λ k. eqb k 4) (0 ∷ 1 ∷ 2 ∷ 3 ∷ 5 ∷ []) tt (number r) o ∙ opaque_number r in
     rw (← q)
 
 -- ---- a label, for the only argument and for one of several
 
 module _ (shape : Shape) (i count : ℕ) (e : count ≡ length (rules_of shape)) where
-  pub label-none : count ≡ 1 → [] ≡ label_before shape i
+  pub label_none : count ≡ 1 → [] ≡ label_before shape i
   unfolding label_before
-  label-none h = rw (eq-eqb (length (rules_of shape)) 1 (sym e ∙ h))
+  label_none h = rw (eq-eqb (length (rules_of shape)) 1 (sym e ∙ h))
 
-  pub label-some : (count ≡ 1 → ⊥) → label_of shape i ++ space ≡ label_before shape i
+  pub label_some : (count ≡ 1 → ⊥) → label_of shape i ++ space ≡ label_before shape i
   unfolding label_before
-  label-some h = let n : length (rules_of shape) ≡ 1 → ⊥ = λ q. h (e ∙ q) in rw (ne_eqb (length (rules_of shape)) 1 n)
+  label_some h = let n : length (rules_of shape) ≡ 1 → ⊥ = λ q. h (e ∙ q) in rw (ne_eqb (length (rules_of shape)) 1 n)
 
 -- ---- a refusal of the header, and one of a packet whose type is known
 
 module _ (kind n : ℕ) where
-  pub refused-header : n < 9 → unreadable_text n ≡ refused_text kind n
+  pub refused_header : n < 9 → unreadable_text n ≡ refused_text kind n
   unfolding refused_text
-  refused-header h = rw (lt-ltb n 9 h)
+  refused_header h = rw (lt-ltb n 9 h)
 
-  pub refused-packet : (k : ℕ) → k ≡ kind → 9 ≤ n → name_of k ++ (space ++ unreadable_text n) ≡ refused_text kind n
+  pub refused_packet : (k : ℕ) → k ≡ kind → 9 ≤ n → name_of k ++ (space ++ unreadable_text n) ≡ refused_text kind n
   unfolding refused_text
-  refused-packet k e h = rw (e, le-ltb n 9 h)
+  refused_packet k e h = rw (e, le-ltb n 9 h)
 
 -- ---- how many bytes
 

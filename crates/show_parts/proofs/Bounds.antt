@@ -23,11 +23,11 @@ use Rattle.server.specs.Table.{Table, rows_of}
 use Rattle.server.specs.Rules.{hub_named}
 use Rattle.server.specs.Requests.{Event, opens, closes, sends}
 use Rattle.capture.specs.Packets.{Addressed, packet_lines}
-use Rattle.capture.proofs.Lines.{lines-short}
+use Rattle.capture.proofs.Lines.{lines_short}
 use Rattle.show_packet.specs.Lines.{refusal_text}
-use Rattle.show_packet.proofs.Bounds.{refusal_short, request_line_short, response-line-near}
+use Rattle.show_packet.proofs.Bounds.{refusal_short, request_line_short, response_line_near}
 use Rattle.show_table.specs.Standing.{below, gone_text, jobs_text, sleepers_text, sleepers_room, jobs_room, gone_room}
-use Rattle.show_table.proofs.Bounds.{gone-short, jobs-short, serial-text-short, sleepers_short}
+use Rattle.show_table.proofs.Bounds.{gone_short, jobs_short, serial_text_short, sleepers_short}
 use Rattle.show_job.specs.Concerned.{concerned}
 use Rattle.show_parts.specs.Parts.{answer_text, close_jobs, closes_word, digits_text, done_word, dropped_word, ended_word, event_text, frame_digits, header_in, header_seen, heading_text, jobs_after, named_text, number_text, opens_word, packet_jobs, sent_text, table_text}
 
@@ -63,7 +63,7 @@ heading_short k f = omega (arith, length-append (decimal k) (digits_text f ++ ev
 -- at most fourteen times the packet
 pub sent_short : (p : Bytes) → 13 ≤ length p → length (sent_text p) ≤ length p * 14
 unfolding sent_text
-sent_short p h = omega (arith, response-line-near (get_or p 0 0) (drop 1 p), length-drop 1 p)
+sent_short p h = omega (arith, response_line_near (get_or p 0 0) (drop 1 p), length-drop 1 p)
 
 number_short : (n : ℕ) → length (number_text n) ≤ 47
 unfolding number_text
@@ -75,33 +75,33 @@ number_short n = either (eqb n 0)
 
 pub answer_short : (ps : List Bytes) (n : ℕ) → Addressed ps → length (answer_text ps n) ≤ length (concat ps) * 14 + 47
 unfolding answer_text
-answer_short ps n a = omega (arith, length-append (packet_lines sent_text ps) (number_text n), lines-short sent_text 14 sent_short ps a, number_short n)
+answer_short ps n a = omega (arith, length-append (packet_lines sent_text ps) (number_text n), lines_short sent_text 14 sent_short ps a, number_short n)
 
 -- ---- the table, where its hub has a name
 
 module _ (hub : Bytes) (good : is_hub_name hub ≡ true) where
-  named-short : (s : S.Serial) (u v : List JobRow) → length (named_text hub s u v) ≤ jobs_room
-  named-short SV.None u v = omega arith
-  named-short (SV.Of n) u v = omega (arith, serial-text-short hub good n u v)
+  named_short : (s : S.Serial) (u v : List JobRow) → length (named_text hub s u v) ≤ jobs_room
+  named_short SV.None u v = omega arith
+  named_short (SV.Of n) u v = omega (arith, serial_text_short hub good n u v)
 
-  packet-jobs-short : (s : S.Serial) (u v : List JobRow) → length (packet_jobs hub s u v) ≤ gone_room + jobs_room
+  packet_jobs_short : (s : S.Serial) (u v : List JobRow) → length (packet_jobs hub s u v) ≤ gone_room + jobs_room
   unfolding packet_jobs
-  packet-jobs-short s u v = omega (arith, length-append (gone_text hub ended_word u v) (named_text hub s u v), gone-short hub good ended_word u v (omega arith), named-short s u v)
+  packet_jobs_short s u v = omega (arith, length-append (gone_text hub ended_word u v) (named_text hub s u v), gone_short hub good ended_word u v (omega arith), named_short s u v)
 
-  close-jobs-short : (n : ℕ) (u v : List JobRow) → length (close_jobs hub n u v) ≤ gone_room + jobs_room
+  close_jobs_short : (n : ℕ) (u v : List JobRow) → length (close_jobs hub n u v) ≤ gone_room + jobs_room
   unfolding close_jobs
-  close-jobs-short n u v = either (eqb n 0)
+  close_jobs_short n u v = either (eqb n 0)
     where
       either : (b : Bool) → length (cond b (gone_text hub dropped_word u v ++ jobs_text hub connection_count v) []) ≤ gone_room + jobs_room
-      either true = omega (arith, length-append (gone_text hub dropped_word u v) (jobs_text hub connection_count v), gone-short hub good dropped_word u v (omega arith), jobs-short hub good v)
+      either true = omega (arith, length-append (gone_text hub dropped_word u v) (jobs_text hub connection_count v), gone_short hub good dropped_word u v (omega arith), jobs_short hub good v)
       either false = omega arith
 
-  jobs-after-short : (f : Option Event) (ps : List Bytes) (n : ℕ) (u v : List JobRow) → length (jobs_after hub f ps n u v) ≤ gone_room + jobs_room
+  jobs_after_short : (f : Option Event) (ps : List Bytes) (n : ℕ) (u v : List JobRow) → length (jobs_after hub f ps n u v) ≤ gone_room + jobs_room
   unfolding jobs_after
-  jobs-after-short none ps n u v = omega arith
-  jobs-after-short (some (opens c)) ps n u v = omega arith
-  jobs-after-short (some (closes c)) ps n u v = close-jobs-short n u v
-  jobs-after-short (some (sends c b)) ps n u v = packet-jobs-short (concerned hub b ps) u v
+  jobs_after_short none ps n u v = omega arith
+  jobs_after_short (some (opens c)) ps n u v = omega arith
+  jobs_after_short (some (closes c)) ps n u v = close_jobs_short n u v
+  jobs_after_short (some (sends c b)) ps n u v = packet_jobs_short (concerned hub b ps) u v
 
 -- of a table that is none nothing is said, and its hub needs no name
 pub table_short : (f : Option Event) (ps : List Bytes) (n : ℕ) (u : List JobRow) (t : Table) → ((n ≡ 1 → ⊥) → (n ≡ 16 → ⊥) → hub_named t ≡ true)
@@ -119,5 +119,5 @@ table_short f ps n u t named = go (eqb n 1) (eqb n 16) refl refl
           arith,
           length-append (sleepers_text connection_count t.connections) (jobs_after t.hub f ps n u (rows_of t)),
           sleepers_short t.connections,
-          jobs-after-short t.hub good f ps n u (rows_of t),
+          jobs_after_short t.hub good f ps n u (rows_of t),
         )

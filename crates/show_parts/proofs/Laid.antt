@@ -34,58 +34,58 @@ use Rattle.show_parts.specs.Parts.{close_jobs, closes_word, digits_text, done_wo
 
 module _ (f : F.Frame) (b : Bytes) where
   module _ (e : f ≡ FV.Nothing) where
-    pub nothing-digits : [] ≡ digits_text (event_of f b)
+    pub nothing_digits : [] ≡ digits_text (event_of f b)
     unfolding digits_text
-    nothing-digits = rw e
+    nothing_digits = rw e
 
-    pub nothing-event : [] ≡ event_text (event_of f b)
+    pub nothing_event : [] ≡ event_text (event_of f b)
     unfolding event_text
-    nothing-event = rw e
+    nothing_event = rw e
 
-    pub nothing-jobs : (hub : Bytes) (ps : List Bytes) (n : ℕ) (u v : List JobRow) → [] ≡ jobs_after hub (event_of f b) ps n u v
+    pub nothing_jobs : (hub : Bytes) (ps : List Bytes) (n : ℕ) (u v : List JobRow) → [] ≡ jobs_after hub (event_of f b) ps n u v
     unfolding jobs_after
-    nothing-jobs hub ps n u v = rw e
+    nothing_jobs hub ps n u v = rw e
 
   module _ (c : ℕ) where
     module _ (e : f ≡ FV.Open c) where
-      pub open-digits : frame_digits 1 c [] ≡ digits_text (event_of f b)
+      pub open_digits : frame_digits 1 c [] ≡ digits_text (event_of f b)
       unfolding digits_text
-      open-digits = rw e
+      open_digits = rw e
 
-      pub open-event : below ++ (decimal c ++ opens_word) ≡ event_text (event_of f b)
+      pub open_event : below ++ (decimal c ++ opens_word) ≡ event_text (event_of f b)
       unfolding event_text
-      open-event = rw e
+      open_event = rw e
 
-      pub open-jobs : (hub : Bytes) (ps : List Bytes) (n : ℕ) (u v : List JobRow) → [] ≡ jobs_after hub (event_of f b) ps n u v
+      pub open_jobs : (hub : Bytes) (ps : List Bytes) (n : ℕ) (u v : List JobRow) → [] ≡ jobs_after hub (event_of f b) ps n u v
       unfolding jobs_after
-      open-jobs hub ps n u v = rw e
+      open_jobs hub ps n u v = rw e
 
     module _ (e : f ≡ FV.Close c) where
-      pub close-digits : frame_digits 2 c [] ≡ digits_text (event_of f b)
+      pub close_digits : frame_digits 2 c [] ≡ digits_text (event_of f b)
       unfolding digits_text
-      close-digits = rw e
+      close_digits = rw e
 
-      pub close-event : below ++ (decimal c ++ closes_word) ≡ event_text (event_of f b)
+      pub close_event : below ++ (decimal c ++ closes_word) ≡ event_text (event_of f b)
       unfolding event_text
-      close-event = rw e
+      close_event = rw e
 
-      pub close-jobs : (hub : Bytes) (ps : List Bytes) (n : ℕ) (u v : List JobRow) → close_jobs hub n u v ≡ jobs_after hub (event_of f b) ps n u v
+      pub close_jobs_lem : (hub : Bytes) (ps : List Bytes) (n : ℕ) (u v : List JobRow) → close_jobs hub n u v ≡ jobs_after hub (event_of f b) ps n u v
       unfolding jobs_after
-      close-jobs hub ps n u v = rw e
+      close_jobs_lem hub ps n u v = rw e
 
     module _ (end : ℕ) (e : f ≡ FV.Packet c end) where
-      pub packet-digits : (header : Bytes) → header ≡ header_seen (take (end - 2) (drop 2 b)) → frame_digits 3 c header ≡ digits_text (event_of f b)
+      pub packet_digits : (header : Bytes) → header ≡ header_seen (take (end - 2) (drop 2 b)) → frame_digits 3 c header ≡ digits_text (event_of f b)
       unfolding digits_text
-      packet-digits header q = rw (e, q)
+      packet_digits header q = rw (e, q)
 
-      pub packet-event : below ++ request_line c (take (end - 2) (drop 2 b)) ≡ event_text (event_of f b)
+      pub packet_event : below ++ request_line c (take (end - 2) (drop 2 b)) ≡ event_text (event_of f b)
       unfolding event_text
-      packet-event = rw e
+      packet_event = rw e
 
-      pub packet-jobs : (hub : Bytes) (s : S.Serial) (ps : List Bytes) (n : ℕ) (u v : List JobRow) → s ≡ concerned hub (take (end - 2) (drop 2 b)) ps
+      pub packet_jobs_lem : (hub : Bytes) (s : S.Serial) (ps : List Bytes) (n : ℕ) (u v : List JobRow) → s ≡ concerned hub (take (end - 2) (drop 2 b)) ps
           → packet_jobs hub s u v ≡ jobs_after hub (event_of f b) ps n u v
       unfolding jobs_after
-      packet-jobs hub s ps n u v q = rw (e, q)
+      packet_jobs_lem hub s ps n u v q = rw (e, q)
 
 -- ---- by the reading of a packet
 
@@ -109,8 +109,8 @@ module _ (hub : Bytes) (s : S.Serial) (u v : List JobRow) where
   pub no_serial_lem : s ≡ SV.None → [] ≡ named_text hub s u v
   no_serial_lem e = rw e
 
-  pub of-serial : (n : ℕ) → s ≡ SV.Of n → serial_text hub connection_count n u v ≡ named_text hub s u v
-  of-serial n e = rw e
+  pub of_serial : (n : ℕ) → s ≡ SV.Of n → serial_text hub connection_count n u v ≡ named_text hub s u v
+  of_serial n e = rw e
 
 -- ---- by the number
 
@@ -140,10 +140,10 @@ module _ (f : Option Event) (ps : List Bytes) (n : ℕ) (before : List JobRow) (
   unseen e = rw e
 
   -- the name and the values as they were read from the bytes
-  pub table-stands : (n ≡ 1 → ⊥) → (n ≡ 16 → ⊥) → (hub : Bytes) → hub ≡ t.hub → (v : V'.Values) → v ≡ values_of t
+  pub table_stands : (n ≡ 1 → ⊥) → (n ≡ 16 → ⊥) → (hub : Bytes) → hub ≡ t.hub → (v : V'.Values) → v ≡ values_of t
       → sleepers_text connection_count v.connections ++ jobs_after hub f ps n before v.rows ≡ table_text f ps n before t
   unfolding table_text values_of
-  table-stands a b hub q v e =
+  table_stands a b hub q v e =
       rw (ne_eqb n 1 a, ne_eqb n 16 b)
       (ap₂ {C = Bytes} (λ (h : Bytes) (u : V'.Values). sleepers_text connection_count u.connections ++ jobs_after h f ps n before u.rows) q e)
 

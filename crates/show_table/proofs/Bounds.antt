@@ -13,14 +13,14 @@ use Rattle.octets.specs.Bytes.{Bytes}
 use Rattle.sets.specs.Sets.{has}
 use Rattle.handle.specs.Handle.{decimal, decimal_in, handle, handle_most, is_hub_name}
 use Rattle.handle.proofs.Decimal.{decimal_most}
-use Rattle.handle.proofs.Handles.{handle-bounded}
+use Rattle.handle.proofs.Handles.{handle_bounded}
 use Rattle.server.specs.declared.Connection.{Connection}
 use Rattle.server.specs.declared.JobRow.{JobRow}
 use Rattle.server.specs.Sizes.{connection_count, job_count}
 use Rattle.server.specs.Table.{live, no_row}
 use Rattle.plan.specs.Values.{serial_row}
 use Rattle.show_names.specs.Names.{space}
-use Rattle.prints.proofs.Pieces.{pieces-short}
+use Rattle.prints.proofs.Pieces.{pieces_short}
 use Rattle.show_table.specs.Standing.{absent_text, background_word, connections_text, each, found_text, gone_one, gone_text, handle_line, high_word, holder_text, holder_word, job_text, job_word, jobs_text, listeners_word, low_word, marks_text, no_job_word, or_none, serial_text, sleepers_text, unfound_text, connections_room, sleepers_room, job_room, jobs_room, gone_one_room, gone_room}
 use Rattle.show_table.proofs.Connections.{shown, sleeps}
 use Rattle.show_table.proofs.Jobs.{gone, unfinished}
@@ -49,7 +49,7 @@ or_none_short (x ∷ s) h = h
 
 connections_short : (f : ℕ → Bool) → length (connections_text f connection_count) ≤ connections_room
 unfolding connections_text each
-connections_short f = or_none_short (each f connection_count) (pieces-short (shown f) 3 connection_count (connection_short f))
+connections_short f = or_none_short (each f connection_count) (pieces_short (shown f) 3 connection_count (connection_short f))
 
 pub sleepers_short : (cs : List Connection) → length (sleepers_text connection_count cs) ≤ sleepers_room
 unfolding sleepers_text
@@ -83,13 +83,13 @@ marks_short r =
     )
 
 module _ (hub : Bytes) (good : is_hub_name hub ≡ true) where
-  handle-line-short : (word : Bytes) (serial : ℕ) → length (handle_line hub word serial) ≤ length word + 5 + handle_most
+  handle_line_short : (word : Bytes) (serial : ℕ) → length (handle_line hub word serial) ≤ length word + 5 + handle_most
   unfolding handle_line
-  handle-line-short word serial = omega (arith, length-append word (handle hub serial), handle-bounded hub good serial)
+  handle_line_short word serial = omega (arith, length-append word (handle hub serial), handle_bounded hub good serial)
 
-  job-short : (r : JobRow) → length (job_text hub connection_count r) ≤ job_room
+  job_short : (r : JobRow) → length (job_text hub connection_count r) ≤ job_room
   unfolding job_text
-  job-short r =
+  job_short r =
       let l : Bytes = connections_text (has r.listeners) connection_count in
       let h : Bytes = holder_word ++ holder_text r.holder in
       omega (
@@ -97,51 +97,51 @@ module _ (hub : Bytes) (good : is_hub_name hub ≡ true) where
         length-append (handle_line hub job_word r.serial) (marks_text r ++ (h ++ (listeners_word ++ l))),
         length-append (marks_text r) (h ++ (listeners_word ++ l)),
         length-append h (listeners_word ++ l),
-        handle-line-short job_word r.serial,
+        handle_line_short job_word r.serial,
         marks_short r,
         holder_short r.holder,
         connections_short (has r.listeners),
       )
 
-  unfound-short : (word : Bytes) (serial : ℕ) (o : Option ℕ) → length (unfound_text hub word serial o) ≤ length word + 5 + handle_most
+  unfound_short : (word : Bytes) (serial : ℕ) (o : Option ℕ) → length (unfound_text hub word serial o) ≤ length word + 5 + handle_most
   unfolding unfound_text
-  unfound-short word serial (some p) = omega arith
-  unfound-short word serial none = handle-line-short word serial
+  unfound_short word serial (some p) = omega arith
+  unfound_short word serial none = handle_line_short word serial
 
-  absent-short : (word : Bytes) (serial : ℕ) (rs : List JobRow) → length (absent_text hub word serial rs) ≤ length word + 5 + handle_most
+  absent_short : (word : Bytes) (serial : ℕ) (rs : List JobRow) → length (absent_text hub word serial rs) ≤ length word + 5 + handle_most
   unfolding absent_text
-  absent-short word serial rs = unfound-short word serial (serial_row serial rs)
+  absent_short word serial rs = unfound_short word serial (serial_row serial rs)
 
-  found-short : (serial : ℕ) (before after : List JobRow) (o : Option ℕ) → length (found_text hub connection_count serial before after o) ≤ job_room
+  found_short : (serial : ℕ) (before after : List JobRow) (o : Option ℕ) → length (found_text hub connection_count serial before after o) ≤ job_room
   unfolding found_text
-  found-short serial before after (some p) = job-short (get_or after p no_row)
-  found-short serial before after none = omega (arith, absent-short no_job_word serial before)
+  found_short serial before after (some p) = job_short (get_or after p no_row)
+  found_short serial before after none = omega (arith, absent_short no_job_word serial before)
 
-  pub serial-text-short : (serial : ℕ) (before after : List JobRow) → length (serial_text hub connection_count serial before after) ≤ job_room
+  pub serial_text_short : (serial : ℕ) (before after : List JobRow) → length (serial_text hub connection_count serial before after) ≤ job_room
   unfolding serial_text
-  serial-text-short serial before after = found-short serial before after (serial_row serial after)
+  serial_text_short serial before after = found_short serial before after (serial_row serial after)
 
-  row-short : (r : JobRow) → length (cond (live r) (job_text hub connection_count r) []) ≤ job_room
-  row-short r = either (live r)
+  row_short : (r : JobRow) → length (cond (live r) (job_text hub connection_count r) []) ≤ job_room
+  row_short r = either (live r)
     where
       either : (b : Bool) → length (cond b (job_text hub connection_count r) []) ≤ job_room
-      either true = job-short r
+      either true = job_short r
       either false = omega arith
 
-  pub jobs-short : (rs : List JobRow) → length (jobs_text hub connection_count rs) ≤ jobs_room
+  pub jobs_short : (rs : List JobRow) → length (jobs_text hub connection_count rs) ≤ jobs_room
   unfolding jobs_text
-  jobs-short rs = pieces-short (unfinished hub rs) job_room job_count (λ p h. row-short (get_or rs p no_row))
+  jobs_short rs = pieces_short (unfinished hub rs) job_room job_count (λ p h. row_short (get_or rs p no_row))
 
   -- ---- jobs that are gone
 
-  gone-one-short : (word : Bytes) (after : List JobRow) (r : JobRow) → length word ≤ 8 → length (gone_one hub word after r) ≤ gone_one_room
+  gone_one_short : (word : Bytes) (after : List JobRow) (r : JobRow) → length word ≤ 8 → length (gone_one hub word after r) ≤ gone_one_room
   unfolding gone_one
-  gone-one-short word after r h = either (live r)
+  gone_one_short word after r h = either (live r)
     where
       either : (b : Bool) → length (cond b (absent_text hub word r.serial after) []) ≤ gone_one_room
-      either true = omega (arith, absent-short word r.serial after)
+      either true = omega (arith, absent_short word r.serial after)
       either false = omega arith
 
-  pub gone-short : (word : Bytes) (before after : List JobRow) → length word ≤ 8 → length (gone_text hub word before after) ≤ gone_room
+  pub gone_short : (word : Bytes) (before after : List JobRow) → length word ≤ 8 → length (gone_text hub word before after) ≤ gone_room
   unfolding gone_text
-  gone-short word before after h = pieces-short (gone hub word before after) gone_one_room job_count (λ p l. gone-one-short word after (get_or before p no_row) h)
+  gone_short word before after h = pieces_short (gone hub word before after) gone_one_room job_count (λ p l. gone_one_short word after (get_or before p no_row) h)

@@ -13,7 +13,7 @@ use Rattle.handle.specs.Handle.{decimal}
 use Rattle.server.specs.declared.Connection.{Connection}
 use Rattle.server.specs.Table.{closed}
 use Rattle.show_names.specs.Names.{space}
-use Rattle.octets.proofs.Runs.{laid_as, laid-third, room_as, room-second, room-third}
+use Rattle.octets.proofs.Runs.{laid_as, laid_third, room_as, room_second, room_third}
 use Rattle.show_table.specs.Standing.{connections_text, each, none_word, or_none}
 
 -- connection c sleeps
@@ -26,11 +26,11 @@ shown f c = cond (f c) (space ++ decimal c) []
 
 -- a run that is laid only if a test holds
 module _ (b : Bool) (x : Bytes) where
-  pub if-so : b ≡ true → x ≡ cond b x []
-  if-so e = rw e
+  pub if_so : b ≡ true → x ≡ cond b x []
+  if_so e = rw e
 
-  pub if-not : b ≡ false → [] ≡ cond b x []
-  if-not e = rw e
+  pub if_not : b ≡ false → [] ≡ cond b x []
+  if_not e = rw e
 
 -- the list that began at `at` has its end there exactly if nothing is in it
 none_after : (s : Bytes) (at place : ℕ) → place ≡ at + length s → s ++ cond (eqb place at) none_word [] ≡ or_none s
@@ -46,16 +46,16 @@ module _ (at : ℕ) (w : Bytes) (f : ℕ → Bool) (b : Bytes) (p : ℕ) (o : By
   whole q h = ap (λ (l : Bytes). w ++ l) (none_after (each f 16) p q h)
 
   module _ (room : at + length (w ++ connections_text f 16) ≤ length b) where
-    pub list-room : p + length (each f 16) ≤ length o
-    list-room =
+    pub list_room : p + length (each f 16) ≤ length o
+    list_room =
         let q : ℕ = p + length (each f 16) in
-        room-second at w (each f 16) (cond (eqb q p) none_word []) b p o e (room_as _ _ (whole q refl) at (length b) room)
+        room_second at w (each f 16) (cond (eqb q p) none_word []) b p o e (room_as _ _ (whole q refl) at (length b) room)
 
-    pub none-room : (q : ℕ) (u : Bytes) → (q ≡ p + length (each f 16)) × (u ≡ put p (each f 16) o) → q + length (cond (eqb q p) none_word []) ≤ length u
-    none-room q u g = room-third at w (each f 16) (cond (eqb q p) none_word []) b p o e q u g (room_as _ _ (whole q g.0) at (length b) room)
+    pub none_room : (q : ℕ) (u : Bytes) → (q ≡ p + length (each f 16)) × (u ≡ put p (each f 16) o) → q + length (cond (eqb q p) none_word []) ≤ length u
+    none_room q u g = room_third at w (each f 16) (cond (eqb q p) none_word []) b p o e q u g (room_as _ _ (whole q g.0) at (length b) room)
 
-  pub list-laid : (q : ℕ) (u : Bytes) → (q ≡ p + length (each f 16)) × (u ≡ put p (each f 16) o) → (r : ℕ) (v : Bytes)
+  pub list_laid : (q : ℕ) (u : Bytes) → (q ≡ p + length (each f 16)) × (u ≡ put p (each f 16) o) → (r : ℕ) (v : Bytes)
       → (r ≡ q + length (cond (eqb q p) none_word [])) × (v ≡ put q (cond (eqb q p) none_word []) u)
       → (r ≡ at + length (w ++ connections_text f 16)) × (v ≡ put at (w ++ connections_text f 16) b)
-  list-laid q u g r v k =
-      laid_as _ _ (whole q g.0) at r v b (laid-third at w (each f 16) (cond (eqb q p) none_word []) b p o e q u g r v k)
+  list_laid q u g r v k =
+      laid_as _ _ (whole q g.0) at r v b (laid_third at w (each f 16) (cond (eqb q p) none_word []) b p o e q u g r v k)

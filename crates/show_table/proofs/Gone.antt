@@ -57,6 +57,6 @@ module _ (hub word : Bytes) (rs : List JobRow) where
       go true e = finds (get_or rs p no_row).serial p (inside p e) (rw (e, eq-eqb _ _ refl))
       go false e = refl
 
-  pub kept-unnamed : gone_text hub word rs rs ≡ []
+  pub kept_unnamed : gone_text hub word rs rs ≡ []
   unfolding gone_text
-  kept-unnamed = nothing_laid (gone hub word rs rs) job_count stays
+  kept_unnamed = nothing_laid (gone hub word rs rs) job_count stays

@@ -39,18 +39,18 @@ holder_some (suc c) n = let e : suc c - 1 ≡ c = omega arith in rw e
 -- ---- the job of a serial, from the answer of the search
 
 module _ (hub : Bytes) (n serial : ℕ) (before after : List JobRow) where
-  pub serial-found : (p : ℕ) (r : JobRow) → At p ≡ placed (serial_row serial after) → r ≡ get_or after p no_row → job_text hub n r ≡ serial_text hub n serial before after
+  pub serial_found : (p : ℕ) (r : JobRow) → At p ≡ placed (serial_row serial after) → r ≡ get_or after p no_row → job_text hub n r ≡ serial_text hub n serial before after
   unfolding serial_text found_text
-  serial-found p r e q = ap (job_text hub n) q ∙ ap (found_text hub n serial before after) (searched (serial_row serial after) (At p) e)
+  serial_found p r e q = ap (job_text hub n) q ∙ ap (found_text hub n serial before after) (searched (serial_row serial after) (At p) e)
 
-  pub serial-unfound : Nowhere ≡ placed (serial_row serial after) → absent_text hub no_job_word serial before ≡ serial_text hub n serial before after
+  pub serial_unfound : Nowhere ≡ placed (serial_row serial after) → absent_text hub no_job_word serial before ≡ serial_text hub n serial before after
   unfolding serial_text found_text
-  serial-unfound e = ap (found_text hub n serial before after) (searched (serial_row serial after) Nowhere e)
+  serial_unfound e = ap (found_text hub n serial before after) (searched (serial_row serial after) Nowhere e)
 
 module _ (hub word : Bytes) (serial : ℕ) (rs : List JobRow) where
-  pub not-absent : (p : ℕ) → At p ≡ placed (serial_row serial rs) → [] ≡ absent_text hub word serial rs
+  pub not_absent : (p : ℕ) → At p ≡ placed (serial_row serial rs) → [] ≡ absent_text hub word serial rs
   unfolding absent_text unfound_text
-  not-absent p e = ap (unfound_text hub word serial) (searched (serial_row serial rs) (At p) e)
+  not_absent p e = ap (unfound_text hub word serial) (searched (serial_row serial rs) (At p) e)
 
   pub absent : Nowhere ≡ placed (serial_row serial rs) → handle_line hub word serial ≡ absent_text hub word serial rs
   unfolding absent_text unfound_text

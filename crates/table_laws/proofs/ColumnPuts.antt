@@ -11,7 +11,7 @@ use Rattle.octets.specs.Bytes.{Bytes}
 use Rattle.octets.specs.Put.{put}
 use Rattle.octets.proofs.Laying.{put_next, put_upon}
 use Rattle.server.specs.Layout.{column}
-use Rattle.table_laws.proofs.Columns.{length-column}
+use Rattle.table_laws.proofs.Columns.{length_column}
 
 -- ---- a run laid over one of its own length, in the middle of a longer run
 
@@ -24,24 +24,24 @@ put_middle p s r q b at l e =
 
 module _ {A : Type 0} (f : A → Bytes) (w : ℕ) (wide : (x : A) → length (f x) ≡ w) where
   -- a column with one row changed, inside a longer run
-  pub column-put : (xs : List A) (i : ℕ) (y : A) (p q b : Bytes) (at : ℕ) → i < length xs → length p ≡ at
+  pub column_put : (xs : List A) (i : ℕ) (y : A) (p q b : Bytes) (at : ℕ) → i < length xs → length p ≡ at
       → put (at + w * i) (f y) (put 0 (p ++ (column f xs ++ q)) b) ≡ put 0 (p ++ (column f (set xs i y) ++ q)) b
-  column-put [] i y p q b at h l = absurd (omega arith)
-  column-put (x ∷ xs) zero y p q b at h l =
+  column_put [] i y p q b at h l = absurd (omega arith)
+  column_put (x ∷ xs) zero y p q b at h l =
       let z : at + w * 0 ≡ at = ap (λ (m : ℕ). at + m) (mul-zero w) ∙ add-zero at in
       ap₂ (λ (m : ℕ) (c : Bytes). put m (f y) (put 0 (p ++ c) b)) z (append_assoc (f x) (column f xs) q)
       ∙ put_middle p (f y) (f x) (column f xs ++ q) b at l (wide y ∙ sym (wide x))
       ∙ ap (λ (c : Bytes). put 0 (p ++ c) b) (sym (append_assoc (f y) (column f xs) q))
-  column-put (x ∷ xs) (suc i) y p q b at h l =
+  column_put (x ∷ xs) (suc i) y p q b at h l =
       let z : at + w * suc i ≡ at + w + w * i = ap (λ (m : ℕ). at + m) (mul-suc w i) ∙ omega arith in
       let m : length (p ++ f x) ≡ at + w = length-append p (f x) ∙ ap₂ ◌+◌ l (wide x) in
       let shift : (c : Bytes) → p ++ ((f x ++ c) ++ q) ≡ (p ++ f x) ++ (c ++ q) = λ c. simp append_assoc in
       ap₂ (λ (k : ℕ) (c : Bytes). put k (f y) (put 0 c b)) z (shift (column f xs))
-      ∙ column-put xs i y (p ++ f x) q b (at + w) (le_of_suc-le-suc h) m
+      ∙ column_put xs i y (p ++ f x) q b (at + w) (le_of_suc-le-suc h) m
       ∙ ap (λ (c : Bytes). put 0 c b) (sym (shift (column f (set xs i y))))
 
-  length-changed : (xs : List A) (i : ℕ) (y : A) → length (column f (set xs i y)) ≡ length (column f xs)
-  length-changed xs i y = length-column f w wide (set xs i y) ∙ ap (λ (n : ℕ). w * n) (length-set xs i y) ∙ sym (length-column f w wide xs)
+  length_changed : (xs : List A) (i : ℕ) (y : A) → length (column f (set xs i y)) ≡ length (column f xs)
+  length_changed xs i y = length_column f w wide (set xs i y) ∙ ap (λ (n : ℕ). w * n) (length-set xs i y) ∙ sym (length_column f w wide xs)
 
 -- a column that does not see the change
 pub column_same : {A : Type 0} (f : A → Bytes) (l : List A) (i : ℕ) (y d : A) → f y ≡ f (get_or l i d) → column f (set l i y) ≡ column f l
@@ -67,7 +67,7 @@ segment_put : {A : Type 0} (f : A → Bytes) (w : ℕ) (wide : (x : A) → lengt
 segment_put f w wide [] k xs i y p b at h e g l = absurd (not-suc-le-zero h)
 segment_put f w wide (x ∷ segs) zero xs i y p b at h e g l =
     ap (λ (c : Bytes). put (at + w * i) (f y) (put 0 (p ++ (c ++ laid segs)) b)) e
-    ∙ column-put f w wide xs i y p (laid segs) b at g (sym (add-zero (length p)) ∙ l)
+    ∙ column_put f w wide xs i y p (laid segs) b at g (sym (add-zero (length p)) ∙ l)
 segment_put f w wide (x ∷ segs) (suc k) xs i y p b at h e g l =
     ap (λ (c : Bytes). put (at + w * i) (f y) (put 0 c b)) (sym (append_assoc p x (laid segs)))
     ∙ segment_put f w wide segs k xs i y (p ++ x) b at (le_of_suc-le-suc h) e g (omega (arith, length-append p x))
@@ -86,7 +86,7 @@ pub next : {A : Type 0} {b : Bytes} {ws : List ℕ} {x : Bytes} {segs : List Byt
 next {A} {b} {ws} {x} {segs} o f w wide k at xs i y e h l g =
     record {
       is = ap (put (at + w * i) (f y)) o.is ∙ segment_put f w wide segs k xs i y [] b at h e g (zero-add _ ∙ ap (λ (l : List ℕ). before l k) o.widths ∙ l);
-      widths = map-set_same length segs k (column f (set xs i y)) [] (length-changed f w wide xs i y ∙ ap length (sym e)) ∙ o.widths;
+      widths = map-set_same length segs k (column f (set xs i y)) [] (length_changed f w wide xs i y ∙ ap length (sym e)) ∙ o.widths;
     }
 
 -- the same for a column of single bytes

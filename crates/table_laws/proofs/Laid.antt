@@ -10,7 +10,7 @@ use Rattle.server.specs.Sizes.{function_count, job_count, name_size, unique_size
 use Rattle.server.specs.Table.{Table}
 use Rattle.server.specs.Layout.{little, flag_byte, column, row_bytes, bytes_of, table_size, set_size, last_at, able_at, serials_at, listeners_at, names_at, uniques_at, numerators_at, denominators_at, hub_at, opened_at, asleep_at, exceptions_at, ids_at}
 use Rattle.table_laws.proofs.Fields.{Lies, lies_left, length_little}
-use Rattle.table_laws.proofs.Columns.{numbers-long, flags_long, texts-long}
+use Rattle.table_laws.proofs.Columns.{numbers_long, flags_long, texts_long}
 use Rattle.table_laws.proofs.RowColumns.{rows_size, rows_long, next_lies}
 
 -- ---- the columns
@@ -48,25 +48,25 @@ ids t = column (λ x. fit id_size x) t.ids
 -- ---- how long a table is
 
 module _ (t : Table) (fs : length t.functions ≡ function_count) (js : length t.jobs ≡ job_count) (is : length t.ids ≡ length t.connections) where
-  pub length-bytes : length (bytes_of t) ≡ table_size (length t.connections)
+  pub length_bytes : length (bytes_of t) ≡ table_size (length t.connections)
   unfolding bytes_of
-  length-bytes =
+  length_bytes =
       let n = length t.connections in
       simp (
         length-append,
         length_little 4 t.last,
         rows_long t.jobs js,
-        texts-long name_size (λ x. x.name) t.functions function_count fs,
-        texts-long unique_size (λ j. j.unique) t.jobs job_count js,
-        texts-long number_size (λ j. j.numerator) t.jobs job_count js,
-        texts-long number_size (λ j. j.denominator) t.jobs job_count js,
+        texts_long name_size (λ x. x.name) t.functions function_count fs,
+        texts_long unique_size (λ j. j.unique) t.jobs job_count js,
+        texts_long number_size (λ j. j.numerator) t.jobs job_count js,
+        texts_long number_size (λ j. j.denominator) t.jobs job_count js,
         length_fit hub_size t.hub,
-        numbers-long (set_size n) (λ x. x.able) t.functions function_count fs,
-        numbers-long (set_size n) (λ j. j.row.listeners) t.jobs job_count js,
+        numbers_long (set_size n) (λ x. x.able) t.functions function_count fs,
+        numbers_long (set_size n) (λ j. j.row.listeners) t.jobs job_count js,
         flags_long (λ x. x.opened) t.connections n refl,
         flags_long (λ x. x.asleep) t.connections n refl,
         flags_long (λ x. x.exceptions) t.connections n refl,
-        texts-long id_size (λ x. x) t.ids n is,
+        texts_long id_size (λ x. x) t.ids n is,
       )
       (omega arith)
 
@@ -93,13 +93,13 @@ laid t b fs js l0 =
     let n = length t.connections in
     let l1 = next_lies (little 4 t.last) 4 serials_at l0 (length_little 4 t.last) refl in
     let l2 = next_lies (row_bytes t.jobs) rows_size names_at l1 (rows_long t.jobs js) refl in
-    let l3 = next_lies (names t) (name_size * function_count) uniques_at l2 (texts-long name_size (λ x. x.name) t.functions function_count fs) refl in
-    let l4 = next_lies (uniques t) (unique_size * job_count) numerators_at l3 (texts-long unique_size (λ j. j.unique) t.jobs job_count js) refl in
-    let l5 = next_lies (numerators t) (number_size * job_count) denominators_at l4 (texts-long number_size (λ j. j.numerator) t.jobs job_count js) refl in
-    let l6 = next_lies (denominators t) (number_size * job_count) hub_at l5 (texts-long number_size (λ j. j.denominator) t.jobs job_count js) refl in
+    let l3 = next_lies (names t) (name_size * function_count) uniques_at l2 (texts_long name_size (λ x. x.name) t.functions function_count fs) refl in
+    let l4 = next_lies (uniques t) (unique_size * job_count) numerators_at l3 (texts_long unique_size (λ j. j.unique) t.jobs job_count js) refl in
+    let l5 = next_lies (numerators t) (number_size * job_count) denominators_at l4 (texts_long number_size (λ j. j.numerator) t.jobs job_count js) refl in
+    let l6 = next_lies (denominators t) (number_size * job_count) hub_at l5 (texts_long number_size (λ j. j.denominator) t.jobs job_count js) refl in
     let l7 = next_lies (fit hub_size t.hub) hub_size able_at l6 (length_fit hub_size t.hub) refl in
-    let l8 = next_lies (ables t) (set_size n * function_count) (listeners_at n) l7 (numbers-long (set_size n) (λ x. x.able) t.functions function_count fs) refl in
-    let l9 = next_lies (listeners t) (set_size n * job_count) (opened_at n) l8 (numbers-long (set_size n) (λ j. j.row.listeners) t.jobs job_count js) refl in
+    let l8 = next_lies (ables t) (set_size n * function_count) (listeners_at n) l7 (numbers_long (set_size n) (λ x. x.able) t.functions function_count fs) refl in
+    let l9 = next_lies (listeners t) (set_size n * job_count) (opened_at n) l8 (numbers_long (set_size n) (λ j. j.row.listeners) t.jobs job_count js) refl in
     let l10 = next_lies (openeds t) n (asleep_at n) l9 (flags_long (λ x. x.opened) t.connections n refl) refl in
     let l11 = next_lies (asleeps t) n (exceptions_at n) l10 (flags_long (λ x. x.asleep) t.connections n refl) refl in
     let l12 = next_lies (exceptionses t) n (ids_at n) l11 (flags_long (λ x. x.exceptions) t.connections n refl) refl in

@@ -12,7 +12,7 @@ use lib.Pow.{pow_mono, pow-add}
 use Rattle.octets.specs.Bytes.{Bytes, same, first_zero, zero_free, within, every}
 use Rattle.octets.proofs.Strings.{and_left, and_right, same_is}
 use Rattle.packet.specs.Arguments.{digits}
-use Rattle.handle.proofs.Hubs.{hub-most, hub_zero_free}
+use Rattle.handle.proofs.Hubs.{hub_most_lem, hub_zero_free}
 use Rattle.lists.specs.Lists.{all, implies}
 use Rattle.server.specs.Sizes.{function_count, job_count, name_size, unique_size, id_size}
 use Rattle.server.specs.Table.{Job, Table, no_function, no_job, id_at, function_at, job_at, live}
@@ -77,10 +77,10 @@ record PlaceFits (j : Job) : Type 0 where
   pub denominator : TextFits 10 j.denominator
 
 module _ (t : Table) (fs : length t.functions ≡ function_count) (cs : length t.connections ≤ 256) where
-  place-fits : (j : Job) (b : Bool) → live j.row ≡ b
+  place_fits : (j : Job) (b : Bool) → live j.row ≡ b
       → implies b (text_within unique_size j.unique && (stored_number j.numerator && stored_number j.denominator)) ≡ true
       → cond b (row_has_meaning t j) (row_is_free j) ≡ true → PlaceFits j
-  place-fits j true l x m =
+  place_fits j true l x m =
       let x2 = and_right (text_within unique_size j.unique) _ x in
       record {
         range = range_fits (length t.functions) (length t.connections) (omega arith) cs j.row m;
@@ -88,7 +88,7 @@ module _ (t : Table) (fs : length t.functions ≡ function_count) (cs : length t
         numerator = number_fits j.numerator (and_left (stored_number j.numerator) (stored_number j.denominator) x2);
         denominator = number_fits j.denominator (and_right (stored_number j.numerator) (stored_number j.denominator) x2);
       }
-  place-fits j false l x m =
+  place_fits j false l x m =
       let texts = and_right (numbers_free j.row) _ m in
       let numbers = and_right (same j.unique []) _ texts in
       record {
@@ -135,7 +135,7 @@ obeys_fitting t fs js is cs e =
       thirty_two = js;
       one_each = is;
       last = small;
-      hub = record { within = omega (arith, hub-most t.hub hub); clean = hub_zero_free t.hub hub };
+      hub = record { within = omega (arith, hub_most_lem t.hub hub); clean = hub_zero_free t.hub hub };
       ids = λ c h. text_fits id_size (id_at t c) (all_at (text_within id_size) t.ids c [] ids (rw is h));
       functions = λ q h.
           let i : q < length t.functions = rw fs h in
@@ -146,7 +146,7 @@ obeys_fitting t fs js is cs e =
       jobs = λ p h.
           let i : p < length t.jobs = rw js h in
           let j = job_at t p in
-          let r = place-fits t fs cs j (live j.row) refl
+          let r = place_fits t fs cs j (live j.row) refl
           (all_at (λ j. implies (live j.row) (text_within unique_size j.unique && (stored_number j.numerator && stored_number j.denominator))) t.jobs p no_job texts i)
           (all_at (λ j. cond (live j.row) (row_has_meaning t j) (row_is_free j)) t.jobs p no_job rows i) in
           let s : j.row.serial ≤ t.last = leb-true _ _ (all_at (λ j. leb j.row.serial t.last) t.jobs p no_job below i) in

@@ -17,7 +17,7 @@ use Rattle.server.specs.Table.{Function, Job, Table, closed, no_job, no_function
 use Rattle.server.specs.Layout.{little, flag_byte, column, row_bytes, bytes_of, set_size, able_at, listeners_at, names_at, uniques_at, numerators_at, denominators_at, hub_at, opened_at, asleep_at, exceptions_at, ids_at}
 use Rattle.lists.proofs.Lists.{length_fit}
 use Rattle.table_laws.proofs.Fields.{length_little}
-use Rattle.table_laws.proofs.Columns.{numbers-long, flags_long, texts-long}
+use Rattle.table_laws.proofs.Columns.{numbers_long, flags_long, texts_long}
 use Rattle.table_laws.specs.Rows.{row_laid}
 use Rattle.table_laws.proofs.RowColumns.{rows_size, rows_long, rows_same, next_row}
 use Rattle.table_laws.proofs.ColumnPuts.{column_same, laid, Over, next, next1, put_middle}
@@ -73,17 +73,17 @@ module _ (t : Table) (z : Sized t) where
       rw (
         length_little 4 t.last,
         rows_long t.jobs z.jobs,
-        texts-long name_size (λ x. x.name) t.functions function_count z.functions,
-        texts-long unique_size (λ j. j.unique) t.jobs job_count z.jobs,
-        texts-long number_size (λ j. j.numerator) t.jobs job_count z.jobs,
-        texts-long number_size (λ j. j.denominator) t.jobs job_count z.jobs,
+        texts_long name_size (λ x. x.name) t.functions function_count z.functions,
+        texts_long unique_size (λ j. j.unique) t.jobs job_count z.jobs,
+        texts_long number_size (λ j. j.numerator) t.jobs job_count z.jobs,
+        texts_long number_size (λ j. j.denominator) t.jobs job_count z.jobs,
         length_fit hub_size t.hub,
-        numbers-long (set_size n) (λ x. x.able) t.functions function_count z.functions,
-        numbers-long (set_size n) (λ j. j.row.listeners) t.jobs job_count z.jobs,
+        numbers_long (set_size n) (λ x. x.able) t.functions function_count z.functions,
+        numbers_long (set_size n) (λ j. j.row.listeners) t.jobs job_count z.jobs,
         flags_long (λ x. x.opened) t.connections n refl,
         flags_long (λ x. x.asleep) t.connections n refl,
         flags_long (λ x. x.exceptions) t.connections n refl,
-        texts-long id_size (λ x. x) t.ids m refl,
+        texts_long id_size (λ x. x) t.ids m refl,
       )
 
   start : (b : Bytes) → Over b (widths_for n m) (put 0 (bytes_of t) b) (segments t)
@@ -106,23 +106,23 @@ module _ (t : Table) (z : Sized t) where
     abbrev pub text_puts : Job → Bytes → Bytes
     text_puts j x = put (denominators_at + number_size * p) (fit number_size j.denominator) (put (numerators_at + number_size * p) (fit number_size j.numerator) (put (uniques_at + unique_size * p) (fit unique_size j.unique) x))
 
-    row-over : (j : Job) → Over b (widths_for n m) (row_puts j.row (put 0 (bytes_of t) b)) (segments_of n t.last (set t.jobs p j) t.jobs t.jobs t.functions t.functions t.connections t.ids t.hub)
-    row-over j =
+    row_over : (j : Job) → Over b (widths_for n m) (row_puts j.row (put 0 (bytes_of t) b)) (segments_of n t.last (set t.jobs p j) t.jobs t.jobs t.functions t.functions t.connections t.ids t.hub)
+    row_over j =
         let o1 = next (start b) (λ (j : Job). little (set_size n) j.row.listeners) (set_size n) (λ j. length_little (set_size n) j.row.listeners) 8 (listeners_at n) t.jobs p j refl (omega arith) (omega arith) inside in
         next_row t.jobs z.jobs p h j (length_little 4 t.last) o1
 
-    pub put-job : (j : Job) → text_puts j (row_puts j.row (put 0 (bytes_of t) b)) ≡ put 0 (bytes_of (set_job t p j)) b
-    put-job j =
-        let o0 = row-over j in
+    pub put_job : (j : Job) → text_puts j (row_puts j.row (put 0 (bytes_of t) b)) ≡ put 0 (bytes_of (set_job t p j)) b
+    put_job j =
+        let o0 = row_over j in
         let o1 = next o0 (λ (j : Job). fit unique_size j.unique) unique_size (λ j. length_fit unique_size j.unique) 3 uniques_at t.jobs p j refl (omega arith) refl inside in
         let o2 = next o1 (λ (j : Job). fit number_size j.numerator) number_size (λ j. length_fit number_size j.numerator) 4 numerators_at t.jobs p j refl (omega arith) refl inside in
         finish b _ (set_job t p j) (next o2 (λ (j : Job). fit number_size j.denominator) number_size (λ j. length_fit number_size j.denominator) 5 denominators_at t.jobs p j refl (omega arith) refl inside)
 
     -- a job that keeps its texts
-    pub put-row : (r : JobRow) → row_puts r (put 0 (bytes_of t) b) ≡ put 0 (bytes_of (set_job t p (with_row r (job_at t p)))) b
-    put-row r =
+    pub put_row_lem : (r : JobRow) → row_puts r (put 0 (bytes_of t) b) ≡ put 0 (bytes_of (set_job t p (with_row r (job_at t p)))) b
+    put_row_lem r =
         let y : Job = with_row r (job_at t p) in
-        (row-over y).is
+        (row_over y).is
         ∙ ap (λ (s : Bytes). put 0 s b)
         (sym (bytes_laid (set_job t p y)
         ∙ rw (
@@ -132,9 +132,9 @@ module _ (t : Table) (z : Sized t) where
         )))
 
     -- a job that keeps its row
-    texts-over : (j : Job) → j.row ≡ (job_at t p).row → (us : List Job) → column (λ j. fit unique_size j.unique) us ≡ column (λ j. fit unique_size j.unique) (set t.jobs p j)
+    texts_over : (j : Job) → j.row ≡ (job_at t p).row → (us : List Job) → column (λ j. fit unique_size j.unique) us ≡ column (λ j. fit unique_size j.unique) (set t.jobs p j)
         → laid (segments_of n t.last t.jobs us (set t.jobs p j) t.functions t.functions t.connections t.ids t.hub) ≡ bytes_of (set_job t p j)
-    texts-over j e us u =
+    texts_over j e us u =
         sym (bytes_laid (set_job t p j)
         ∙ rw (
           rows_same t.jobs p j e,
@@ -142,45 +142,45 @@ module _ (t : Table) (z : Sized t) where
           u,
         ))
 
-    pub put-texts : (j : Job) → j.row ≡ (job_at t p).row → text_puts j (put 0 (bytes_of t) b) ≡ put 0 (bytes_of (set_job t p j)) b
-    put-texts j e =
+    pub put_texts : (j : Job) → j.row ≡ (job_at t p).row → text_puts j (put 0 (bytes_of t) b) ≡ put 0 (bytes_of (set_job t p j)) b
+    put_texts j e =
         let o1 = next (start b) (λ (j : Job). fit unique_size j.unique) unique_size (λ j. length_fit unique_size j.unique) 3 uniques_at t.jobs p j refl (omega arith) refl inside in
         let o2 = next o1 (λ (j : Job). fit number_size j.numerator) number_size (λ j. length_fit number_size j.numerator) 4 numerators_at t.jobs p j refl (omega arith) refl inside in
         let o3 = next o2 (λ (j : Job). fit number_size j.denominator) number_size (λ j. length_fit number_size j.denominator) 5 denominators_at t.jobs p j refl (omega arith) refl inside in
-        o3.is ∙ ap (λ (s : Bytes). put 0 s b) (texts-over j e (set t.jobs p j) refl)
+        o3.is ∙ ap (λ (s : Bytes). put 0 s b) (texts_over j e (set t.jobs p j) refl)
 
     -- a job that keeps its unique too
-    pub put-numbers : (n d : Bytes) → put (denominators_at + number_size * p) (fit number_size d) (put (numerators_at + number_size * p) (fit number_size n) (put 0 (bytes_of t) b)) ≡ put 0 (bytes_of (set_job t p (with_texts n d (job_at t p)))) b
-    put-numbers n d =
+    pub put_numbers : (n d : Bytes) → put (denominators_at + number_size * p) (fit number_size d) (put (numerators_at + number_size * p) (fit number_size n) (put 0 (bytes_of t) b)) ≡ put 0 (bytes_of (set_job t p (with_texts n d (job_at t p)))) b
+    put_numbers n d =
         let j : Job = with_texts n d (job_at t p) in
         let o1 = next (start b) (λ (j : Job). fit number_size j.numerator) number_size (λ j. length_fit number_size j.numerator) 4 numerators_at t.jobs p j refl (omega arith) refl inside in
         let o2 = next o1 (λ (j : Job). fit number_size j.denominator) number_size (λ j. length_fit number_size j.denominator) 5 denominators_at t.jobs p j refl (omega arith) refl inside in
-        o2.is ∙ ap (λ (s : Bytes). put 0 s b) (texts-over j refl t.jobs (sym (column_same (λ (j : Job). fit unique_size j.unique) t.jobs p j no_job refl)))
+        o2.is ∙ ap (λ (s : Bytes). put 0 s b) (texts_over j refl t.jobs (sym (column_same (λ (j : Job). fit unique_size j.unique) t.jobs p j no_job refl)))
 
   -- ---- one function
 
   module _ (b : Bytes) (q : ℕ) (h : q < function_count) where
-    inside-functions : q < length t.functions
-    inside-functions = rw z.functions h
+    inside_functions : q < length t.functions
+    inside_functions = rw z.functions h
 
     pub put_function : (x : Function) → put (names_at + name_size * q) (fit name_size x.name) (put (able_at + set_size n * q) (little (set_size n) x.able) (put 0 (bytes_of t) b)) ≡ put 0 (bytes_of (set_function t q x)) b
     put_function x =
-        let o1 = next (start b) (λ (x : Function). little (set_size n) x.able) (set_size n) (λ x. length_little (set_size n) x.able) 7 able_at t.functions q x refl (omega arith) refl inside-functions in
-        finish b _ (set_function t q x) (next o1 (λ (x : Function). fit name_size x.name) name_size (λ x. length_fit name_size x.name) 2 names_at t.functions q x refl (omega arith) refl inside-functions)
+        let o1 = next (start b) (λ (x : Function). little (set_size n) x.able) (set_size n) (λ x. length_little (set_size n) x.able) 7 able_at t.functions q x refl (omega arith) refl inside_functions in
+        finish b _ (set_function t q x) (next o1 (λ (x : Function). fit name_size x.name) name_size (λ x. length_fit name_size x.name) 2 names_at t.functions q x refl (omega arith) refl inside_functions)
 
     -- a function that keeps its set
-    pub put-name : (a : Bytes) → put (names_at + name_size * q) (fit name_size a) (put 0 (bytes_of t) b) ≡ put 0 (bytes_of (set_function t q (with_name a (function_at t q)))) b
-    put-name a =
+    pub put_name : (a : Bytes) → put (names_at + name_size * q) (fit name_size a) (put 0 (bytes_of t) b) ≡ put 0 (bytes_of (set_function t q (with_name a (function_at t q)))) b
+    put_name a =
         let x : Function = with_name a (function_at t q) in
-        let o1 = next (start b) (λ (x : Function). fit name_size x.name) name_size (λ x. length_fit name_size x.name) 2 names_at t.functions q x refl (omega arith) refl inside-functions in
+        let o1 = next (start b) (λ (x : Function). fit name_size x.name) name_size (λ x. length_fit name_size x.name) 2 names_at t.functions q x refl (omega arith) refl inside_functions in
         o1.is
         ∙ ap (λ (s : Bytes). put 0 s b) (sym (bytes_laid (set_function t q x) ∙ rw (column_same (λ (x : Function). little (set_size n) x.able) t.functions q x no_function refl)))
 
     -- a function that keeps its name
-    pub put-able : (s : ℕ) → put (able_at + set_size n * q) (little (set_size n) s) (put 0 (bytes_of t) b) ≡ put 0 (bytes_of (set_function t q (with_able s (function_at t q)))) b
-    put-able s =
+    pub put_able : (s : ℕ) → put (able_at + set_size n * q) (little (set_size n) s) (put 0 (bytes_of t) b) ≡ put 0 (bytes_of (set_function t q (with_able s (function_at t q)))) b
+    put_able s =
         let x : Function = with_able s (function_at t q) in
-        let o1 = next (start b) (λ (x : Function). little (set_size n) x.able) (set_size n) (λ x. length_little (set_size n) x.able) 7 able_at t.functions q x refl (omega arith) refl inside-functions in
+        let o1 = next (start b) (λ (x : Function). little (set_size n) x.able) (set_size n) (λ x. length_little (set_size n) x.able) 7 able_at t.functions q x refl (omega arith) refl inside_functions in
         o1.is
         ∙ ap (λ (s : Bytes). put 0 s b) (sym (bytes_laid (set_function t q x) ∙ rw (column_same (λ (x : Function). fit name_size x.name) t.functions q x no_function refl)))
 
@@ -193,18 +193,18 @@ module _ (t : Table) (z : Sized t) where
         ap (λ (m : ℕ). laid (segments_of m t.last t.jobs t.jobs t.jobs t.functions t.functions (set t.connections c x) t.ids t.hub)) (sym (length-set t.connections c x))
         ∙ sym (bytes_laid (set_connection t c x))
 
-    pub put-connection : (x : Connection)
+    pub put_connection : (x : Connection)
         → put (exceptions_at n + c) (flag_byte x.exceptions) (put (asleep_at n + c) (flag_byte x.asleep) (put (opened_at n + c) (flag_byte x.opened) (put 0 (bytes_of t) b)))
         ≡ put 0 (bytes_of (set_connection t c x)) b
-    put-connection x =
+    put_connection x =
         let o1 = next1 (start b) (λ (x : Connection). flag_byte x.opened) (λ x. refl) 9 (opened_at n) t.connections c x refl (omega arith) (omega arith) h in
         let o2 = next1 o1 (λ (x : Connection). flag_byte x.asleep) (λ x. refl) 10 (asleep_at n) t.connections c x refl (omega arith) (omega arith) h in
         let o3 = next1 o2 (λ (x : Connection). flag_byte x.exceptions) (λ x. refl) 11 (exceptions_at n) t.connections c x refl (omega arith) (omega arith) h in
         o3.is ∙ ap (λ (s : Bytes). put 0 s b) (as_many x)
 
     -- a connection that keeps its other flags
-    pub put-asleep : (a : Bool) → put (asleep_at n + c) (flag_byte a) (put 0 (bytes_of t) b) ≡ put 0 (bytes_of (set_connection t c (with_asleep a (connection_at t c)))) b
-    put-asleep a =
+    pub put_asleep : (a : Bool) → put (asleep_at n + c) (flag_byte a) (put 0 (bytes_of t) b) ≡ put 0 (bytes_of (set_connection t c (with_asleep a (connection_at t c)))) b
+    put_asleep a =
         let x : Connection = with_asleep a (connection_at t c) in
         let o1 = next1 (start b) (λ (x : Connection). flag_byte x.asleep) (λ x. refl) 10 (asleep_at n) t.connections c x refl (omega arith) (omega arith) h in
         o1.is
@@ -222,8 +222,8 @@ module _ (t : Table) (z : Sized t) where
 
   -- ---- the name of the hub
 
-  pub put-hub : (b h : Bytes) → put hub_at (fit hub_size h) (put 0 (bytes_of t) b) ≡ put 0 (bytes_of (with_hub h t)) b
-  put-hub b h =
+  pub put_hub : (b h : Bytes) → put hub_at (fit hub_size h) (put 0 (bytes_of t) b) ≡ put 0 (bytes_of (with_hub h t)) b
+  put_hub b h =
       let o = next (start b) (fit hub_size) hub_size (length_fit hub_size) 6 hub_at (t.hub ∷ []) 0 h (sym (append-nil (fit hub_size t.hub))) (omega arith) refl (omega arith) in
       o.is ∙ ap (λ (s : Bytes). put 0 (laid (set (segments t) 6 s)) b) (append-nil (fit hub_size h)) ∙ ap (λ (s : Bytes). put 0 s b) (sym (bytes_laid (with_hub h t)))
 

@@ -15,9 +15,9 @@ use Rattle.server.specs.Sizes.{function_count, job_count, id_size, hub_size}
 use Rattle.server.specs.Table.{Function, Job, Table, closed, no_function, no_job, connection_at, id_at, function_at, job_at}
 use Rattle.server.specs.Layout.{bytes_of, table_of, table_size, set_size, hub_at, connection_in, id_in, function_in, row_in, job_in}
 use Rattle.table_laws.proofs.Fields.{little_lies, text_lies}
-use Rattle.table_laws.proofs.Columns.{places-are, number-at, flag_at_lem, text_at_lem}
+use Rattle.table_laws.proofs.Columns.{places_are, number_at, flag_at_lem, text_at_lem}
 use Rattle.table_laws.proofs.RowColumns.{RowFits, rows_laid, row_back}
-use Rattle.table_laws.proofs.Laid.{Laid, laid, length-bytes}
+use Rattle.table_laws.proofs.Laid.{Laid, laid, length_bytes}
 
 -- ---- what fits
 
@@ -67,31 +67,31 @@ table_is t p q i r s h = rw (p, q, i, r, s, h)
 -- ---- the round trip
 
 module _ (t : Table) (b : Bytes) (ok : Fitting t) (l : Laid t b) where
-  connections-back : (c : ℕ) → c < length t.connections → connection_in (length t.connections) b c ≡ connection_at t c
-  connections-back c h =
+  connections_back : (c : ℕ) → c < length t.connections → connection_in (length t.connections) b c ≡ connection_at t c
+  connections_back c h =
       connection_is (connection_at t c)
       (flag_at_lem b _ t.connections c closed h (λ x. x.opened) l.opened)
       (flag_at_lem b _ t.connections c closed h (λ x. x.asleep) l.asleep)
       (flag_at_lem b _ t.connections c closed h (λ x. x.exceptions) l.exceptions)
 
-  ids-back : (c : ℕ) → c < length t.connections → id_in (length t.connections) b c ≡ id_at t c
-  ids-back c h =
+  ids_back : (c : ℕ) → c < length t.connections → id_in (length t.connections) b c ≡ id_at t c
+  ids_back c h =
       let f = ok.ids c h in
       text_at_lem b _ t.ids c [] (rw ok.one_each h) id_size (λ x. x) l.id f.within f.clean
 
-  functions-back : (q : ℕ) → q < function_count → function_in (length t.connections) b q ≡ function_at t q
-  functions-back q h =
+  functions_back : (q : ℕ) → q < function_count → function_in (length t.connections) b q ≡ function_at t q
+  functions_back q h =
       let f = ok.functions q h in
       let i : q < length t.functions = rw ok.sixteen h in
       function_is (function_at t q)
       (text_at_lem b _ t.functions q no_function i 32 (λ x. x.name) l.name f.name.within f.name.clean)
-      (number-at b _ t.functions q no_function i (set_size (length t.connections)) (λ x. x.able) l.able f.able)
+      (number_at b _ t.functions q no_function i (set_size (length t.connections)) (λ x. x.able) l.able f.able)
 
   rows_back : (p : ℕ) → p < job_count → row_in (length t.connections) b p ≡ (job_at t p).row
   rows_back p h = row_back (length t.connections) b t.jobs p (rows_laid t.jobs b ok.thirty_two l.rows) l.listening (rw ok.thirty_two h) (ok.jobs p h).row
 
-  jobs-back : (p : ℕ) → p < job_count → job_in (length t.connections) b p ≡ job_at t p
-  jobs-back p h =
+  jobs_back : (p : ℕ) → p < job_count → job_in (length t.connections) b p ≡ job_at t p
+  jobs_back p h =
       let f = ok.jobs p h in
       let i : p < length t.jobs = rw ok.thirty_two h in
       job_is (job_at t p) (rows_back p h)
@@ -99,23 +99,23 @@ module _ (t : Table) (b : Bytes) (ok : Fitting t) (l : Laid t b) where
       (text_at_lem b _ t.jobs p no_job i 10 (λ j. j.numerator) l.numerator f.numerator.within f.numerator.clean)
       (text_at_lem b _ t.jobs p no_job i 10 (λ j. j.denominator) l.denominator f.denominator.within f.denominator.clean)
 
-  laid-back : table_of (length t.connections) b ≡ t
+  laid_back : table_of (length t.connections) b ≡ t
   unfolding table_of
-  laid-back =
+  laid_back =
       table_is t (little_lies 4 t.last b 0 ok.last l.last)
-      (places-are (connection_in (length t.connections) b) closed (length t.connections) t.connections refl connections-back)
-      (places-are (id_in (length t.connections) b) [] (length t.connections) t.ids ok.one_each ids-back)
-      (places-are (function_in (length t.connections) b) no_function function_count t.functions ok.sixteen functions-back)
-      (places-are (job_in (length t.connections) b) no_job job_count t.jobs ok.thirty_two jobs-back)
+      (places_are (connection_in (length t.connections) b) closed (length t.connections) t.connections refl connections_back)
+      (places_are (id_in (length t.connections) b) [] (length t.connections) t.ids ok.one_each ids_back)
+      (places_are (function_in (length t.connections) b) no_function function_count t.functions ok.sixteen functions_back)
+      (places_are (job_in (length t.connections) b) no_job job_count t.jobs ok.thirty_two jobs_back)
       (text_lies hub_size t.hub b hub_at ok.hub.within ok.hub.clean l.hub)
 
 -- "bytes of table beyond what the layout uses" have no say
 pub table_back : (t : Table) (r : Bytes) → Fitting t → table_of (length t.connections) (bytes_of t ++ r) ≡ t
-table_back t r ok = laid-back t (bytes_of t ++ r) ok (laid t (bytes_of t ++ r) ok.sixteen ok.thirty_two (record { before = []; after = r; whole = refl; place = refl }))
+table_back t r ok = laid_back t (bytes_of t ++ r) ok (laid t (bytes_of t ++ r) ok.sixteen ok.thirty_two (record { before = []; after = r; whole = refl; place = refl }))
 
 pub table_put : (n : ℕ) (t : Table) (b : Bytes) → Fitting t → length t.connections ≡ n → table_size n ≤ length b → table_of n (put 0 (bytes_of t) b) ≡ t
 table_put n t b ok e h =
-    let s : length (bytes_of t) ≤ length b = omega (arith, length-bytes t ok.sixteen ok.thirty_two ok.one_each) in
+    let s : length (bytes_of t) ≤ length b = omega (arith, length_bytes t ok.sixteen ok.thirty_two ok.one_each) in
     rw (put_start (bytes_of t) b s, ← e) (table_back t (drop (length (bytes_of t)) b) ok)
 
 -- each table has one byte image, and each image one table

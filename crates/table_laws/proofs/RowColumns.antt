@@ -18,9 +18,9 @@ use Rattle.server.proofs.Rows.{RangeFits, row_is}
 use Rattle.table_laws.specs.Tests.{part, are_flags}
 use Rattle.table_laws.specs.Rows.{row_laid}
 use Rattle.table_laws.proofs.Fields.{Lies, lies_left, lies_right, length_little, byte_is}
-use Rattle.table_laws.proofs.Columns.{numbers-long, flags_long, number-at, byte_at, flag_at_lem}
+use Rattle.table_laws.proofs.Columns.{numbers_long, flags_long, number_at, byte_at, flag_at_lem}
 use Rattle.table_laws.proofs.ColumnPuts.{column_same, laid, Over, next, next1}
-use Rattle.table_laws.proofs.Same.{Agrees, next-numbers, next-flags}
+use Rattle.table_laws.proofs.Same.{Agrees, next_numbers, next_flags}
 
 -- ---- the columns
 
@@ -62,12 +62,12 @@ module _ (js : List Job) (e : length js ≡ job_count) where
   widths : (p q : Bytes) → map length (segments p js q) ≡ length p ∷ (column_sizes ++ (length q ∷ []))
   widths p q =
       rw (
-        numbers-long 4 (λ j. j.row.serial) js job_count e,
-        numbers-long 2 (λ j. j.row.size) js job_count e,
-        numbers-long 2 (λ j. j.row.holder) js job_count e,
-        numbers-long 1 (λ j. j.row.priority) js job_count e,
+        numbers_long 4 (λ j. j.row.serial) js job_count e,
+        numbers_long 2 (λ j. j.row.size) js job_count e,
+        numbers_long 2 (λ j. j.row.holder) js job_count e,
+        numbers_long 1 (λ j. j.row.priority) js job_count e,
         flags_long (λ j. j.row.background) js job_count e,
-        numbers-long 1 (λ j. j.row.function) js job_count e,
+        numbers_long 1 (λ j. j.row.function) js job_count e,
       )
 
   pub rows_long : length (row_bytes js) ≡ rows_size
@@ -75,12 +75,12 @@ module _ (js : List Job) (e : length js ≡ job_count) where
   rows_long =
       simp (
         length-append,
-        numbers-long 4 (λ j. j.row.serial) js job_count e,
-        numbers-long 2 (λ j. j.row.size) js job_count e,
-        numbers-long 2 (λ j. j.row.holder) js job_count e,
-        numbers-long 1 (λ j. j.row.priority) js job_count e,
+        numbers_long 4 (λ j. j.row.serial) js job_count e,
+        numbers_long 2 (λ j. j.row.size) js job_count e,
+        numbers_long 2 (λ j. j.row.holder) js job_count e,
+        numbers_long 1 (λ j. j.row.priority) js job_count e,
         flags_long (λ j. j.row.background) js job_count e,
-        numbers-long 1 (λ j. j.row.function) js job_count e,
+        numbers_long 1 (λ j. j.row.function) js job_count e,
       )
 
 -- ---- where they lie
@@ -100,10 +100,10 @@ next_lies {b} {at} s {t} k to l e f = lies_right b at s t to l (ap (λ (n : ℕ)
 pub rows_laid : (js : List Job) (b : Bytes) → length js ≡ job_count → Lies b serials_at (row_bytes js) → RowsLaid js b
 unfolding row_bytes
 rows_laid js b e l1 =
-    let l2 = next_lies (column (λ j. little 4 j.row.serial) js) (4 * job_count) sizes_at l1 (numbers-long 4 (λ j. j.row.serial) js job_count e) refl in
-    let l3 = next_lies (column (λ j. little 2 j.row.size) js) (2 * job_count) holders_at l2 (numbers-long 2 (λ j. j.row.size) js job_count e) refl in
-    let l4 = next_lies (column (λ j. little 2 j.row.holder) js) (2 * job_count) priorities_at l3 (numbers-long 2 (λ j. j.row.holder) js job_count e) refl in
-    let l5 = next_lies (column (λ j. little 1 j.row.priority) js) (1 * job_count) backgrounds_at l4 (numbers-long 1 (λ j. j.row.priority) js job_count e) refl in
+    let l2 = next_lies (column (λ j. little 4 j.row.serial) js) (4 * job_count) sizes_at l1 (numbers_long 4 (λ j. j.row.serial) js job_count e) refl in
+    let l3 = next_lies (column (λ j. little 2 j.row.size) js) (2 * job_count) holders_at l2 (numbers_long 2 (λ j. j.row.size) js job_count e) refl in
+    let l4 = next_lies (column (λ j. little 2 j.row.holder) js) (2 * job_count) priorities_at l3 (numbers_long 2 (λ j. j.row.holder) js job_count e) refl in
+    let l5 = next_lies (column (λ j. little 1 j.row.priority) js) (1 * job_count) backgrounds_at l4 (numbers_long 1 (λ j. j.row.priority) js job_count e) refl in
     let l6 = next_lies (column (λ j. flag_byte j.row.background) js) job_count functions_at l5 (flags_long (λ j. j.row.background) js job_count e) refl in
     record {
       serial = lies_left b _ _ _ l1;
@@ -127,13 +127,13 @@ pub row_back : (n : ℕ) (b : Bytes) (js : List Job) (p : ℕ) → RowsLaid js b
     → RowFits n (get_or js p no_job).row → row_in n b p ≡ (get_or js p no_job).row
 row_back n b js p l s i f =
     row_is (get_or js p no_job).row
-    (number-at b _ js p no_job i 4 (λ j. j.row.serial) l.serial f.serial)
+    (number_at b _ js p no_job i 4 (λ j. j.row.serial) l.serial f.serial)
     (byte_at b _ js p no_job i (λ j. j.row.function) l.function f.range.function)
     (byte_at b _ js p no_job i (λ j. j.row.priority) l.priority f.range.priority)
     (flag_at_lem b _ js p no_job i (λ j. j.row.background) l.background)
-    (number-at b _ js p no_job i (set_size n) (λ j. j.row.listeners) s f.listeners)
-    (number-at b _ js p no_job i 2 (λ j. j.row.holder) l.holder f.range.holder)
-    (number-at b _ js p no_job i 2 (λ j. j.row.size) l.size f.size)
+    (number_at b _ js p no_job i (set_size n) (λ j. j.row.listeners) s f.listeners)
+    (number_at b _ js p no_job i 2 (λ j. j.row.holder) l.holder f.range.holder)
+    (number_at b _ js p no_job i 2 (λ j. j.row.size) l.size f.size)
 
 -- ---- a row laid over them
 
@@ -183,17 +183,17 @@ module _ (n : ℕ) (b : Bytes) (small : (i : ℕ) → get_or b i 0 < 256) (long 
   one_byte at i = rw one-mul (sym (byte_is b (at + i)))
 
   -- of all numbers only the flags say something
-  pub next-rows : {rest : ℕ} {r : Bytes} {q : Bool} → Agrees rest b names_at r q
+  pub next_rows : {rest : ℕ} {r : Bytes} {q : Bool} → Agrees rest b names_at r q
       → Agrees (rows_size + rest) b serials_at (row_bytes (map (job_in n b) (numbers 0 job_count)) ++ r) (are_flags job_count b backgrounds_at && q)
-  next-rows {rest} {r} a =
+  next_rows {rest} {r} a =
       let j = job_in n b in
       let js = map (job_in n b) (numbers 0 job_count) in
       let k : rows_size + rest ≡ 4 * job_count + (2 * job_count + (2 * job_count + (1 * job_count + (job_count + (1 * job_count + rest))))) = omega arith in
       let c =
-      next-numbers b j 4 job_count (λ x. x.row.serial) serials_at small (omega arith) (λ i. refl)
-      (next-numbers b j 2 job_count (λ x. x.row.size) sizes_at small (omega arith) (λ i. refl)
-      (next-numbers b j 2 job_count (λ x. x.row.holder) holders_at small (omega arith) (λ i. refl)
-      (next-numbers b j 1 job_count (λ x. x.row.priority) priorities_at small (omega arith) (one_byte priorities_at)
-      (next-flags b j job_count (λ x. x.row.background) backgrounds_at (omega arith) (λ i. refl)
-      (next-numbers b j 1 job_count (λ x. x.row.function) functions_at small (omega arith) (one_byte functions_at) a))))) in
+      next_numbers b j 4 job_count (λ x. x.row.serial) serials_at small (omega arith) (λ i. refl)
+      (next_numbers b j 2 job_count (λ x. x.row.size) sizes_at small (omega arith) (λ i. refl)
+      (next_numbers b j 2 job_count (λ x. x.row.holder) holders_at small (omega arith) (λ i. refl)
+      (next_numbers b j 1 job_count (λ x. x.row.priority) priorities_at small (omega arith) (one_byte priorities_at)
+      (next_flags b j job_count (λ x. x.row.background) backgrounds_at (omega arith) (λ i. refl)
+      (next_numbers b j 1 job_count (λ x. x.row.function) functions_at small (omega arith) (one_byte functions_at) a))))) in
       record { agrees = ap (λ (s : Bytes). same (part (rows_size + rest) b serials_at) s) (rows_then_lem js r) ∙ ap (λ (m : ℕ). same (part m b serials_at) (rows_then js r)) k ∙ c.agrees }

@@ -16,7 +16,7 @@ use Rattle.lists.specs.Lists.{all, numbers, fit}
 use Rattle.server.specs.Layout.{column, little, little_at, flag_byte, flag_at, text_at}
 use Rattle.lists.proofs.Lists.{length_fit}
 use Rattle.table_laws.specs.Tests.{part, is_zero, is_flag, is_padded, are_flags, are_padded}
-use Rattle.table_laws.proofs.Columns.{length-places, numbers-long, flags_long, texts-long}
+use Rattle.table_laws.proofs.Columns.{length_places, numbers_long, flags_long, texts_long}
 use Rattle.table_laws.proofs.Fields.{length_little, little_again, before_zero}
 
 -- ---- parts
@@ -82,9 +82,9 @@ module _ {A : Type 0} (f : A → Bytes) (w : ℕ) (width : (x : A) → length (f
       rw e (same_next w (w * m) b (at + w * i) (f (g i)) (column f (map g (numbers (suc i) m))) (omega arith) (width (g i)) refl (rw d at (same_from (suc i) m (omega arith))))
 
   -- a column is as its bytes if each field is
-  pub same-column : (m : ℕ) (p : ℕ → Bool) → at + w * m ≤ length b → ((k : ℕ) → k < m → same (part w b (at + w * k)) (f (g k)) ≡ p k)
+  pub same_column : (m : ℕ) (p : ℕ → Bool) → at + w * m ≤ length b → ((k : ℕ) → k < m → same (part w b (at + w * k)) (f (g k)) ≡ p k)
       → same (part (w * m) b at) (column f (map g (numbers 0 m))) ≡ all p (numbers 0 m)
-  same-column m p h t =
+  same_column m p h t =
       let z : at + w * 0 ≡ at = rw mul-zero (add-zero at) in
       let l : at + w * 0 + w * m ≤ length b = rw z h in
       rw z at (same_from 0 m l) ∙ all_same (λ k. same (part w b (at + w * k)) (f (g k))) p 0 m (λ k _ q. t k (omega arith))
@@ -99,7 +99,7 @@ module _ {A : Type 0} (k : ℕ) (v : A → ℕ) (g : ℕ → A) (b : Bytes) (at 
   pub same_numbers : (m : ℕ) → at + k * m ≤ length b → ((i : ℕ) → v (g i) ≡ little_at k b (at + k * i))
       → same (part (k * m) b at) (column (λ x. little k (v x)) (map g (numbers 0 m))) ≡ true
   same_numbers m h e =
-      same-column (λ (x : A). little k (v x)) k (λ x. length_little k (v x)) g b at m (λ i. true) h
+      same_column (λ (x : A). little k (v x)) k (λ x. length_little k (v x)) g b at m (λ i. true) h
       (λ i l. let j : at + k * i + k ≤ length b = field_inside k m at i (length b) h l in
       rw (e i, little_again k b (at + k * i) small j) (same_refl (part k b (at + k * i))))
       ∙ all_true (λ i. true) 0 m (λ i _ _. refl)
@@ -130,7 +130,7 @@ module _ {A : Type 0} (v : A → Bool) (g : ℕ → A) (b : Bytes) (at : ℕ) wh
   unfolding are_flags
   same_flags m h e =
       let c : same (part (1 * m) b at) (column (λ x. flag_byte (v x)) (map g (numbers 0 m))) ≡ all (λ k. is_flag (get_or b (at + k) 0)) (numbers 0 m) =
-      same-column (λ (x : A). flag_byte (v x)) 1 (λ x. refl) g b at m (λ k. is_flag (get_or b (at + k) 0)) (omega arith)
+      same_column (λ (x : A). flag_byte (v x)) 1 (λ x. refl) g b at m (λ k. is_flag (get_or b (at + k) 0)) (omega arith)
       (λ k l. rw (one-mul k, e k, drop-cons b (at + k) 0 (omega arith)) (flag_test (get_or b (at + k) 0))) in
       rw one-mul at c ∙ flags_from m b at 0 (omega arith) ∙ ap (λ (i : ℕ). every is_flag (part m b i)) (add-zero at)
 
@@ -163,29 +163,29 @@ text_test (x ∷ p) zero e = absurd (omega arith)
 text_test (x ∷ p) (suc k) e = text_step x p k (eqb x 0) refl (omega arith) (text_test p k (omega arith))
 
 module _ {A : Type 0} (k : ℕ) (v : A → Bytes) (g : ℕ → A) (b : Bytes) (at : ℕ) where
-  pub same-texts : (m : ℕ) → at + k * m ≤ length b → ((i : ℕ) → v (g i) ≡ text_at k b (at + k * i)) → same (part (k * m) b at) (column (λ x. fit k (v x)) (map g (numbers 0 m))) ≡ are_padded k m b at
+  pub same_texts : (m : ℕ) → at + k * m ≤ length b → ((i : ℕ) → v (g i) ≡ text_at k b (at + k * i)) → same (part (k * m) b at) (column (λ x. fit k (v x)) (map g (numbers 0 m))) ≡ are_padded k m b at
   unfolding are_padded is_padded text_at
-  same-texts m h e =
-      same-column (λ (x : A). fit k (v x)) k (λ x. length_fit k (v x)) g b at m (λ i. is_padded k b (at + k * i)) h
+  same_texts m h e =
+      same_column (λ (x : A). fit k (v x)) k (λ x. length_fit k (v x)) g b at m (λ i. is_padded k b (at + k * i)) h
       (λ i l. rw (e i) (text_test (part k b (at + k * i)) k (length_part k b (at + k * i) (field_inside k m at i (length b) h l))))
 
 -- ---- a column, and then the rest
 
 module _ {A : Type 0} (b : Bytes) (g : ℕ → A) where
-  pub next-numbers : (k m : ℕ) (v : A → ℕ) (at : ℕ) {rest : ℕ} {r : Bytes} {q : Bool} → ((i : ℕ) → get_or b i 0 < 256) → at + k * m ≤ length b
+  pub next_numbers : (k m : ℕ) (v : A → ℕ) (at : ℕ) {rest : ℕ} {r : Bytes} {q : Bool} → ((i : ℕ) → get_or b i 0 < 256) → at + k * m ≤ length b
       → ((i : ℕ) → v (g i) ≡ little_at k b (at + k * i)) → Agrees rest b (at + k * m) r q → Agrees (k * m + rest) b at (column (λ x. little k (v x)) (map g (numbers 0 m)) ++ r) q
-  next-numbers k m v at small h e a =
-      next_agrees (k * m) b at (column (λ x. little k (v x)) (map g (numbers 0 m))) h (numbers-long k v (map g (numbers 0 m)) m (length-places g 0 m)) (same_numbers k v g b at small m h e) a
+  next_numbers k m v at small h e a =
+      next_agrees (k * m) b at (column (λ x. little k (v x)) (map g (numbers 0 m))) h (numbers_long k v (map g (numbers 0 m)) m (length_places g 0 m)) (same_numbers k v g b at small m h e) a
 
-  pub next-flags : (m : ℕ) (v : A → Bool) (at : ℕ) {rest : ℕ} {r : Bytes} {q : Bool} → at + m ≤ length b
+  pub next_flags : (m : ℕ) (v : A → Bool) (at : ℕ) {rest : ℕ} {r : Bytes} {q : Bool} → at + m ≤ length b
       → ((i : ℕ) → v (g i) ≡ flag_at b (at + i)) → Agrees rest b (at + m) r q → Agrees (m + rest) b at (column (λ x. flag_byte (v x)) (map g (numbers 0 m)) ++ r) (are_flags m b at && q)
-  next-flags m v at h e a =
-      next_agrees m b at (column (λ x. flag_byte (v x)) (map g (numbers 0 m))) h (flags_long v (map g (numbers 0 m)) m (length-places g 0 m)) (same_flags v g b at m h e) a
+  next_flags m v at h e a =
+      next_agrees m b at (column (λ x. flag_byte (v x)) (map g (numbers 0 m))) h (flags_long v (map g (numbers 0 m)) m (length_places g 0 m)) (same_flags v g b at m h e) a
 
-  pub next-texts : (k m : ℕ) (v : A → Bytes) (at : ℕ) {rest : ℕ} {r : Bytes} {q : Bool} → at + k * m ≤ length b
+  pub next_texts : (k m : ℕ) (v : A → Bytes) (at : ℕ) {rest : ℕ} {r : Bytes} {q : Bool} → at + k * m ≤ length b
       → ((i : ℕ) → v (g i) ≡ text_at k b (at + k * i)) → Agrees rest b (at + k * m) r q → Agrees (k * m + rest) b at (column (λ x. fit k (v x)) (map g (numbers 0 m)) ++ r) (are_padded k m b at && q)
-  next-texts k m v at h e a =
-      next_agrees (k * m) b at (column (λ x. fit k (v x)) (map g (numbers 0 m))) h (texts-long k v (map g (numbers 0 m)) m (length-places g 0 m)) (same-texts k v g b at m h e) a
+  next_texts k m v at h e a =
+      next_agrees (k * m) b at (column (λ x. fit k (v x)) (map g (numbers 0 m))) h (texts_long k v (map g (numbers 0 m)) m (length_places g 0 m)) (same_texts k v g b at m h e) a
 
 -- one text, and then the rest
 pub next_text : (b : Bytes) (k at : ℕ) {rest : ℕ} {r : Bytes} {q : Bool} → at + k ≤ length b → Agrees rest b (at + k) r q → Agrees (k + rest) b at (fit k (text_at k b at) ++ r) (is_padded k b at && q)

@@ -28,12 +28,12 @@ number_four b at w x y z ew ex ey ez =
 -- ---- laid
 
 module _ (b : Bytes) (at x : ℕ) where
-  pub two-put : set (set b at (x % 256)) (at + 1) (x / 256 % 256) ≡ put at (little 2 x) b
+  pub two_put : set (set b at (x % 256)) (at + 1) (x / 256 % 256) ≡ put at (little 2 x) b
   unfolding little
-  two-put = rw (put_one at (x % 256) b) (put_more at (x % 256 ∷ []) b 1 (x / 256 % 256) refl)
+  two_put = rw (put_one at (x % 256) b) (put_more at (x % 256 ∷ []) b 1 (x / 256 % 256) refl)
 
-  pub four-put : set (set (set (set b at (x % 256)) (at + 1) (x / 256 % 256)) (at + 2) (x / 256 / 256 % 256)) (at + 3) (x / 256 / 256 / 256 % 256) ≡ put at (little 4 x) b
+  pub four_put : set (set (set (set b at (x % 256)) (at + 1) (x / 256 % 256)) (at + 2) (x / 256 / 256 % 256)) (at + 3) (x / 256 / 256 / 256 % 256) ≡ put at (little 4 x) b
   unfolding little
-  four-put =
+  four_put =
       rw (put_one at (x % 256) b, put_more at (x % 256 ∷ []) b 1 (x / 256 % 256) refl, put_more at (x % 256 ∷ x / 256 % 256 ∷ []) b 2 (x / 256 / 256 % 256) refl)
       (put_more at (x % 256 ∷ x / 256 % 256 ∷ x / 256 / 256 % 256 ∷ []) b 3 (x / 256 / 256 / 256 % 256) refl)

@@ -28,9 +28,9 @@ module _ (p : ℕ → ℕ → Bool) where
           other : (i ≡ k → ⊥) → suc i ≤ k
           other r = omega arith
 
-  pairs-from : (i n x y : ℕ) → pairwise p (numbers i n) ≡ true → i ≤ x → x < y → y < i + n → p x y ≡ true
-  pairs-from i zero x y e h l g = absurd (omega arith)
-  pairs-from i (suc n) x y e h l g = go (eqb i x) refl (λ m. pairs-from (suc i) n x y (and_right (all (p i) (numbers (suc i) n)) _ e) m l (omega arith))
+  pairs_from : (i n x y : ℕ) → pairwise p (numbers i n) ≡ true → i ≤ x → x < y → y < i + n → p x y ≡ true
+  pairs_from i zero x y e h l g = absurd (omega arith)
+  pairs_from i (suc n) x y e h l g = go (eqb i x) refl (λ m. pairs_from (suc i) n x y (and_right (all (p i) (numbers (suc i) n)) _ e) m l (omega arith))
     where
       go : (t : Bool) → eqb i x ≡ t → (suc i ≤ x → p x y ≡ true) → p x y ≡ true
       go true q later =
@@ -42,37 +42,37 @@ module _ (p : ℕ → ℕ → Bool) where
           other r = omega arith
 
   pub pairs_at : (n x y : ℕ) → pairwise p (numbers 0 n) ≡ true → x < y → y < n → p x y ≡ true
-  pairs_at n x y e h g = pairs-from 0 n x y e (omega arith) h (omega arith)
+  pairs_at n x y e h g = pairs_from 0 n x y e (omega arith) h (omega arith)
 
-  pairs-true : (i n : ℕ) → ((x y : ℕ) → x < y → y < i + n → p x y ≡ true) → pairwise p (numbers i n) ≡ true
-  pairs-true i zero f = refl
-  pairs-true i (suc n) f =
-      and_both _ _ (all_true (p i) (suc i) n (λ k h g. f i k (omega arith) (omega arith))) (pairs-true (suc i) n (λ x y h g. f x y h (omega arith)))
+  pairs_true : (i n : ℕ) → ((x y : ℕ) → x < y → y < i + n → p x y ≡ true) → pairwise p (numbers i n) ≡ true
+  pairs_true i zero f = refl
+  pairs_true i (suc n) f =
+      and_both _ _ (all_true (p i) (suc i) n (λ k h g. f i k (omega arith) (omega arith))) (pairs_true (suc i) n (λ x y h g. f x y h (omega arith)))
 
-  pub pairs-by : (n : ℕ) → ((x y : ℕ) → x < y → y < n → p x y ≡ true) → pairwise p (numbers 0 n) ≡ true
-  pairs-by n f = pairs-true 0 n (λ x y h g. f x y h (omega arith))
+  pub pairs_by : (n : ℕ) → ((x y : ℕ) → x < y → y < n → p x y ≡ true) → pairwise p (numbers 0 n) ≡ true
+  pairs_by n f = pairs_true 0 n (λ x y h g. f x y h (omega arith))
 
-  each-later : (n i m : ℕ) → i + m ≡ n → pairwise p (numbers i m) ≡ all (λ k. all (p k) (numbers (k + 1) (n - (k + 1)))) (numbers i m)
-  each-later n i zero e = refl
-  each-later n i (suc m) e =
+  each_later : (n i m : ℕ) → i + m ≡ n → pairwise p (numbers i m) ≡ all (λ k. all (p k) (numbers (k + 1) (n - (k + 1)))) (numbers i m)
+  each_later n i zero e = refl
+  each_later n i (suc m) e =
       let f : suc i ≡ i + 1 = omega arith in
       let g : m ≡ n - (i + 1) = omega arith in
-      and_same (ap (λ (x : ℕ). all (p i) (numbers x m)) f ∙ ap (λ (x : ℕ). all (p i) (numbers (i + 1) x)) g) (each-later n (suc i) m (omega arith))
+      and_same (ap (λ (x : ℕ). all (p i) (numbers x m)) f ∙ ap (λ (x : ℕ). all (p i) (numbers (i + 1) x)) g) (each_later n (suc i) m (omega arith))
 
   -- each number and the later ones
-  pub pairs-each : (n : ℕ) → all (λ k. all (p k) (numbers (k + 1) (n - (k + 1)))) (numbers 0 n) ≡ pairwise p (numbers 0 n)
-  pairs-each n = sym (each-later n 0 n (omega arith))
+  pub pairs_each : (n : ℕ) → all (λ k. all (p k) (numbers (k + 1) (n - (k + 1)))) (numbers 0 n) ≡ pairwise p (numbers 0 n)
+  pairs_each n = sym (each_later n 0 n (omega arith))
 
 -- a loop over the numbers from a on
 module _ (p : ℕ → Bool) (a n i : ℕ) (ok : Bool) where
-  pub later-on : (b : Bool) → ok ≡ all p (numbers a (i - a)) → a ≤ i → b ≡ p i → ok && b ≡ all p (numbers a (i + 1 - a))
-  later-on b e h f =
+  pub later_on : (b : Bool) → ok ≡ all p (numbers a (i - a)) → a ≤ i → b ≡ p i → ok && b ≡ all p (numbers a (i + 1 - a))
+  later_on b e h f =
       let k : i + 1 - a ≡ suc (i - a) = omega arith in
       let m : a + (i - a) ≡ i = omega arith in
       rw (k, all_more p a (i - a), m) (and_same e f)
 
-  pub later-end : ok ≡ all p (numbers a (i - a)) → i ≤ n → n ≤ i → ok ≡ all p (numbers a (n - a))
-  later-end e h g = let k : i ≡ n = omega arith in rw k at e
+  pub later_end : ok ≡ all p (numbers a (i - a)) → i ≤ n → n ≤ i → ok ≡ all p (numbers a (n - a))
+  later_end e h g = let k : i ≡ n = omega arith in rw k at e
 
 -- ---- distances
 
@@ -100,8 +100,8 @@ module _ (out : ℕ → Bool) (h n : ℕ) (w : List ℕ) (v : ℕ → ℕ) (half
         let r : k + (n - (k - i) - 1 + 1) ≡ n + i = omega arith in
         clash k (n - (k - i) - 1 + 1) i (test (n - (k - i) - 1) k (omega arith) m) (first k m ∙ sym e) (ap (λ (x : ℕ). get_or w x 0) r ∙ second i (omega arith)) o
 
-    pub apart-all : (i k : ℕ) → i < k → k < n → out (v i) ≡ false → v i ≡ v k → ⊥
-    apart-all i k g m o e = go (leb (k - i) h) refl
+    pub apart_all : (i k : ℕ) → i < k → k < n → out (v i) ≡ false → v i ≡ v k → ⊥
+    apart_all i k g m o e = go (leb (k - i) h) refl
       where
         go : (t : Bool) → leb (k - i) h ≡ t → ⊥
         go true f = near i k g m (leb-true (k - i) h f) e o

@@ -71,25 +71,25 @@ module _ (p : ℕ → Bool) where
       ap (λ (x : Bool). p i && x) (all_more (suc i) n ∙ ap (λ (k : ℕ). all p (numbers (suc i) n) && p k) (suc-add i n ∙ sym (add-suc i n)))
       ∙ sym (and_assoc (p i) (all p (numbers (suc i) n)) (p (i + suc n)))
 
-  any-more : (i n : ℕ) → any p (numbers i (suc n)) ≡ any p (numbers i n) || p (i + n)
-  any-more i zero = or_false (p i) ∙ ap p (sym (add-zero i))
-  any-more i (suc n) =
-      ap (λ (x : Bool). p i || x) (any-more (suc i) n ∙ ap (λ (k : ℕ). any p (numbers (suc i) n) || p k) (suc-add i n ∙ sym (add-suc i n)))
+  any_more : (i n : ℕ) → any p (numbers i (suc n)) ≡ any p (numbers i n) || p (i + n)
+  any_more i zero = or_false (p i) ∙ ap p (sym (add-zero i))
+  any_more i (suc n) =
+      ap (λ (x : Bool). p i || x) (any_more (suc i) n ∙ ap (λ (k : ℕ). any p (numbers (suc i) n) || p k) (suc-add i n ∙ sym (add-suc i n)))
       ∙ sym (or_assoc (p i) (any p (numbers (suc i) n)) (p (i + suc n)))
 
-  pub all-next : (n : ℕ) → all p (numbers 0 (n + 1)) ≡ all p (numbers 0 n) && p n
-  all-next n = ap (λ (k : ℕ). all p (numbers 0 k)) (add-one n) ∙ all_more 0 n ∙ ap (λ (k : ℕ). all p (numbers 0 n) && p k) (zero-add n)
+  pub all_next : (n : ℕ) → all p (numbers 0 (n + 1)) ≡ all p (numbers 0 n) && p n
+  all_next n = ap (λ (k : ℕ). all p (numbers 0 k)) (add-one n) ∙ all_more 0 n ∙ ap (λ (k : ℕ). all p (numbers 0 n) && p k) (zero-add n)
 
   pub any_next : (n : ℕ) → any p (numbers 0 (n + 1)) ≡ any p (numbers 0 n) || p n
-  any_next n = ap (λ (k : ℕ). any p (numbers 0 k)) (add-one n) ∙ any-more 0 n ∙ ap (λ (k : ℕ). any p (numbers 0 n) || p k) (zero-add n)
+  any_next n = ap (λ (k : ℕ). any p (numbers 0 k)) (add-one n) ∙ any_more 0 n ∙ ap (λ (k : ℕ). any p (numbers 0 n) || p k) (zero-add n)
 
 -- a loop that keeps a flag: it says what the numbers passed say
 module _ (p : ℕ → Bool) (n i : ℕ) (ok : Bool) where
   pub each_on : (b : Bool) → ok ≡ all p (numbers 0 i) → b ≡ p i → ok && b ≡ all p (numbers 0 (i + 1))
-  each_on b e f = and_same e f ∙ sym (all-next p i)
+  each_on b e f = and_same e f ∙ sym (all_next p i)
 
-  pub each-end : ok ≡ all p (numbers 0 i) → i ≤ n → n ≤ i → ok ≡ all p (numbers 0 n)
-  each-end e h g = let k : i ≡ n = omega arith in rw k at e
+  pub each_end : ok ≡ all p (numbers 0 i) → i ≤ n → n ≤ i → ok ≡ all p (numbers 0 n)
+  each_end e h g = let k : i ≡ n = omega arith in rw k at e
 
 -- ---- bytes gathered
 
@@ -106,14 +106,14 @@ or_none_lem x y = go (eqb x 0) (eqb y 0) refl refl
 
 -- a loop that gathers bytes: what it found is zero exactly if all bytes passed are
 pub none_on : (p : ℕ → Bool) (i found x : ℕ) → eqb found 0 ≡ all p (numbers 0 i) → eqb x 0 ≡ p i → eqb (bit_or found x) 0 ≡ all p (numbers 0 (i + 1))
-none_on p i found x e f = or_none_lem found x ∙ and_same e f ∙ sym (all-next p i)
+none_on p i found x e f = or_none_lem found x ∙ and_same e f ∙ sym (all_next p i)
 
 -- ---- one number of them
 
 module _ (p : ℕ → Bool) where
-  some-from : (C : Type 0) (i n : ℕ) → any p (numbers i n) ≡ true → ((k : ℕ) → i ≤ k → k < i + n → p k ≡ true → C) → C
-  some-from C i zero e f = absurd (true≢false (sym e))
-  some-from C i (suc n) e f = go (p i) refl (λ q. some-from C (suc i) n (or_not (p i) _ e q) (λ k h g r. f k (omega arith) (omega arith) r))
+  some_from : (C : Type 0) (i n : ℕ) → any p (numbers i n) ≡ true → ((k : ℕ) → i ≤ k → k < i + n → p k ≡ true → C) → C
+  some_from C i zero e f = absurd (true≢false (sym e))
+  some_from C i (suc n) e f = go (p i) refl (λ q. some_from C (suc i) n (or_not (p i) _ e q) (λ k h g r. f k (omega arith) (omega arith) r))
     where
       go : (t : Bool) → p i ≡ t → (p i ≡ false → C) → C
       go true q later = f i (omega arith) (omega arith) q
@@ -121,28 +121,28 @@ module _ (p : ℕ → Bool) where
 
   -- some number passes
   pub some_at : {C : Type 0} (n : ℕ) → any p (numbers 0 n) ≡ true → ((k : ℕ) → k < n → p k ≡ true → C) → C
-  some_at {C} n e f = some-from C 0 n e (λ k _ h r. f k (omega arith) r)
+  some_at {C} n e f = some_from C 0 n e (λ k _ h r. f k (omega arith) r)
 
   some_in : (i n k : ℕ) → k < n → p (i + k) ≡ true → any p (numbers i n) ≡ true
   some_in i zero k h e = absurd (omega arith)
   some_in i (suc n) zero h e = or_left (p i) _ (subst (λ (m : ℕ). p m ≡ true) (omega arith) e)
   some_in i (suc n) (suc k) h e = or_right (p i) _ (some_in (suc i) n k (omega arith) (subst (λ (m : ℕ). p m ≡ true) (omega arith) e))
 
-  pub some-by : (n k : ℕ) → k < n → p k ≡ true → any p (numbers 0 n) ≡ true
-  some-by n k h e = some_in 0 n k h (subst (λ (m : ℕ). p m ≡ true) (sym (zero-add k)) e)
+  pub some_by : (n k : ℕ) → k < n → p k ≡ true → any p (numbers 0 n) ≡ true
+  some_by n k h e = some_in 0 n k h (subst (λ (m : ℕ). p m ≡ true) (sym (zero-add k)) e)
 
 -- ---- tests that agree, and two tests in one
 
 module _ (p q : ℕ → Bool) (n : ℕ) where
-  pub same-below : ((k : ℕ) → k < n → p k ≡ q k) → all p (numbers 0 n) ≡ all q (numbers 0 n)
-  same-below f = all_same p q 0 n (λ k _ h. f k (omega arith))
+  pub same_below : ((k : ℕ) → k < n → p k ≡ q k) → all p (numbers 0 n) ≡ all q (numbers 0 n)
+  same_below f = all_same p q 0 n (λ k _ h. f k (omega arith))
 
-  any-alike : (i m : ℕ) → ((k : ℕ) → i ≤ k → k < i + m → p k ≡ q k) → any p (numbers i m) ≡ any q (numbers i m)
-  any-alike i zero f = refl
-  any-alike i (suc m) f = ap₂ ◌||◌ (f i (omega arith) (omega arith)) (any-alike (suc i) m (λ k h g. f k (omega arith) (omega arith)))
+  any_alike : (i m : ℕ) → ((k : ℕ) → i ≤ k → k < i + m → p k ≡ q k) → any p (numbers i m) ≡ any q (numbers i m)
+  any_alike i zero f = refl
+  any_alike i (suc m) f = ap₂ ◌||◌ (f i (omega arith) (omega arith)) (any_alike (suc i) m (λ k h g. f k (omega arith) (omega arith)))
 
   pub any_below : ((k : ℕ) → k < n → p k ≡ q k) → any p (numbers 0 n) ≡ any q (numbers 0 n)
-  any_below f = any-alike 0 n (λ k _ h. f k (omega arith))
+  any_below f = any_alike 0 n (λ k _ h. f k (omega arith))
 
 pub all_and : {A : Type 0} (p q : A → Bool) (l : List A) → all (λ x. p x && q x) l ≡ all p l && all q l
 all_and p q [] = refl
@@ -190,14 +190,14 @@ none_later p i n f = iff (any p (numbers 0 (i + n))) (any p (numbers 0 i)) to fr
     to e = some_at p (i + n) e (λ k h q. found k h q (ltb k i) refl)
       where
         found : (k : ℕ) → k < i + n → p k ≡ true → (t : Bool) → ltb k i ≡ t → any p (numbers 0 i) ≡ true
-        found k h q true r = some-by p i k (ltb-true k i r) q
+        found k h q true r = some_by p i k (ltb-true k i r) q
         found k h q false r =
             let l = ltb-false k i r in
             let m : i + (k - i) ≡ k = omega arith in
             absurd (true≢false (sym q ∙ ap p (sym m) ∙ f (k - i) (omega arith)))
 
     from : any p (numbers 0 i) ≡ true → any p (numbers 0 (i + n)) ≡ true
-    from e = some_at p i e (λ k h q. some-by p (i + n) k (omega arith) q)
+    from e = some_at p i e (λ k h q. some_by p (i + n) k (omega arith) q)
 
 -- m runs of w numbers, from run i on
 runs_from : (p : ℕ → Bool) (w i m : ℕ) → all p (numbers (w * i) (w * m)) ≡ all (λ k. all (λ j. p (w * k + j)) (numbers 0 w)) (numbers i m)

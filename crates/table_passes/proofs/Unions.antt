@@ -16,11 +16,11 @@ use Rattle.table_passes.proofs.Tests.{any_next}
 -- ---- a loop that gathers a set
 
 module _ (f : ℕ → ℕ) (n i s : ℕ) (e : (c : ℕ) → has s c ≡ any (λ k. has (f k) c) (numbers 0 i)) where
-  pub joins-on : (x : ℕ) → x ≡ f i → (c : ℕ) → has (union s x) c ≡ any (λ k. has (f k) c) (numbers 0 (i + 1))
-  joins-on x q c = has_union s x c ∙ ap₂ ◌||◌ (e c) (ap (λ (y : ℕ). has y c) q) ∙ sym (any_next (λ k. has (f k) c) i)
+  pub joins_on : (x : ℕ) → x ≡ f i → (c : ℕ) → has (union s x) c ≡ any (λ k. has (f k) c) (numbers 0 (i + 1))
+  joins_on x q c = has_union s x c ∙ ap₂ ◌||◌ (e c) (ap (λ (y : ℕ). has y c) q) ∙ sym (any_next (λ k. has (f k) c) i)
 
-  pub joins-end : i ≤ n → n ≤ i → (c : ℕ) → has s c ≡ any (λ k. has (f k) c) (numbers 0 n)
-  joins-end h g c = let k : i ≡ n = omega arith in rw k at (e c)
+  pub joins_end : i ≤ n → n ≤ i → (c : ℕ) → has s c ≡ any (λ k. has (f k) c) (numbers 0 n)
+  joins_end h g c = let k : i ≡ n = omega arith in rw k at (e c)
 
 -- ---- one member more
 

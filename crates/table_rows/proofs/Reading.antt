@@ -17,7 +17,7 @@ use Rattle.server.specs.Table.{no_row, closed, ables_of, rows_of}
 use Rattle.server.specs.Layout.{little_at, connection_in, function_in, row_in, job_in, table_of, able_at}
 use Rattle.plan.specs.Values.{values_of}
 use Rattle.plan.specs.Parts as P
-use Rattle.table_laws.proofs.Columns.{length-places, places-at}
+use Rattle.table_laws.proofs.Columns.{length_places, places_at}
 
 -- ---- an array filled
 
@@ -49,20 +49,20 @@ module _ (b : Bytes) where
   unfolding table_of
   rows_are = map_map (λ j. j.row) (job_in connection_count b) (numbers 0 job_count)
 
-  pub ables-are : ables_of (table_of connection_count b) ≡ map (λ q. little_at 4 b (able_at + 4 * q)) (numbers 0 function_count)
+  pub ables_are : ables_of (table_of connection_count b) ≡ map (λ q. little_at 4 b (able_at + 4 * q)) (numbers 0 function_count)
   unfolding table_of
-  ables-are = map_map (λ x. x.able) (function_in connection_count b) (numbers 0 function_count)
+  ables_are = map_map (λ x. x.able) (function_in connection_count b) (numbers 0 function_count)
 
   module _ (i : ℕ) where
-    pub rows-read : (l : List JobRow) → i ≤ job_count → 32 ≤ i → length l ≡ 32 → take i l ≡ map (row_in connection_count b) (numbers 0 i) → l ≡ rows_of (table_of connection_count b)
-    rows-read l h g k t = filled (row_in connection_count b) l i 32 h g k t ∙ sym rows_are
+    pub rows_read : (l : List JobRow) → i ≤ job_count → 32 ≤ i → length l ≡ 32 → take i l ≡ map (row_in connection_count b) (numbers 0 i) → l ≡ rows_of (table_of connection_count b)
+    rows_read l h g k t = filled (row_in connection_count b) l i 32 h g k t ∙ sym rows_are
 
-    pub able-read : (l : List ℕ) → i ≤ function_count → function_count ≤ i → length l ≡ function_count → take i l ≡ map (λ q. little_at 4 b (able_at + 4 * q)) (numbers 0 i) → l ≡ ables_of (table_of connection_count b)
-    able-read l h g k t = filled (λ q. little_at 4 b (able_at + 4 * q)) l i function_count h g k t ∙ sym ables-are
+    pub able_read : (l : List ℕ) → i ≤ function_count → function_count ≤ i → length l ≡ function_count → take i l ≡ map (λ q. little_at 4 b (able_at + 4 * q)) (numbers 0 i) → l ≡ ables_of (table_of connection_count b)
+    able_read l h g k t = filled (λ q. little_at 4 b (able_at + 4 * q)) l i function_count h g k t ∙ sym ables_are
 
-    pub connections-read : (l : List Connection) → i ≤ connection_count → connection_count ≤ i → length l ≡ connection_count → take i l ≡ map (connection_in connection_count b) (numbers 0 i) → l ≡ (table_of connection_count b).connections
+    pub connections_read : (l : List Connection) → i ≤ connection_count → connection_count ≤ i → length l ≡ connection_count → take i l ≡ map (connection_in connection_count b) (numbers 0 i) → l ≡ (table_of connection_count b).connections
     unfolding table_of
-    connections-read l h g k t = filled (connection_in connection_count b) l i connection_count h g k t
+    connections_read l h g k t = filled (connection_in connection_count b) l i connection_count h g k t
 
 pub last_read : (b : Bytes) (last : ℕ) → last ≡ little_at 4 b 0 → last ≡ (values_of (table_of connection_count b)).last
 unfolding values_of table_of
@@ -78,36 +78,36 @@ values_read b last connections able rows el ec ea er = rw (el, ec, ea, er)
 
 -- what stands at a place is what is read there, and beyond the last place the empty one
 module _ {A : Type 0} (f : ℕ → A) (d : A) (n : ℕ) (l : List A) (i : ℕ) (e : l ≡ map f (numbers 0 n)) where
-  pub column-at : i < n → get_or l i d ≡ f i
-  column-at h = rw e (places-at f d n i h)
+  pub column_at : i < n → get_or l i d ≡ f i
+  column_at h = rw e (places_at f d n i h)
 
-  column-beyond : n ≤ i → get_or l i d ≡ d
-  column-beyond h = rw e (get_or-eq_default (map f (numbers 0 n)) d (rw (length-places f 0 n) h))
+  column_beyond : n ≤ i → get_or l i d ≡ d
+  column_beyond h = rw e (get_or-eq_default (map f (numbers 0 n)) d (rw (length_places f 0 n) h))
 
 module _ (b : Bytes) (i : ℕ) where
-  pub row-place : i < job_count → get_or (rows_of (table_of connection_count b)) i no_row ≡ row_in connection_count b i
-  row-place = column-at (row_in connection_count b) no_row 32 (rows_of (table_of connection_count b)) i (rows_are b)
+  pub row_place : i < job_count → get_or (rows_of (table_of connection_count b)) i no_row ≡ row_in connection_count b i
+  row_place = column_at (row_in connection_count b) no_row 32 (rows_of (table_of connection_count b)) i (rows_are b)
 
   pub row_inside : (x : JobRow) → i < job_count → x ≡ row_in connection_count b i → x ≡ P.row_in (values_of (table_of connection_count b)) i
   unfolding values_of
-  row_inside x h g = g ∙ sym (row-place h)
+  row_inside x h g = g ∙ sym (row_place h)
 
-  pub row-beyond : (x : JobRow) → 32 ≤ i → x ≡ no_row → x ≡ P.row_in (values_of (table_of connection_count b)) i
+  pub row_beyond : (x : JobRow) → 32 ≤ i → x ≡ no_row → x ≡ P.row_in (values_of (table_of connection_count b)) i
   unfolding values_of
-  row-beyond x h g = g ∙ sym (column-beyond (row_in connection_count b) no_row 32 (rows_of (table_of connection_count b)) i (rows_are b) h)
+  row_beyond x h g = g ∙ sym (column_beyond (row_in connection_count b) no_row 32 (rows_of (table_of connection_count b)) i (rows_are b) h)
 
-  pub able-inside : (x : ℕ) → i < function_count → x ≡ little_at 4 b (able_at + 4 * i) → x ≡ get_or (values_of (table_of connection_count b)).able i 0
+  pub able_inside : (x : ℕ) → i < function_count → x ≡ little_at 4 b (able_at + 4 * i) → x ≡ get_or (values_of (table_of connection_count b)).able i 0
   unfolding values_of
-  able-inside x h g = g ∙ sym (column-at (λ q. little_at 4 b (able_at + 4 * q)) 0 function_count (ables_of (table_of connection_count b)) i (ables-are b) h)
+  able_inside x h g = g ∙ sym (column_at (λ q. little_at 4 b (able_at + 4 * q)) 0 function_count (ables_of (table_of connection_count b)) i (ables_are b) h)
 
-  pub able-beyond : (x : ℕ) → function_count ≤ i → x ≡ 0 → x ≡ get_or (values_of (table_of connection_count b)).able i 0
+  pub able_beyond : (x : ℕ) → function_count ≤ i → x ≡ 0 → x ≡ get_or (values_of (table_of connection_count b)).able i 0
   unfolding values_of
-  able-beyond x h g = g ∙ sym (column-beyond (λ q. little_at 4 b (able_at + 4 * q)) 0 function_count (ables_of (table_of connection_count b)) i (ables-are b) h)
+  able_beyond x h g = g ∙ sym (column_beyond (λ q. little_at 4 b (able_at + 4 * q)) 0 function_count (ables_of (table_of connection_count b)) i (ables_are b) h)
 
-  pub connection-inside : (x : Connection) → i < connection_count → x ≡ connection_in connection_count b i → x ≡ P.connection_in (values_of (table_of connection_count b)) i
+  pub connection_inside : (x : Connection) → i < connection_count → x ≡ connection_in connection_count b i → x ≡ P.connection_in (values_of (table_of connection_count b)) i
   unfolding values_of table_of
-  connection-inside x h g = g ∙ sym (column-at (connection_in connection_count b) closed connection_count (table_of connection_count b).connections i refl h)
+  connection_inside x h g = g ∙ sym (column_at (connection_in connection_count b) closed connection_count (table_of connection_count b).connections i refl h)
 
-  pub connection-beyond : (x : Connection) → connection_count ≤ i → x ≡ closed → x ≡ P.connection_in (values_of (table_of connection_count b)) i
+  pub connection_beyond : (x : Connection) → connection_count ≤ i → x ≡ closed → x ≡ P.connection_in (values_of (table_of connection_count b)) i
   unfolding values_of table_of
-  connection-beyond x h g = g ∙ sym (column-beyond (connection_in connection_count b) closed connection_count (table_of connection_count b).connections i refl h)
+  connection_beyond x h g = g ∙ sym (column_beyond (connection_in connection_count b) closed connection_count (table_of connection_count b).connections i refl h)

@@ -36,15 +36,15 @@ unfolding zeros
 length_zeros n = length-replicate n 0
 
 module _ (b : Bytes) (at : ℕ) where
-  pub zeros-none : b ≡ put at (zeros 0) b
+  pub zeros_none : b ≡ put at (zeros 0) b
   unfolding zeros
-  zeros-none = sym (put_none at b)
+  zeros_none = sym (put_none at b)
 
-  pub zeros-more : (o : Bytes) (i : ℕ) → o ≡ put at (zeros i) b → set o (at + i) 0 ≡ put at (zeros (i + 1)) b
-  zeros-more o i e = rw (e, add-one) (put_more at (zeros i) b i 0 (length_zeros i) ∙ ap (λ (s : Bytes). put at s b) (zeros_end i))
+  pub zeros_more : (o : Bytes) (i : ℕ) → o ≡ put at (zeros i) b → set o (at + i) 0 ≡ put at (zeros (i + 1)) b
+  zeros_more o i e = rw (e, add-one) (put_more at (zeros i) b i 0 (length_zeros i) ∙ ap (λ (s : Bytes). put at s b) (zeros_end i))
 
-  pub zeros-all : (o : Bytes) (i n : ℕ) → o ≡ put at (zeros i) b → i ≤ n → n ≤ i → o ≡ put at (zeros n) b
-  zeros-all o i n e h k = let q : i ≡ n = omega arith in rw (e, q)
+  pub zeros_all : (o : Bytes) (i n : ℕ) → o ≡ put at (zeros i) b → i ≤ n → n ≤ i → o ≡ put at (zeros n) b
+  zeros_all o i n e h k = let q : i ≡ n = omega arith in rw (e, q)
 
 -- ---- laid
 

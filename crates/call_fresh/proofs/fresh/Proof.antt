@@ -1,15 +1,15 @@
 -- `call_fresh::fresh` meets its contract: a buffer is too short, there is no name, or both are set to zeros and the name is laid.
 -- Assumes nothing.
-use Rattle.call_fresh.proofs.Cases.{made-fresh, name_short, no_name, short-table, short-workloads}
+use Rattle.call_fresh.proofs.Cases.{made_fresh, name_short, no_name, short_table, short_workloads}
 use borrow.Author.Rules.{rules}
 use Rattle.call_fresh.proofs.fresh.Statement.{statement}
 use Rattle.call_fresh.proofs.fresh.Tie as tie
 
 returns : tie.Need-returns
-returns c = search (rules, short-table)
+returns c = search (rules, short_table)
 
 returns-2 : tie.Need-returns-2
-returns-2 c = search (rules, short-workloads)
+returns-2 c = search (rules, short_workloads)
 
 is-hub-name-requires : tie.Need-is-hub-name-requires
 is-hub-name-requires c κs = search rules
@@ -35,7 +35,7 @@ same-length-2 : tie.Need-same-length-2
 same-length-2 c = search rules
 
 returns-4 : tie.Need-returns-4
-returns-4 c = search (rules, made-fresh)
+returns-4 c = search (rules, made_fresh)
 
 pub fresh_spec : {M : Type 1} → statement M
 fresh_spec =

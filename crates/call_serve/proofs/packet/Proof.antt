@@ -3,8 +3,8 @@ use mathlib.Core.Path.{refl, sym, ◌∙◌}
 use mathlib.Core.Bool.{false}
 use borrow.Author.Rules.{rules}
 use Rattle.server.specs.Requests.{sends}
-use Rattle.call_laws.proofs.Admitted.{asks_packet, is-admitted, refused-call}
-use Rattle.call_laws.proofs.Events.{unread-small, unread-call}
+use Rattle.call_laws.proofs.Admitted.{asks_packet, is_admitted, refused_call}
+use Rattle.call_laws.proofs.Events.{unread_small, unread_call}
 use Rattle.call_serve.proofs.Read.{unread_left}
 use Rattle.call_serve.proofs.packet.Statement.{statement}
 use Rattle.call_serve.proofs.packet.Tie as tie
@@ -25,7 +25,7 @@ same-length-3 : tie.Need-same-length-3
 same-length-3 c = search rules
 
 returns : tie.Need-returns
-returns c = rw c.refused.ensures (refused-call false _ _ _ _ (sends _ _) (asks_packet _ _) _ c.before.before.admission.ensures c.before.if1.true)
+returns c = rw c.refused.ensures (refused_call false _ _ _ _ (sends _ _) (asks_packet _ _) _ c.before.before.admission.ensures c.before.if1.true)
 
 read-request-requires : tie.Need-read-request-requires
 read-request-requires c κs = search rules
@@ -34,12 +34,12 @@ enum-known-read : tie.Need-enum-known-read
 enum-known-read c = search rules
 
 cast-refuse : tie.Need-overflow-cast-refuse
-cast-refuse c = search (rules, (is-admitted _ _ _ _ _ _ c.before.before.before.before.before.before.admission.ensures c.before.before.before.before.before.if1.false).inside)
+cast-refuse c = search (rules, (is_admitted _ _ _ _ _ _ c.before.before.before.before.before.before.admission.ensures c.before.before.before.before.before.if1.false).inside)
 
 refuse-requires : tie.Need-refuse-requires
 refuse-requires c κs =
-    let h = is-admitted _ _ _ _ _ _ c.before.before.before.before.before.before.admission.ensures c.before.before.before.before.before.if1.false in
-    (unread-small _ _ _ _ _ _ h (sym c.before.before.before.before.read-request.ensures ∙ c.before.before.read.given.1), h.bytes.long_output)
+    let h = is_admitted _ _ _ _ _ _ c.before.before.before.before.before.before.admission.ensures c.before.before.before.before.before.if1.false in
+    (unread_small _ _ _ _ _ _ h (sym c.before.before.before.before.read-request.ensures ∙ c.before.before.read.given.1), h.bytes.long_output)
 
 enum-known-read-2 : tie.Need-enum-known-read-2
 enum-known-read-2 c = search rules
@@ -58,8 +58,8 @@ same-length-6 c = search rules
 
 returns-2 : tie.Need-returns-2
 returns-2 c =
-    let h = is-admitted _ _ _ _ _ _ c.before.before.before.before.before.before.before.before.before.admission.ensures c.before.before.before.before.before.before.before.before.if1.false in
-    unread_left _ _ _ _ _ _ _ c.before.before.refuse.ensures ∙ unread-call _ _ _ _ _ _ h (sym c.before.before.before.before.before.before.before.read-request.ensures ∙ c.before.before.before.before.before.read.given.1)
+    let h = is_admitted _ _ _ _ _ _ c.before.before.before.before.before.before.before.before.before.admission.ensures c.before.before.before.before.before.before.before.before.if1.false in
+    unread_left _ _ _ _ _ _ _ c.before.before.refuse.ensures ∙ unread_call _ _ _ _ _ _ h (sym c.before.before.before.before.before.before.before.read-request.ensures ∙ c.before.before.before.before.before.read.given.1)
 
 same-length-7 : tie.Need-same-length-7
 same-length-7 c = search rules

@@ -1,5 +1,5 @@
 -- `capture::answer_frame` meets its contract: 16, or the call of the frame's event. Assumes nothing.
-use Rattle.capture.proofs.Answered.{open-event, close-event, packet-event, packet_bounded, frame-answered, not_a_frame}
+use Rattle.capture.proofs.Answered.{open_event, close_event, packet_event, packet_bounded, frame_answered, not_a_frame}
 use borrow.Author.Rules.{rules}
 use Rattle.capture.proofs.answer_frame.Statement.{statement}
 use Rattle.capture.proofs.answer_frame.Tie as tie
@@ -56,7 +56,7 @@ same-length-3 : tie.Need-same-length-3
 same-length-3 c = search rules
 
 returns-2 : tie.Need-returns-2
-returns-2 c = frame-answered _ _ _ _ _ c.before.before.before.before.before.before.«open».ensures _ (open-event _ _ _ _ c.before.before.before.before.before.before.before.wide.ensures.0 c.before.before.before.before.before.before.before.before.before.before.before.before.frame.given.1)
+returns-2 c = frame_answered _ _ _ _ _ c.before.before.before.before.before.before.«open».ensures _ (open_event _ _ _ _ c.before.before.before.before.before.before.before.wide.ensures.0 c.before.before.before.before.before.before.before.before.before.before.before.before.frame.given.1)
 
 same-length-4 : tie.Need-same-length-4
 same-length-4 c = search rules
@@ -68,7 +68,7 @@ same-length-6 : tie.Need-same-length-6
 same-length-6 c = search rules
 
 returns-3 : tie.Need-returns-3
-returns-3 c = frame-answered _ _ _ _ _ c.before.before.before.before.before.before.close.ensures _ (close-event _ _ _ _ c.before.before.before.before.before.before.before.wide2.ensures.0 c.before.before.before.before.before.before.before.before.before.before.before.before.frame2.given.1)
+returns-3 c = frame_answered _ _ _ _ _ c.before.before.before.before.before.before.close.ensures _ (close_event _ _ _ _ c.before.before.before.before.before.before.before.wide2.ensures.0 c.before.before.before.before.before.before.before.before.before.before.before.before.frame2.given.1)
 
 same-length-7 : tie.Need-same-length-7
 same-length-7 c = search rules
@@ -80,7 +80,7 @@ same-length-9 : tie.Need-same-length-9
 same-length-9 c = search rules
 
 returns-4 : tie.Need-returns-4
-returns-4 c = frame-answered _ _ _ _ _ c.before.before.before.before.before.before.packet.ensures _ (packet-event _ _ _ _ c.before.before.before.before.before.before.before.before.wide3.ensures.0 _ c.before.before.before.before.before.before.before.before.before.before.before.before.before.before.frame3.given.1)
+returns-4 c = frame_answered _ _ _ _ _ c.before.before.before.before.before.before.packet.ensures _ (packet_event _ _ _ _ c.before.before.before.before.before.before.before.before.wide3.ensures.0 _ c.before.before.before.before.before.before.before.before.before.before.before.before.before.before.frame3.given.1)
 
 pub answer_frame_spec : {M : Type 1} → statement M
 answer_frame_spec =

@@ -1,7 +1,7 @@
 -- `capture::read_frame` meets its contract: too many digits, digits that spell no bytes, or the frame of those that they spell.
 -- Assumes nothing.
 use mathlib.Core.Path.{◌∙◌}
-use Rattle.capture.proofs.Framing.{long_line, bad-line, line_fits, line_short, line_frame}
+use Rattle.capture.proofs.Framing.{long_line, bad_line, line_fits, line_short, line_frame}
 use borrow.Author.Rules.{rules}
 use Rattle.capture.proofs.read_frame.Statement.{statement}
 use Rattle.capture.proofs.read_frame.Tie as tie
@@ -22,7 +22,7 @@ framed-requires : tie.Need-framed-requires
 framed-requires c κs = search (rules, line_fits, line_short)
 
 returns-2 : tie.Need-returns-2
-returns-2 c = search (rules, bad-line)
+returns-2 c = search (rules, bad_line)
 
 returns-3 : tie.Need-returns-3
 returns-3 c =

@@ -2,7 +2,7 @@
 -- Assumes nothing.
 use mathlib.Core.Path.{sym, ◌∙◌}
 use borrow.Author.Rules.{rules}
-use Rattle.carry_event.proofs.Steps.{refused-concluded}
+use Rattle.carry_event.proofs.Steps.{refused_concluded}
 use Rattle.carry_event.proofs.conclude.Statement.{statement}
 use Rattle.carry_event.proofs.conclude.Tie as tie
 
@@ -13,7 +13,7 @@ same_length : tie.Need-same-length
 same_length c = search rules
 
 returns : tie.Need-returns
-returns c = refused-concluded _ _ _ _ _ _ _ _ _ _ c.before.before.before.before.if1.true c.before.before.refuse.ensures
+returns c = refused_concluded _ _ _ _ _ _ _ _ _ _ c.before.before.before.before.if1.true c.before.before.refuse.ensures
 
 is-lean-requires : tie.Need-is-lean-requires
 is-lean-requires c κs = search rules

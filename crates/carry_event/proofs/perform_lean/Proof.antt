@@ -6,8 +6,8 @@ use Rattle.server.specs.Layout.{table_of}
 use Rattle.plan.specs.Values.{values_of}
 use Rattle.plan.specs.declared.Values.{Values}
 use Rattle.plan.specs.Steps.{stepped}
-use Rattle.carry_output.proofs.Orders.{order-room, noop-room, answered}
-use Rattle.carry_event.proofs.Steps.{done-concluded, lean-wakes, lean-workloads}
+use Rattle.carry_output.proofs.Orders.{order_room, noop_room, answered}
+use Rattle.carry_event.proofs.Steps.{done_concluded, lean_wakes, lean_workloads}
 use Rattle.carry_event.proofs.perform_lean.Statement.{statement}
 use Rattle.carry_event.proofs.perform_lean.Tie as tie
 
@@ -31,7 +31,7 @@ send-order-requires c κs =
     let s = c.before.before.before.before.before.before.before.before.before.before.before.before.before in
     let v : Values = stepped s.args.plan.step (values_of (table_of connection_count s.args.table.now)) in
     let a = c.before.before.before.before.before.before.before.before.argument.ensures in
-    (s.requires.0, s.requires.1, s.requires.2, rw a s.requires.4.orderly, rw a (order-room _ _ _ _ _ _ _ v _ s.requires.4.room))
+    (s.requires.0, s.requires.1, s.requires.2, rw a s.requires.4.orderly, rw a (order_room _ _ _ _ _ _ _ v _ s.requires.4.room))
 
 wake-requires : tie.Need-wake-requires
 wake-requires c κs =
@@ -39,7 +39,7 @@ wake-requires c κs =
     let g = s.args in
     let v : Values = stepped g.plan.step (values_of (table_of connection_count g.table.now)) in
     let sent = rw c.before.before.before.before.before.before.before.before.before.before.before.before.argument.ensures at c.before.before.before.send-order.ensures in
-    noop-room _ _ _ _ _ _ _ v _ (lean-wakes g.plan g.table.now g.workloads.now g.packet.now g.c g.kind g.ends s.requires.7 _ c.before.before.before.before.before.before.before.of_step.ensures) _ _ _ sent.0 sent.1 s.requires.4.room
+    noop_room _ _ _ _ _ _ _ v _ (lean_wakes g.plan g.table.now g.workloads.now g.packet.now g.c g.kind g.ends s.requires.7 _ c.before.before.before.before.before.before.before.of_step.ensures) _ _ _ sent.0 sent.1 s.requires.4.room
 
 rework-requires : tie.Need-rework-requires
 rework-requires c κs =
@@ -73,10 +73,10 @@ returns c =
     let d = c.before.before.before.before.before.before.before.before.before.before.before.before.before.before.before.before.before.before.before.before.before.before.argument3.ensures in
     let o = c.before.before.before.before.before.before.before.before.before.before.before.before.before.before.before.before.before.before.before.before.before.opaque-in.ensures in
     let sent = rw a at c.before.before.before.before.before.before.before.before.before.before.before.before.before.before.before.send-order.ensures in
-    let woken = lean-wakes g.plan g.table.now g.workloads.now g.packet.now g.c g.kind g.ends s.requires.7 _ c.before.before.before.before.before.before.before.before.before.before.before.before.before.before.before.before.before.before.before.of_step.ensures in
+    let woken = lean_wakes g.plan g.table.now g.workloads.now g.packet.now g.c g.kind g.ends s.requires.7 _ c.before.before.before.before.before.before.before.before.before.before.before.before.before.before.before.before.before.before.before.of_step.ensures in
     let whole = answered _ _ _ _ _ _ _ v _ woken _ _ _ _ _ sent.0 sent.1 c.before.before.before.before.before.before.before.before.before.before.before.wake.ensures in
-    let work = lean-workloads g.plan g.table.now g.workloads.now g.packet.now g.c g.kind g.ends s.requires.7 _ o in
-    done-concluded _ _ _ _ _ _ _ _ _ _ _ _ s.requires.3 (whole.0, whole.1, rw (a, b, d) at c.before.before.carry.ensures, rw work at c.before.before.before.before.before.before.rework.ensures)
+    let work = lean_workloads g.plan g.table.now g.workloads.now g.packet.now g.c g.kind g.ends s.requires.7 _ o in
+    done_concluded _ _ _ _ _ _ _ _ _ _ _ _ s.requires.3 (whole.0, whole.1, rw (a, b, d) at c.before.before.carry.ensures, rw work at c.before.before.before.before.before.before.rework.ensures)
 
 pub perform_lean_spec : {M : Type 1} → statement M
 perform_lean_spec =

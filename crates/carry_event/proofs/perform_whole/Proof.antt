@@ -1,6 +1,6 @@
 -- `carry_event::perform_whole` meets its contract: each part is laid from the table and the workloads before the event. Assumes nothing.
 use borrow.Author.Rules.{rules}
-use Rattle.carry_event.proofs.Steps.{done-concluded, rows_are}
+use Rattle.carry_event.proofs.Steps.{done_concluded, rows_are}
 use Rattle.carry_event.proofs.perform_whole.Statement.{statement}
 use Rattle.carry_event.proofs.perform_whole.Tie as tie
 
@@ -65,7 +65,7 @@ returns c =
     let r = c.before.before.before.before.before.before.before.before.before.before.before.before.before.before.before.before.before.before.read_values.ensures in
     let o = c.before.before.before.before.before.before.before.before.before.before.before.before.before.before.before.before.before.before.before.before.opaque-in.ensures in
     let sent = rw (a, v, r) at c.before.before.before.before.before.before.before.before.before.before.before.before.answer.ensures in
-    done-concluded _ _ _ _ _ _ _ _ _ _ _ _ p.3
+    done_concluded _ _ _ _ _ _ _ _ _ _ _ _ p.3
     (sent.0, sent.1, rw (a, b, d, v, r) at c.before.before.carry.ensures, rw (o, c.before.before.before.before.before.before.before.dropped.ensures, rows_are _ _ r, v, r) at c.before.before.before.before.before.before.rework.ensures)
 
 pub perform_whole_spec : {M : Type 1} → statement M

@@ -1,7 +1,7 @@
 -- `carry_output::send_job` meets its contract: the job that the bytes hold is the one that the table has at the place. Assumes nothing.
 use mathlib.Core.Path.{refl}
-use Rattle.carry_output.proofs.Jobs.{function-inside, workload-inside}
-use Rattle.carry_output.proofs.Packets.{assign-fits, assign-is}
+use Rattle.carry_output.proofs.Jobs.{function_inside, workload_inside}
+use Rattle.carry_output.proofs.Packets.{assign_fits, assign_is}
 use Rattle.carry_output.proofs.Orders.{room_as, laid_as}
 use borrow.Author.Rules.{rules}
 use Rattle.carry_output.proofs.send_job.Statement.{statement}
@@ -22,7 +22,7 @@ add-text c = search rules
 text-requires : tie.Need-text-requires
 text-requires c κs =
     let p = c.before.before.before.before.before.requires in
-    search (rules, function-inside _ p.0 _ _ c.before.row_at.ensures p.3 p.4)
+    search (rules, function_inside _ p.0 _ _ c.before.row_at.ensures p.3 p.4)
 
 mul-text-2 : tie.Need-overflow-mul-text-2
 mul-text-2 c = search rules
@@ -51,7 +51,7 @@ part-workload-start c = search rules
 part-workload-end : tie.Need-slice-bounds-workload-end
 part-workload-end c =
     let p = c.before.before.before.before.before.before.before.before.requires in
-    search (rules, workload-inside _ p.0 _ _ c.before.before.before.before.row_at.ensures p.3 p.4)
+    search (rules, workload_inside _ p.0 _ _ c.before.before.before.before.row_at.ensures p.3 p.4)
 
 hub-of-requires : tie.Need-hub-of-requires
 hub-of-requires c κs = search rules
@@ -61,8 +61,8 @@ send-assign-requires c κs =
     let s = c.before.before.before.before.before.before.before.before.before.before.before in
     let p = s.requires in
     let row = c.before.before.before.before.before.before.before.row_at.ensures in
-    let f = assign-fits _ p.0 _ _ row p.3 p.4 _ _ _ _ _ p.2 c.before.hub-of.ensures c.before.before.before.before.before.text.ensures c.before.before.before.before.text2.ensures refl in
-    let e = assign-is _ p.0 _ _ row p.3 p.4 _ _ _ _ _ p.2 c.before.hub-of.ensures c.before.before.before.before.before.text.ensures c.before.before.before.before.text2.ensures refl s.args.c s.args.uniq in
+    let f = assign_fits _ p.0 _ _ row p.3 p.4 _ _ _ _ _ p.2 c.before.hub-of.ensures c.before.before.before.before.before.text.ensures c.before.before.before.before.text2.ensures refl in
+    let e = assign_is _ p.0 _ _ row p.3 p.4 _ _ _ _ _ p.2 c.before.hub-of.ensures c.before.before.before.before.before.text.ensures c.before.before.before.before.text2.ensures refl s.args.c s.args.uniq in
     (f.0, f.1, f.2, f.3, room_as _ _ _ e p.5)
 
 same_length : tie.Need-same-length
@@ -73,7 +73,7 @@ returns c =
     let s = c.before.before.before.before.before.before.before.before.before.before.before.before.before.before in
     let p = s.requires in
     laid_as _ _ _ _ _
-    (assign-is _ p.0 _ _ c.before.before.before.before.before.before.before.before.before.before.row_at.ensures p.3 p.4 _ _ _ _ _ p.2 c.before.before.before.before.hub-of.ensures c.before.before.before.before.before.before.before.before.text.ensures c.before.before.before.before.before.before.before.text2.ensures refl s.args.c s.args.uniq)
+    (assign_is _ p.0 _ _ c.before.before.before.before.before.before.before.before.before.before.row_at.ensures p.3 p.4 _ _ _ _ _ p.2 c.before.before.before.before.hub-of.ensures c.before.before.before.before.before.before.before.before.text.ensures c.before.before.before.before.before.before.before.text2.ensures refl s.args.c s.args.uniq)
     c.before.before.send-assign.ensures
 
 pub send_job_spec : {M : Type 1} → statement M

@@ -3,7 +3,7 @@ use mathlib.Core.Path.{sym}
 use mathlib.Core.List.{[], ◌∷◌}
 use native.Mathlib.Omega.{arith}
 use Rattle.packet.specs.Arguments.{join}
-use Rattle.carry_packet.proofs.Laid.{data_laid, message_room, rest-laid, three_long}
+use Rattle.carry_packet.proofs.Laid.{data_laid, message_room, rest_laid, three_long}
 use borrow.Author.Rules.{rules}
 use Rattle.carry_packet.proofs.assign.Statement.{statement}
 use Rattle.carry_packet.proofs.assign.Tie as tie
@@ -40,8 +40,8 @@ returns c =
     let f = s.args.function.now in
     let w = s.args.workload.now in
     data_laid s.args.at s.args.to 11 _ _ s.args.out.now (sym (three_long job f w)) _ _ c.before.before.before.before.before.before.before.before.before.before.before.before.before.before.put-heading.ensures _ _
-    (rest-laid job f (w ∷ []) _ _ _ _ c.before.before.before.before.before.before.before.before.before.before.put-argument.ensures _ _
-    (rest-laid f w [] _ _ _ _ c.before.before.before.before.before.before.put-argument2.ensures _ _ c.before.before.put.ensures))
+    (rest_laid job f (w ∷ []) _ _ _ _ c.before.before.before.before.before.before.before.before.before.before.put-argument.ensures _ _
+    (rest_laid f w [] _ _ _ _ c.before.before.before.before.before.before.put-argument2.ensures _ _ c.before.before.put.ensures))
 
 pub assign_spec : {M : Type 1} → statement M
 assign_spec =

@@ -3,7 +3,7 @@ use mathlib.Core.Path.{sym}
 use mathlib.Core.List.{[], ◌∷◌}
 use native.Mathlib.Omega.{arith}
 use Rattle.packet.specs.Arguments.{join}
-use Rattle.carry_packet.proofs.Laid.{data_laid, four_long, message_room, rest-laid}
+use Rattle.carry_packet.proofs.Laid.{data_laid, four_long, message_room, rest_laid}
 use borrow.Author.Rules.{rules}
 use Rattle.carry_packet.proofs.assign_uniq.Statement.{statement}
 use Rattle.carry_packet.proofs.assign_uniq.Tie as tie
@@ -47,9 +47,9 @@ returns c =
     let u = s.args.unique.now in
     let w = s.args.workload.now in
     data_laid s.args.at s.args.to 31 _ _ s.args.out.now (sym (four_long job f u w)) _ _ c.before.before.before.before.before.before.before.before.before.before.before.before.before.before.before.before.before.before.put-heading.ensures _ _
-    (rest-laid job f (u ∷ w ∷ []) _ _ _ _ c.before.before.before.before.before.before.before.before.before.before.before.before.before.before.put-argument.ensures _ _
-    (rest-laid f u (w ∷ []) _ _ _ _ c.before.before.before.before.before.before.before.before.before.before.put-argument2.ensures _ _
-    (rest-laid u w [] _ _ _ _ c.before.before.before.before.before.before.put-argument3.ensures _ _ c.before.before.put.ensures)))
+    (rest_laid job f (u ∷ w ∷ []) _ _ _ _ c.before.before.before.before.before.before.before.before.before.before.before.before.before.before.put-argument.ensures _ _
+    (rest_laid f u (w ∷ []) _ _ _ _ c.before.before.before.before.before.before.before.before.before.before.put-argument2.ensures _ _
+    (rest_laid u w [] _ _ _ _ c.before.before.before.before.before.before.put-argument3.ensures _ _ c.before.before.put.ensures)))
 
 pub assign_uniq_spec : {M : Type 1} → statement M
 assign_uniq_spec =

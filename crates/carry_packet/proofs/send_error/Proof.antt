@@ -7,8 +7,8 @@ use lib.ListN.{take}
 use lib.Seq.{length-take-le}
 use Rattle.octets.proofs.Runs.{laid_as}
 use Rattle.packet.specs.Arguments.{join}
-use Rattle.carry_packet.proofs.Answers.{error-message, error-room}
-use Rattle.carry_packet.proofs.Laid.{data_laid, rest-laid, two_long}
+use Rattle.carry_packet.proofs.Answers.{error_message, error_room}
+use Rattle.carry_packet.proofs.Laid.{data_laid, rest_laid, two_long}
 use borrow.Author.Rules.{rules}
 use Rattle.carry_packet.proofs.send_error.Statement.{statement}
 use Rattle.carry_packet.proofs.send_error.Tie as tie
@@ -32,13 +32,13 @@ add-put-heading : tie.Need-overflow-add-put-heading
 add-put-heading c = search rules
 
 put-heading-requires : tie.Need-put-heading-requires
-put-heading-requires c κs = let s = c.before.before.before.before.before in (omega arith, omega (arith, error-room s.args.to s.args.number _ _ c.before.before.before.error-text.ensures c.before.first-zero.ensures.0 s.args.at _ c.before.first-zero.ensures.1 s.requires.1))
+put-heading-requires c κs = let s = c.before.before.before.before.before in (omega arith, omega (arith, error_room s.args.to s.args.number _ _ c.before.before.before.error-text.ensures c.before.first-zero.ensures.0 s.args.at _ c.before.first-zero.ensures.1 s.requires.1))
 
 slice-aggregate-put-argument : tie.Need-slice-aggregate-put-argument
 slice-aggregate-put-argument c = search rules
 
 put-argument-requires : tie.Need-put-argument-requires
-put-argument-requires c κs = let s = c.before.before.before.before.before.before.before.before.before.before in omega (arith, error-room s.args.to s.args.number _ _ c.before.before.before.before.before.before.before.before.error-text.ensures c.before.before.before.before.before.before.first-zero.ensures.0 s.args.at _ c.before.before.before.before.before.before.first-zero.ensures.1 s.requires.1)
+put-argument-requires c κs = let s = c.before.before.before.before.before.before.before.before.before.before in omega (arith, error_room s.args.to s.args.number _ _ c.before.before.before.before.before.before.before.before.error-text.ensures c.before.before.before.before.before.before.first-zero.ensures.0 s.args.at _ c.before.before.before.before.before.before.first-zero.ensures.1 s.requires.1)
 
 array-share-prefix-text : tie.Need-array-share-prefix-text
 array-share-prefix-text c = search rules
@@ -47,7 +47,7 @@ slice-aggregate-put : tie.Need-slice-aggregate-put
 slice-aggregate-put c = sym (length-take-le _ _ c.before.before.before.before.before.before.before.before.before.before.before.first-zero.ensures.1)
 
 put-requires : tie.Need-put-requires
-put-requires c κs = let s = c.before.before.before.before.before.before.before.before.before.before.before.before.before.before.before in rw (length-take-le _ _ c.before.before.before.before.before.before.before.before.before.before.before.first-zero.ensures.1) (omega (arith, error-room s.args.to s.args.number _ _ c.before.before.before.before.before.before.before.before.before.before.before.before.before.error-text.ensures c.before.before.before.before.before.before.before.before.before.before.before.first-zero.ensures.0 s.args.at _ c.before.before.before.before.before.before.before.before.before.before.before.first-zero.ensures.1 s.requires.1))
+put-requires c κs = let s = c.before.before.before.before.before.before.before.before.before.before.before.before.before.before.before in rw (length-take-le _ _ c.before.before.before.before.before.before.before.before.before.before.before.first-zero.ensures.1) (omega (arith, error_room s.args.to s.args.number _ _ c.before.before.before.before.before.before.before.before.before.before.before.before.before.error-text.ensures c.before.before.before.before.before.before.before.before.before.before.before.first-zero.ensures.0 s.args.at _ c.before.before.before.before.before.before.before.before.before.before.before.first-zero.ensures.1 s.requires.1))
 
 same_length : tie.Need-same-length
 same_length c = search rules
@@ -60,9 +60,9 @@ returns c =
     let digits = ((s.args.number / 10 + 48) ∷ (s.args.number % 10 + 48) ∷ []) in
     let text = c.before.before.before.before.before.before.before.before.before.before.before.before.before.before.before.before.error-text.result in
     let size = c.before.before.before.before.before.before.before.before.before.before.before.before.before.before.first-zero.result in
-    laid_as _ _ (error-message s.args.to s.args.number _ _ c.before.before.before.before.before.before.before.before.before.before.before.before.before.before.before.before.error-text.ensures z.0) _ _ _ _
+    laid_as _ _ (error_message s.args.to s.args.number _ _ c.before.before.before.before.before.before.before.before.before.before.before.before.before.before.before.before.error-text.ensures z.0) _ _ _ _
     (data_laid s.args.at s.args.to 19 _ _ s.args.out.now (omega (arith, two_long digits (take size text), length-take-le size text z.1)) _ _ c.before.before.before.before.before.before.before.before.before.before.before.before.put-heading.ensures _ _
-    (rest-laid digits (take size text) [] _ _ _ _ c.before.before.before.before.before.before.before.put-argument.ensures _ _ c.before.before.put.ensures))
+    (rest_laid digits (take size text) [] _ _ _ _ c.before.before.before.before.before.before.before.put-argument.ensures _ _ c.before.before.put.ensures))
 
 pub send_error_spec : {M : Type 1} → statement M
 send_error_spec =

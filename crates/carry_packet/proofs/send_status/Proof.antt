@@ -5,7 +5,7 @@ use Rattle.octets.proofs.Runs.{laid_as}
 use Rattle.packet.specs.Arguments.{join}
 use Rattle.packet_laws.proofs.Splitting.{text_short}
 use Rattle.carry_packet.proofs.Answers.{digits_short, status_message, status_room_lem}
-use Rattle.carry_packet.proofs.Laid.{data_laid, five_long, rest-laid}
+use Rattle.carry_packet.proofs.Laid.{data_laid, five_long, rest_laid}
 use borrow.Author.Rules.{rules}
 use Rattle.carry_packet.proofs.send_status.Statement.{statement}
 use Rattle.carry_packet.proofs.send_status.Tie as tie
@@ -63,10 +63,10 @@ returns c =
     let d = s.args.denominator.now in
     laid_as _ _ (status_message s.args.to h n d s.args.known s.args.running _ _ c.before.before.before.before.before.before.before.before.before.before.before.before.before.before.before.before.before.before.before.before.before.before.before.before.before.before.before.flag.ensures c.before.before.before.before.before.before.before.before.before.before.before.before.before.before.before.before.before.before.before.before.before.before.before.before.before.before.flag2.ensures) s.args.at _ _ s.args.out.now
     (data_laid s.args.at s.args.to 20 _ _ s.args.out.now (omega (arith, five_long h k r n d)) _ _ c.before.before.before.before.before.before.before.before.before.before.before.before.before.before.before.before.before.before.before.before.before.before.before.before.put-heading.ensures _ _
-    (rest-laid h k (r ∷ n ∷ d ∷ []) _ _ _ _ c.before.before.before.before.before.before.before.before.before.before.before.before.before.before.before.before.before.before.before.before.put-argument.ensures _ _
-    (rest-laid k r (n ∷ d ∷ []) _ _ _ _ c.before.before.before.before.before.before.before.before.before.before.before.before.before.before.before.put-argument2.ensures _ _
-    (rest-laid r n (d ∷ []) _ _ _ _ c.before.before.before.before.before.before.before.before.before.before.put-argument3.ensures _ _
-    (rest-laid n d [] _ _ _ _ c.before.before.before.before.before.before.put-argument4.ensures _ _ c.before.before.put.ensures)))))
+    (rest_laid h k (r ∷ n ∷ d ∷ []) _ _ _ _ c.before.before.before.before.before.before.before.before.before.before.before.before.before.before.before.before.before.before.before.before.put-argument.ensures _ _
+    (rest_laid k r (n ∷ d ∷ []) _ _ _ _ c.before.before.before.before.before.before.before.before.before.before.before.before.before.before.before.put-argument2.ensures _ _
+    (rest_laid r n (d ∷ []) _ _ _ _ c.before.before.before.before.before.before.before.before.before.before.put-argument3.ensures _ _
+    (rest_laid n d [] _ _ _ _ c.before.before.before.before.before.before.put-argument4.ensures _ _ c.before.before.put.ensures)))))
 
 pub send_status_spec : {M : Type 1} → statement M
 send_status_spec =

@@ -6,7 +6,7 @@ use lib.ListN.{length, get_or}
 use Rattle.server.specs.Sizes.{connection_count}
 use Rattle.server.specs.Table.{closed}
 use Rattle.carry_places.specs.Laying.{laid_flags, laid_each}
-use Rattle.carry_places.proofs.Each.{each_turn, each-end}
+use Rattle.carry_places.proofs.Each.{each_turn, each_end}
 use borrow.Author.Rules.{rules}
 use Rattle.carry_places.proofs.put_connections.Statement.{statement}
 use Rattle.carry_places.proofs.put_connections.Tie as tie
@@ -47,7 +47,7 @@ same_length c = search rules
 returns : tie.Need-returns invariant-loop decreases-loop
 returns c =
     let a = c.before.before.before.args in
-    each-end (λ i. laid_flags i (get_or a.t2 i closed)) connection_count c.before.loop.c _ _ (omega arith) c.before.loop.invariant.2
+    each_end (λ i. laid_flags i (get_or a.t2 i closed)) connection_count c.before.loop.c _ _ (omega arith) c.before.loop.invariant.2
 
 pub put_connections_spec : {M : Type 1} → statement M
 put_connections_spec =

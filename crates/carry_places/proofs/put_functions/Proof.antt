@@ -6,7 +6,7 @@ use lib.ListN.{length, get_or}
 use mathlib.Core.Bool.{false}
 use Rattle.server.specs.Sizes.{function_count}
 use Rattle.carry_places.specs.Laying.{laid_function, laid_each}
-use Rattle.carry_places.proofs.Each.{each_turn, each-end}
+use Rattle.carry_places.proofs.Each.{each_turn, each_end}
 use borrow.Author.Rules.{rules}
 use Rattle.carry_places.proofs.put_functions.Statement.{statement}
 use Rattle.carry_places.proofs.put_functions.Tie as tie
@@ -50,7 +50,7 @@ same_length c = search rules
 returns : tie.Need-returns invariant-loop decreases-loop
 returns c =
     let a = c.before.before.before.args in
-    each-end (λ k. laid_function (get_or a.t2 k false) (get_or a.t3 k 0) k) function_count c.before.loop.q _ _ (omega arith) c.before.loop.invariant.2
+    each_end (λ k. laid_function (get_or a.t2 k false) (get_or a.t3 k 0) k) function_count c.before.loop.q _ _ (omega arith) c.before.loop.invariant.2
 
 pub put_functions_spec : {M : Type 1} → statement M
 put_functions_spec =

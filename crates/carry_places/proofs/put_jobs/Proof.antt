@@ -6,7 +6,7 @@ use lib.ListN.{length, get_or}
 use Rattle.server.specs.Sizes.{job_count}
 use Rattle.server.specs.Table.{no_row}
 use Rattle.carry_places.specs.Laying.{laid_job, laid_each}
-use Rattle.carry_places.proofs.Each.{each_turn, each-end}
+use Rattle.carry_places.proofs.Each.{each_turn, each_end}
 use borrow.Author.Rules.{rules}
 use Rattle.carry_places.proofs.put_jobs.Statement.{statement}
 use Rattle.carry_places.proofs.put_jobs.Tie as tie
@@ -39,7 +39,7 @@ loop-again : tie.Need-loop-preserved invariant-loop decreases-loop
 loop-again c =
     let l = c.before.before.before.before.before.before.loop in
     let a = c.before.before.before.before.before.before.before.before.args in
-    (omega arith, search rules, each_turn (λ k. laid_job (get_or a.t2 k no_row) k) job_count l.p _ _ _ c.before.before.before.before.before.loop-test.true l.invariant.2 c.before.before.put-job.ensures)
+    (omega arith, search rules, each_turn (λ k. laid_job (get_or a.t2 k no_row) k) job_count l.p _ _ _ c.before.before.before.before.before.loop-test.true l.invariant.2 c.before.before.put_job.ensures)
 
 same_length : tie.Need-same-length invariant-loop decreases-loop
 same_length c = search rules
@@ -47,7 +47,7 @@ same_length c = search rules
 returns : tie.Need-returns invariant-loop decreases-loop
 returns c =
     let a = c.before.before.before.args in
-    each-end (λ k. laid_job (get_or a.t2 k no_row) k) job_count c.before.loop.p _ _ (omega arith) c.before.loop.invariant.2
+    each_end (λ k. laid_job (get_or a.t2 k no_row) k) job_count c.before.loop.p _ _ (omega arith) c.before.loop.invariant.2
 
 pub put_jobs_spec : {M : Type 1} → statement M
 put_jobs_spec =

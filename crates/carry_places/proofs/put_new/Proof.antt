@@ -29,7 +29,7 @@ same_length : tie.Need-same-length
 same_length c = search rules
 
 returns : tie.Need-returns
-returns c = c.before.before.put-numbers.ensures ∙ rw (c.before.before.before.before.before.before.before.before.put-text.ensures, c.before.before.before.before.before.before.before.before.before.before.before.before.put-name.ensures)
+returns c = c.before.before.put_numbers.ensures ∙ rw (c.before.before.before.before.before.before.before.before.put-text.ensures, c.before.before.before.before.before.before.before.before.before.before.before.before.put_name.ensures)
 
 pub put_new_spec : {M : Type 1} → statement M
 put_new_spec =

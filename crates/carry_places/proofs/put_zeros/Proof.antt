@@ -26,7 +26,7 @@ same_length c = search rules
 
 returns : tie.Need-returns
 unfolding laid_zeros
-returns c = c.before.before.put-numbers.ensures ∙ rw (← add-one c.before.before.before.before.before.before.before.before.before.before.args.c, c.before.before.before.before.before.before.if1.true)
+returns c = c.before.before.put_numbers.ensures ∙ rw (← add-one c.before.before.before.before.before.before.before.before.before.before.args.c, c.before.before.before.before.before.before.if1.true)
 
 returns-2 : tie.Need-returns-2
 unfolding laid_zeros

@@ -10,7 +10,7 @@ use Rattle.server.specs.declared.JobRow.{JobRow}
 use Rattle.server.specs.Table.{no_row, held_by}
 use Rattle.carry_places.specs.Laying.{laid_zeros, laid_each}
 use Rattle.carry_places.specs.Written.{laid_returned}
-use Rattle.carry_places.proofs.Each.{each_turn, each-end}
+use Rattle.carry_places.proofs.Each.{each_turn, each_end}
 use borrow.Author.Rules.{rules}
 use Rattle.carry_places.proofs.reset_held.Statement.{statement}
 use Rattle.carry_places.proofs.reset_held.Tie as tie
@@ -54,7 +54,7 @@ same_length c = search rules
 returns : tie.Need-returns invariant-loop decreases-loop
 returns c =
     let a = c.before.before.before.before.before.args in
-    each-end (λ k. laid_zeros (held_by a.c (get_or c.before.before.read-rows.result k no_row)) k) job_count c.before.loop.p _ _ (omega arith) c.before.loop.invariant.2
+    each_end (λ k. laid_zeros (held_by a.c (get_or c.before.before.read-rows.result k no_row)) k) job_count c.before.loop.p _ _ (omega arith) c.before.loop.invariant.2
     ∙ ap (λ (rs : List JobRow). laid_returned a.c rs a.table.now) c.before.before.read-rows.ensures
 
 pub reset_held_spec : {M : Type 1} → statement M

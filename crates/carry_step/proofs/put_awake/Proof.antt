@@ -6,7 +6,7 @@ use borrow.Author.Rules.{rules}
 use lib.ListN.{length}
 use Rattle.server.specs.Sizes.{connection_count}
 use Rattle.carry_places.specs.Laying.{laid_each}
-use Rattle.carry_places.proofs.Each.{each_turn, each-end}
+use Rattle.carry_places.proofs.Each.{each_turn, each_end}
 use Rattle.carry_step.specs.Laying.{laid_if_woken}
 use Rattle.carry_step.proofs.Laid.{none_awake}
 use Rattle.carry_step.proofs.put_awake.Statement.{statement}
@@ -42,7 +42,7 @@ same_length : tie.Need-same-length invariant-loop decreases-loop
 same_length c = search rules
 
 returns-2 : tie.Need-returns-2 invariant-loop decreases-loop
-returns-2 c = each-end (laid_if_woken c.before.before.before.before.args.woken) connection_count c.before.loop.c _ _ (omega arith) c.before.loop.invariant.2
+returns-2 c = each_end (laid_if_woken c.before.before.before.before.args.woken) connection_count c.before.loop.c _ _ (omega arith) c.before.loop.invariant.2
 
 pub put_awake_spec : {M : Type 1} → statement M
 put_awake_spec =

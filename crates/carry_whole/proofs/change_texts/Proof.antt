@@ -1,7 +1,7 @@
 -- `carry_whole::change_texts` meets its contract, by the cases of the change and the law of each. Assumes nothing.
 use mathlib.Core.Path.{◌∙◌}
 use borrow.Author.Rules.{rules}
-use Rattle.carry_whole.proofs.Laid.{nothing_laid, name-laid, job-laid, texts-laid, id-laid, left_laid}
+use Rattle.carry_whole.proofs.Laid.{nothing_laid, name_laid, job_laid, texts_laid, id_laid, left_laid}
 use Rattle.carry_whole.proofs.change_texts.Statement.{statement}
 use Rattle.carry_whole.proofs.change_texts.Tie as tie
 
@@ -64,7 +64,7 @@ returns-2 c =
     let p = c.before.before.before.before.before.before.before.before.before.before.before.requires in
     let e = c.before.before.before.before.before.change.given.1 in
     let f = rw e at p.2 in
-    c.before.before.put-name.ensures ∙ name-laid _ p.0 _ _ _ _ _ e f.0
+    c.before.before.put_name.ensures ∙ name_laid _ p.0 _ _ _ _ _ e f.0
 
 same-length-2 : tie.Need-same-length-2
 same-length-2 c = search rules
@@ -74,7 +74,7 @@ returns-3 c =
     let p = c.before.before.before.before.before.before.before.before.before.before.before.requires in
     let e = c.before.before.before.before.before.change2.given.1 in
     let f = rw e at p.2 in
-    c.before.before.put-new.ensures ∙ job-laid _ p.0 _ _ _ _ _ _ e f.0 f.1
+    c.before.before.put-new.ensures ∙ job_laid _ p.0 _ _ _ _ _ _ e f.0 f.1
 
 same-length-3 : tie.Need-same-length-3
 same-length-3 c = search rules
@@ -84,7 +84,7 @@ returns-4 c =
     let p = c.before.before.before.before.before.before.before.before.before.before.before.requires in
     let e = c.before.before.before.before.before.change3.given.1 in
     let f = rw e at p.2 in
-    c.before.before.put-numbers.ensures ∙ texts-laid _ p.0 _ _ _ _ _ e f.0
+    c.before.before.put_numbers.ensures ∙ texts_laid _ p.0 _ _ _ _ _ e f.0
 
 same-length-4 : tie.Need-same-length-4
 same-length-4 c = search rules
@@ -94,7 +94,7 @@ returns-5 c =
     let p = c.before.before.before.before.before.before.before.before.before.before.before.requires in
     let e = c.before.before.before.before.before.change4.given.1 in
     let f = rw e at p.2 in
-    c.before.before.put_id.ensures ∙ id-laid _ p.0 _ _ _ _ _ e f.0
+    c.before.before.put_id.ensures ∙ id_laid _ p.0 _ _ _ _ _ e f.0
 
 same-length-5 : tie.Need-same-length-5
 same-length-5 c = search rules

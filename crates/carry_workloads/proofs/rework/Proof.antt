@@ -11,7 +11,7 @@ use Rattle.lists.specs.Lists.{concat, numbers}
 use Rattle.server.specs.Sizes.{job_count}
 use Rattle.server.specs.Call.{place_of}
 use Rattle.carry_workloads.specs.Reworked.{reworked_rows}
-use Rattle.carry_workloads.proofs.Places.{rework-more, rework-all}
+use Rattle.carry_workloads.proofs.Places.{rework_more, rework_all}
 use Rattle.carry_workloads.proofs.rework.Statement.{statement}
 use Rattle.carry_workloads.proofs.rework.Tie as tie
 
@@ -51,13 +51,13 @@ loop-again c =
     let test = c.before.before.before.before.before.before.loop-test.true in
     let start = c.before.before.before.before.before.before.before.before.before.before in
     let a = start.args in
-    (omega arith, search rules, rework-more 32 a.workloads.now a.t2 a.t3 a.opaque.now start.requires.0 (search rules) (search rules) _ _ _ test l.invariant.2 c.before.before.rework-place.ensures)
+    (omega arith, search rules, rework_more 32 a.workloads.now a.t2 a.t3 a.opaque.now start.requires.0 (search rules) (search rules) _ _ _ test l.invariant.2 c.before.before.rework-place.ensures)
 
 same_length : tie.Need-same-length invariant-loop decreases-loop
 same_length c = search rules
 
 returns : tie.Need-returns invariant-loop decreases-loop
-returns c = search (rules, rework-all)
+returns c = search (rules, rework_all)
 
 pub rework_spec : {M : Type 1} → statement M
 rework_spec =

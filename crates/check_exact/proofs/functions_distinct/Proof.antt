@@ -7,9 +7,9 @@ use Rattle.lists.specs.Lists.{all, numbers}
 use Rattle.server.specs.Sizes.{connection_count, function_count}
 use Rattle.server.specs.Layout.{function_in}
 use Rattle.server.specs.Rules.{names_apart}
-use Rattle.table_passes.proofs.Tests.{each_on, each-end}
-use Rattle.table_passes.proofs.Pairs.{pairs-each}
-use Rattle.table_passes.proofs.Rows.{functions-pairs}
+use Rattle.table_passes.proofs.Tests.{each_on, each_end}
+use Rattle.table_passes.proofs.Pairs.{pairs_each}
+use Rattle.table_passes.proofs.Rows.{functions_pairs}
 use Rattle.check_exact.proofs.functions_distinct.Statement.{statement}
 use Rattle.check_exact.proofs.functions_distinct.Tie as tie
 
@@ -42,8 +42,8 @@ returns : tie.Need-returns invariant-loop decreases-loop
 returns c =
     let l = c.before.loop in
     let b = c.before.before.before.args.table.now in
-    each-end (λ i. all (λ k. names_apart (function_in connection_count b i) (function_in connection_count b k)) (numbers (i + 1) (16 - (i + 1)))) 16 l.q l.ok l.invariant.1 l.invariant.0 (omega arith)
-    ∙ pairs-each (λ i k. names_apart (function_in connection_count b i) (function_in connection_count b k)) 16 ∙ sym (functions-pairs connection_count b names_apart)
+    each_end (λ i. all (λ k. names_apart (function_in connection_count b i) (function_in connection_count b k)) (numbers (i + 1) (16 - (i + 1)))) 16 l.q l.ok l.invariant.1 l.invariant.0 (omega arith)
+    ∙ pairs_each (λ i k. names_apart (function_in connection_count b i) (function_in connection_count b k)) 16 ∙ sym (functions_pairs connection_count b names_apart)
 
 pub functions_distinct_spec : {M : Type 1} → statement M
 functions_distinct_spec =

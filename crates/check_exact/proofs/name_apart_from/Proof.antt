@@ -7,7 +7,7 @@ use Rattle.lists.specs.Lists.{all, numbers}
 use Rattle.server.specs.Sizes.{connection_count}
 use Rattle.server.specs.Layout.{function_in}
 use Rattle.server.specs.Rules.{names_apart}
-use Rattle.table_passes.proofs.Pairs.{later-on, later-end}
+use Rattle.table_passes.proofs.Pairs.{later_on, later_end}
 use Rattle.check_exact.proofs.name_apart_from.Statement.{statement}
 use Rattle.check_exact.proofs.name_apart_from.Tie as tie
 
@@ -40,14 +40,14 @@ loop-again c =
     let l = c.before.before.loop in
     let a = c.before.before.before.before.args in
     let b = a.table.now in
-    (omega arith, omega arith, later-on (λ i. names_apart (function_in connection_count b a.q) (function_in connection_count b i)) (a.q + 1) 16 l.k l.ok _ l.invariant.2 l.invariant.0 c.names_apart.ensures)
+    (omega arith, omega arith, later_on (λ i. names_apart (function_in connection_count b a.q) (function_in connection_count b i)) (a.q + 1) 16 l.k l.ok _ l.invariant.2 l.invariant.0 c.names_apart.ensures)
 
 returns : tie.Need-returns invariant-loop decreases-loop
 returns c =
     let l = c.before.loop in
     let a = c.before.before.before.args in
     let b = a.table.now in
-    later-end (λ i. names_apart (function_in connection_count b a.q) (function_in connection_count b i)) (a.q + 1) 16 l.k l.ok l.invariant.2 l.invariant.1 (omega arith)
+    later_end (λ i. names_apart (function_in connection_count b a.q) (function_in connection_count b i)) (a.q + 1) 16 l.k l.ok l.invariant.2 l.invariant.1 (omega arith)
 
 pub name_apart_from_spec : {M : Type 1} → statement M
 name_apart_from_spec =

@@ -8,8 +8,8 @@ use Rattle.lists.specs.Lists.{all, numbers}
 use Rattle.server.specs.Sizes.{connection_count, job_count}
 use Rattle.server.specs.Layout.{job_in, table_of}
 use Rattle.server.specs.Rules.{together}
-use Rattle.table_passes.proofs.Tests.{each_on, each-end}
-use Rattle.table_passes.proofs.Rows.{jobs-all}
+use Rattle.table_passes.proofs.Tests.{each_on, each_end}
+use Rattle.table_passes.proofs.Rows.{jobs_all}
 use Rattle.check_exact.proofs.sizes_within.Statement.{statement}
 use Rattle.check_exact.proofs.sizes_within.Tie as tie
 
@@ -41,8 +41,8 @@ returns : tie.Need-returns invariant-loop decreases-loop
 returns c =
     let l = c.before.loop in
     let b = c.before.before.before.args.table.now in
-    each-end (λ k. leb (together (table_of connection_count b) (job_in connection_count b k)) 1022) 32 l.p l.ok l.invariant.1 l.invariant.0 (omega arith)
-    ∙ sym (jobs-all connection_count b (λ j. leb (together (table_of connection_count b) j) 1022))
+    each_end (λ k. leb (together (table_of connection_count b) (job_in connection_count b k)) 1022) 32 l.p l.ok l.invariant.1 l.invariant.0 (omega arith)
+    ∙ sym (jobs_all connection_count b (λ j. leb (together (table_of connection_count b) j) 1022))
 
 pub sizes_within_spec : {M : Type 1} → statement M
 sizes_within_spec =

@@ -7,7 +7,7 @@ use Rattle.lists.specs.Lists.{all, numbers}
 use Rattle.server.specs.Sizes.{job_count, connection_count}
 use Rattle.server.specs.Layout.{job_in}
 use Rattle.server.specs.Rules.{uniques_apart}
-use Rattle.table_passes.proofs.Pairs.{later-on, later-end}
+use Rattle.table_passes.proofs.Pairs.{later_on, later_end}
 use Rattle.check_exact.proofs.unique_apart_from.Statement.{statement}
 use Rattle.check_exact.proofs.unique_apart_from.Tie as tie
 
@@ -40,14 +40,14 @@ loop-again c =
     let l = c.before.before.loop in
     let a = c.before.before.before.before.args in
     let b = a.table.now in
-    (omega arith, omega arith, later-on (λ i. uniques_apart (job_in connection_count b a.p) (job_in connection_count b i)) (a.p + 1) 32 l.k l.ok _ l.invariant.2 l.invariant.0 c.uniques-apart.ensures)
+    (omega arith, omega arith, later_on (λ i. uniques_apart (job_in connection_count b a.p) (job_in connection_count b i)) (a.p + 1) 32 l.k l.ok _ l.invariant.2 l.invariant.0 c.uniques-apart.ensures)
 
 returns : tie.Need-returns invariant-loop decreases-loop
 returns c =
     let l = c.before.loop in
     let a = c.before.before.before.args in
     let b = a.table.now in
-    later-end (λ i. uniques_apart (job_in connection_count b a.p) (job_in connection_count b i)) (a.p + 1) 32 l.k l.ok l.invariant.2 l.invariant.1 (omega arith)
+    later_end (λ i. uniques_apart (job_in connection_count b a.p) (job_in connection_count b i)) (a.p + 1) 32 l.k l.ok l.invariant.2 l.invariant.1 (omega arith)
 
 pub unique_apart_from_spec : {M : Type 1} → statement M
 unique_apart_from_spec =

@@ -2,7 +2,7 @@
 use borrow.Author.Rules.{rules}
 use Rattle.server.specs.Sizes.{connection_count}
 use Rattle.server.specs.Layout.{job_in}
-use Rattle.check_exact.proofs.Texts.{uniques-skip, uniques-compared}
+use Rattle.check_exact.proofs.Texts.{uniques_skip, uniques_compared}
 use Rattle.check_exact.proofs.uniques_apart.Statement.{statement}
 use Rattle.check_exact.proofs.uniques_apart.Tie as tie
 
@@ -28,7 +28,7 @@ returns : tie.Need-returns
 returns c =
     let a = c.before.before.before.before.before.before.args in
     let b = a.table.now in
-    uniques-skip (job_in connection_count b a.p) (job_in connection_count b a.k) _ _ c.before.before.before.before.serial.ensures c.before.before.before.serial2.ensures c.if1.true
+    uniques_skip (job_in connection_count b a.p) (job_in connection_count b a.k) _ _ c.before.before.before.before.serial.ensures c.before.before.before.serial2.ensures c.if1.true
 
 unique-requires : tie.Need-unique-requires
 unique-requires c κs = search rules
@@ -47,7 +47,7 @@ returns-2 c =
     let r = c.before.before.before.before in
     let a = r.before.before.before.before.before.before.args in
     let b = a.table.now in
-    uniques-compared (job_in connection_count b a.p) (job_in connection_count b a.k) _ _ r.before.before.before.before.serial.ensures r.before.before.before.serial2.ensures r.if1.false
+    uniques_compared (job_in connection_count b a.p) (job_in connection_count b a.k) _ _ r.before.before.before.before.serial.ensures r.before.before.before.serial2.ensures r.if1.false
     _ _ _ _ c.before.before.before.unique.ensures c.before.before.unique2.ensures c.before.unique3.ensures c.equal.ensures
 
 pub uniques_apart_spec : {M : Type 1} → statement M

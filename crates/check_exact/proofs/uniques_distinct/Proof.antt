@@ -7,9 +7,9 @@ use Rattle.lists.specs.Lists.{all, numbers}
 use Rattle.server.specs.Sizes.{connection_count, job_count}
 use Rattle.server.specs.Layout.{job_in}
 use Rattle.server.specs.Rules.{uniques_apart}
-use Rattle.table_passes.proofs.Tests.{each_on, each-end}
-use Rattle.table_passes.proofs.Pairs.{pairs-each}
-use Rattle.table_passes.proofs.Rows.{jobs-pairs}
+use Rattle.table_passes.proofs.Tests.{each_on, each_end}
+use Rattle.table_passes.proofs.Pairs.{pairs_each}
+use Rattle.table_passes.proofs.Rows.{jobs_pairs}
 use Rattle.check_exact.proofs.uniques_distinct.Statement.{statement}
 use Rattle.check_exact.proofs.uniques_distinct.Tie as tie
 
@@ -42,8 +42,8 @@ returns : tie.Need-returns invariant-loop decreases-loop
 returns c =
     let l = c.before.loop in
     let b = c.before.before.before.args.table.now in
-    each-end (λ i. all (λ k. uniques_apart (job_in connection_count b i) (job_in connection_count b k)) (numbers (i + 1) (32 - (i + 1)))) 32 l.p l.ok l.invariant.1 l.invariant.0 (omega arith)
-    ∙ pairs-each (λ i k. uniques_apart (job_in connection_count b i) (job_in connection_count b k)) 32 ∙ sym (jobs-pairs connection_count b uniques_apart)
+    each_end (λ i. all (λ k. uniques_apart (job_in connection_count b i) (job_in connection_count b k)) (numbers (i + 1) (32 - (i + 1)))) 32 l.p l.ok l.invariant.1 l.invariant.0 (omega arith)
+    ∙ pairs_each (λ i k. uniques_apart (job_in connection_count b i) (job_in connection_count b k)) 32 ∙ sym (jobs_pairs connection_count b uniques_apart)
 
 pub uniques_distinct_spec : {M : Type 1} → statement M
 uniques_distinct_spec =

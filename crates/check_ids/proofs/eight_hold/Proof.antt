@@ -1,6 +1,6 @@
 -- `check_ids::eight_hold` meets its contract. Places of zeros hold; else each place is asked byte by byte, and its connection's flag. Assumes nothing.
 use mathlib.Core.Path.{sym, ◌∙◌}
-use Rattle.check_ids.proofs.Ids.{zeros-hold, followed-hold}
+use Rattle.check_ids.proofs.Ids.{zeros_hold, followed_hold}
 use borrow.Author.Rules.{rules}
 use Rattle.check_ids.proofs.eight_hold.Statement.{statement}
 use Rattle.check_ids.proofs.eight_hold.Tie as tie
@@ -16,7 +16,7 @@ zeros-requires c κs = search rules
 
 returns : tie.Need-returns
 returns c = let s = c.before.before.before in
-    zeros-hold s.args.table.now s.requires.0 s.args.c s.requires.1 (sym c.before.zeros.ensures ∙ c.if1.true)
+    zeros_hold s.args.table.now s.requires.0 s.args.c s.requires.1 (sym c.before.zeros.ensures ∙ c.if1.true)
 
 sub-all-followed : tie.Need-overflow-sub-all-followed
 sub-all-followed c = search rules
@@ -29,7 +29,7 @@ only-open-requires c κs = search rules
 
 returns-2 : tie.Need-returns-2
 returns-2 c = let s = c.before.before.before.before.before in
-    followed-hold s.args.table.now s.requires.0 s.args.c s.requires.1 s.args.last.now _ _ s.requires.2 c.before.all-followed.ensures c.only_open_lem.ensures
+    followed_hold s.args.table.now s.requires.0 s.args.c s.requires.1 s.args.last.now _ _ s.requires.2 c.before.all-followed.ensures c.only_open_lem.ensures
 
 pub eight_hold_spec : {M : Type 1} → statement M
 eight_hold_spec =

@@ -5,7 +5,7 @@ use mathlib.Core.Path.{◌≡◌, refl, sym, ◌∙◌}
 use native.Mathlib.Omega.{arith}
 use Rattle.lists.specs.Lists.{all, numbers}
 use Rattle.server.specs.Sizes.{connection_count}
-use Rattle.table_passes.proofs.Tests.{and_same, all_later, each-end}
+use Rattle.table_passes.proofs.Tests.{and_same, all_later, each_end}
 use Rattle.check_ids.specs.Ids.{id_holds, last_before}
 use Rattle.check_ids.proofs.Ids.{all_hold}
 use borrow.Author.Rules.{rules}
@@ -38,7 +38,7 @@ loop-again c = let l = c.before.before.before.loop in
 returns : tie.Need-returns invariant-loop decreases-loop
 returns c = let l = c.before.loop in
     let s = c.before.before.before in
-    each-end (id_holds s.args.table.now) connection_count l.c l.ok l.invariant.3 l.invariant.0 (omega arith) ∙ all_hold s.args.table.now s.requires
+    each_end (id_holds s.args.table.now) connection_count l.c l.ok l.invariant.3 l.invariant.0 (omega arith) ∙ all_hold s.args.table.now s.requires
 
 pub ids_hold_spec : {M : Type 1} → statement M
 ids_hold_spec =

@@ -3,7 +3,7 @@ use Prim.Native.Nat.{◌≤◌, ◌-◌, ◌+◌}
 use mathlib.Core.Path.{◌≡◌, refl}
 use native.Mathlib.Omega.{arith}
 use Rattle.lists.specs.Lists.{all, numbers}
-use Rattle.table_passes.proofs.Tests.{each_on, each-end}
+use Rattle.table_passes.proofs.Tests.{each_on, each_end}
 use Rattle.check_ids.specs.Ids.{open_or_none}
 use borrow.Author.Rules.{rules}
 use Rattle.check_ids.proofs.only_open.Statement.{statement}
@@ -34,7 +34,7 @@ loop-again : tie.Need-loop-preserved invariant-loop decreases-loop
 loop-again c = search (rules, each_on)
 
 returns : tie.Need-returns invariant-loop decreases-loop
-returns c = search (rules, each-end)
+returns c = search (rules, each_end)
 
 pub only_open_spec : {M : Type 1} → statement M
 only_open_spec =

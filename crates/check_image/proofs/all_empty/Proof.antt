@@ -5,7 +5,7 @@ use native.Mathlib.Omega.{arith}
 use lib.Dec.{eqb}
 use Rattle.lists.specs.Lists.{all, numbers}
 use lib.ListN.{length}
-use Rattle.table_passes.proofs.Tests.{none_on, each-end}
+use Rattle.table_passes.proofs.Tests.{none_on, each_end}
 use Rattle.table_laws.proofs.Same.{field_inside}
 use Rattle.check_image.specs.Padded.{empty_at}
 use borrow.Author.Rules.{rules}
@@ -40,7 +40,7 @@ loop-again : tie.Need-loop-preserved invariant-loop decreases-loop
 loop-again c = search (rules, none_on)
 
 returns : tie.Need-returns invariant-loop decreases-loop
-returns c = search (rules, each-end)
+returns c = search (rules, each_end)
 
 pub all_empty_spec : {M : Type 1} → statement M
 all_empty_spec =

@@ -6,7 +6,7 @@ use borrow.Author.Rules.{rules}
 use lib.ListN.{get_or}
 use lib.Dec.{leb}
 use Rattle.lists.specs.Lists.{all, numbers}
-use Rattle.table_passes.proofs.Tests.{each_on, each-end}
+use Rattle.table_passes.proofs.Tests.{each_on, each_end}
 use Rattle.check_image.proofs.Places.{flags_each}
 use Rattle.check_image.proofs.flags.Statement.{statement}
 use Rattle.check_image.proofs.flags.Tie as tie
@@ -37,7 +37,7 @@ loop-again c = search (rules, each_on)
 
 returns : tie.Need-returns invariant-loop decreases-loop
 returns c = let l = c.before.loop in let a = c.before.before.args in
-    each-end (λ i. leb (get_or a.table.now (a.at + i) 0) 1) a.n l.k l.ok l.invariant.1 (omega arith) (omega arith) ∙ sym (flags_each a.n a.table.now a.at (omega arith))
+    each_end (λ i. leb (get_or a.table.now (a.at + i) 0) 1) a.n l.k l.ok l.invariant.1 (omega arith) (omega arith) ∙ sym (flags_each a.n a.table.now a.at (omega arith))
 
 pub flags_spec : {M : Type 1} → statement M
 flags_spec =

@@ -6,7 +6,7 @@ use borrow.Author.Rules.{rules}
 use lib.ListN.{get_or}
 use lib.Dec.{eqb}
 use Rattle.lists.specs.Lists.{all, numbers}
-use Rattle.table_passes.proofs.Tests.{none_on, each-end}
+use Rattle.table_passes.proofs.Tests.{none_on, each_end}
 use Rattle.check_image.specs.Padded.{last_or_followed}
 use Rattle.check_image.proofs.Places.{no_slack}
 use Rattle.check_image.proofs.followed.Statement.{statement}
@@ -60,7 +60,7 @@ loop-again c = let l = c.before.before.before.before.before.loop in
 returns : tie.Need-returns invariant-loop decreases-loop
 returns c = let l = c.before.loop in
     let a = c.before.before.before.args in
-    each-end (last_or_followed a.last.now a.table.now a.at) 64 l.k (eqb l.slack 0) l.invariant.1 (omega arith) (omega arith)
+    each_end (last_or_followed a.last.now a.table.now a.at) 64 l.k (eqb l.slack 0) l.invariant.1 (omega arith) (omega arith)
 
 pub followed_spec : {M : Type 1} → statement M
 followed_spec =

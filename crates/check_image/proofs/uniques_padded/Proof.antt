@@ -5,7 +5,7 @@ use native.Mathlib.Omega.{arith}
 use borrow.Author.Rules.{rules}
 use Rattle.lists.specs.Lists.{all, numbers}
 use Rattle.server.specs.Layout.{uniques_at}
-use Rattle.table_passes.proofs.Tests.{each_on, each-end}
+use Rattle.table_passes.proofs.Tests.{each_on, each_end}
 use Rattle.table_laws.specs.Tests.{are_padded}
 use Rattle.check_image.specs.Padded.{last_of64}
 use Rattle.check_image.proofs.Places.{padded_runs}
@@ -44,7 +44,7 @@ loop-again c = let l = c.before.before.before.loop in
 returns : tie.Need-returns invariant-loop decreases-loop
 returns c = let l = c.before.loop in
     let b = c.before.before.before.args.table.now in
-    each-end (λ k. are_padded 64 8 b (uniques_at + 512 * k)) 4 l.i l.ok l.invariant.1.1 (omega arith) (omega arith) ∙ padded_runs 64 8 4 b uniques_at
+    each_end (λ k. are_padded 64 8 b (uniques_at + 512 * k)) 4 l.i l.ok l.invariant.1.1 (omega arith) (omega arith) ∙ padded_runs 64 8 4 b uniques_at
 
 pub uniques_padded_spec : {M : Type 1} → statement M
 uniques_padded_spec =

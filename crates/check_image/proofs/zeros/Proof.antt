@@ -4,7 +4,7 @@ use mathlib.Core.Path.{◌≡◌, refl}
 use native.Mathlib.Omega.{arith}
 use lib.Dec.{eqb}
 use Rattle.lists.specs.Lists.{all, numbers}
-use Rattle.table_passes.proofs.Tests.{none_on, each-end}
+use Rattle.table_passes.proofs.Tests.{none_on, each_end}
 use Rattle.check_image.specs.Padded.{zero_at}
 use borrow.Author.Rules.{rules}
 use Rattle.check_image.proofs.zeros.Statement.{statement}
@@ -35,7 +35,7 @@ loop-again : tie.Need-loop-preserved invariant-loop decreases-loop
 loop-again c = search (rules, none_on)
 
 returns : tie.Need-returns invariant-loop decreases-loop
-returns c = search (rules, each-end)
+returns c = search (rules, each_end)
 
 pub zeros_spec : {M : Type 1} → statement M
 zeros_spec =

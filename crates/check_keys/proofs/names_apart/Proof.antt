@@ -4,7 +4,7 @@ use Prim.Native.Nat.{◌≤◌, ◌-◌, ◌+◌}
 use mathlib.Core.Path.{◌≡◌, refl}
 use native.Mathlib.Omega.{arith}
 use Rattle.lists.specs.Lists.{all, numbers}
-use Rattle.table_passes.proofs.Tests.{each_on, each-end}
+use Rattle.table_passes.proofs.Tests.{each_on, each_end}
 use Rattle.check_keys.specs.Keys.{differs}
 use Rattle.check_keys.proofs.names_apart.Statement.{statement}
 use Rattle.check_keys.proofs.names_apart.Tie as tie
@@ -37,7 +37,7 @@ loop-again c =
     (omega arith, each_on (λ k. all (differs w (k + 1)) (numbers 0 16)) 8 l.d l.ok _ l.invariant.1 c.names-apart-by.ensures)
 
 returns : tie.Need-returns invariant-loop decreases-loop
-returns c = search (rules, each-end)
+returns c = search (rules, each_end)
 
 pub names_apart_spec : {M : Type 1} → statement M
 names_apart_spec =

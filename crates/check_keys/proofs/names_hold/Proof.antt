@@ -1,7 +1,7 @@
 -- `check_keys::names_hold` meets its contract: at most one name, distinct keys, or what the exact rule says. Assumes nothing.
 use borrow.Author.Rules.{rules}
 use mathlib.Core.Path.{sym, ◌∙◌}
-use Rattle.check_keys.proofs.Distinct.{one-name-holds, name-keys-hold}
+use Rattle.check_keys.proofs.Distinct.{one_name_holds, name_keys_hold}
 use Rattle.check_keys.proofs.names_hold.Statement.{statement}
 use Rattle.check_keys.proofs.names_hold.Tie as tie
 
@@ -11,7 +11,7 @@ all-empty-requires c κs = search rules
 returns : tie.Need-returns
 returns c =
     let start = c.before.before.before in
-    sym (one-name-holds start.args.table.now start.requires.0 (sym c.before.all-empty.ensures ∙ c.if1.true))
+    sym (one_name_holds start.args.table.now start.requires.0 (sym c.before.all-empty.ensures ∙ c.if1.true))
 
 name-keys-requires : tie.Need-name-keys-requires
 name-keys-requires c κs = search rules
@@ -23,7 +23,7 @@ returns-2 : tie.Need-returns-2
 returns-2 c =
     let start = c.before.before.before.before.before.before.before in
     sym
-    (name-keys-hold start.args.table.now start.requires.0 start.requires.1 c.before.before.before.name-keys.result c.before.before.before.name-keys.ensures
+    (name_keys_hold start.args.table.now start.requires.0 start.requires.1 c.before.before.before.name-keys.result c.before.before.before.name-keys.ensures
     (sym c.before.names_apart.ensures ∙ c.if2.true))
 
 functions-distinct-requires : tie.Need-functions-distinct-requires

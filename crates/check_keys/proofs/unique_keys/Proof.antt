@@ -2,7 +2,7 @@
 use borrow.Author.Rules.{rules}
 use Prim.Native.Nat.{◌≤◌, ◌-◌}
 use Rattle.check_keys.specs.Keys.{unique_key}
-use Rattle.table_passes.proofs.Arrays.{Written, written-more, written}
+use Rattle.table_passes.proofs.Arrays.{Written, written_more, written}
 use Rattle.server.specs.Sizes.{job_count}
 use Rattle.check_keys.proofs.unique_keys.Statement.{statement}
 use Rattle.check_keys.proofs.unique_keys.Tie as tie
@@ -41,7 +41,7 @@ loop-less : tie.Need-loop-smaller invariant-loop decreases-loop
 loop-less c = search rules
 
 loop-again : tie.Need-loop-preserved invariant-loop decreases-loop
-loop-again c = search (rules, written-more)
+loop-again c = search (rules, written_more)
 
 returns : tie.Need-returns invariant-loop decreases-loop
 returns c = search (rules, written)

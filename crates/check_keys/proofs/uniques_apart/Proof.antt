@@ -5,7 +5,7 @@ use mathlib.Core.Path.{◌≡◌, refl}
 use native.Mathlib.Omega.{arith}
 use Rattle.lists.specs.Lists.{all, numbers}
 use Rattle.server.specs.Sizes.{job_count}
-use Rattle.table_passes.proofs.Tests.{each_on, each-end}
+use Rattle.table_passes.proofs.Tests.{each_on, each_end}
 use Rattle.check_keys.specs.Keys.{differs}
 use Rattle.check_keys.proofs.uniques_apart.Statement.{statement}
 use Rattle.check_keys.proofs.uniques_apart.Tie as tie
@@ -38,7 +38,7 @@ loop-again c =
     (omega arith, each_on (λ k. all (differs w (k + 1)) (numbers 0 job_count)) 16 l.d l.ok _ l.invariant.1 c.uniques-apart-by.ensures)
 
 returns : tie.Need-returns invariant-loop decreases-loop
-returns c = search (rules, each-end)
+returns c = search (rules, each_end)
 
 pub uniques_apart_spec : {M : Type 1} → statement M
 uniques_apart_spec =

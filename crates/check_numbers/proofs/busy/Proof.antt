@@ -5,7 +5,7 @@ use Prim.Native.Nat.{◌≤◌, ◌-◌, ℕ}
 use mathlib.Core.Path.{ap, ap₂, ◌∙◌}
 use native.Mathlib.Omega.{arith}
 use Rattle.sets.proofs.Laws.{zero_has}
-use Rattle.table_passes.proofs.Unions.{joins-on, joins-end}
+use Rattle.table_passes.proofs.Unions.{joins_on, joins_end}
 use Rattle.table_passes.specs.Unions.{Joined}
 use Rattle.check_numbers.specs.Numbers.{able_if}
 use borrow.Author.Rules.{rules}
@@ -44,12 +44,12 @@ loop-again : tie.Need-loop-preserved invariant-loop decreases-loop
 loop-again c = let l = c.before.before.before.before.before.loop in
     let a = c.before.before.before.before.before.before.before.args in
     let e = c.before.able-if.ensures ∙ ap₂ (λ (t : Bool) (y : ℕ). cond t y 0) c.before.before.before.has.ensures c.before.before.able.ensures in
-    (omega arith, λ x. ap (λ (y : ℕ). has y x) c.union.ensures ∙ joins-on (able_if a.table.now a.queued) 16 l.q l.s l.invariant.1 c.before.able-if.result e x)
+    (omega arith, λ x. ap (λ (y : ℕ). has y x) c.union.ensures ∙ joins_on (able_if a.table.now a.queued) 16 l.q l.s l.invariant.1 c.before.able-if.result e x)
 
 returns : tie.Need-returns invariant-loop decreases-loop
 returns c = let l = c.before.loop in
     let a = c.before.before.before.args in
-    joins-end (able_if a.table.now a.queued) 16 l.q l.s l.invariant.1 l.invariant.0 (omega arith)
+    joins_end (able_if a.table.now a.queued) 16 l.q l.s l.invariant.1 l.invariant.0 (omega arith)
 
 pub busy_spec : {M : Type 1} → statement M
 busy_spec =

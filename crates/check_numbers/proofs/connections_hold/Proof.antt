@@ -6,7 +6,7 @@ use mathlib.Core.Path.{◌≡◌, refl, ap}
 use native.Mathlib.Omega.{arith}
 use Rattle.lists.specs.Lists.{all, numbers}
 use Rattle.server.specs.Sizes.{connection_count}
-use Rattle.table_passes.proofs.Tests.{each_on, each-end}
+use Rattle.table_passes.proofs.Tests.{each_on, each_end}
 use Rattle.check_numbers.specs.Numbers.{connection_holds}
 use borrow.Author.Rules.{rules}
 use Rattle.check_numbers.proofs.connections_hold.Statement.{statement}
@@ -59,7 +59,7 @@ loop-again c = let l = c.before.before.before.before.before.before.loop in
 returns : tie.Need-returns invariant-loop decreases-loop
 returns c = let l = c.before.loop in
     let a = c.before.before.before.args in
-    ap (λ (t : Bool). ltb a.used (2 ^ connection_count) && t) (each-end (connection_holds a.table.now a.used a.busy) connection_count l.c l.ok l.invariant.1 l.invariant.0 (omega arith))
+    ap (λ (t : Bool). ltb a.used (2 ^ connection_count) && t) (each_end (connection_holds a.table.now a.used a.busy) connection_count l.c l.ok l.invariant.1 l.invariant.0 (omega arith))
 
 pub connections_hold_spec : {M : Type 1} → statement M
 connections_hold_spec =

@@ -4,7 +4,7 @@ use mathlib.Core.Path.{◌≡◌, refl}
 use native.Mathlib.Omega.{arith}
 use Rattle.lists.specs.Lists.{all, numbers}
 use Rattle.server.specs.Sizes.{function_count}
-use Rattle.table_passes.proofs.Tests.{each_on, each-end}
+use Rattle.table_passes.proofs.Tests.{each_on, each_end}
 use Rattle.check_numbers.specs.Numbers.{is_defined}
 use borrow.Author.Rules.{rules}
 use Rattle.check_numbers.proofs.functions_defined.Statement.{statement}
@@ -49,7 +49,7 @@ loop-again c = let l = c.before.before.before.before.before.loop in
     (omega arith, each_on (is_defined a.table.now a.named) 16 l.q l.ok c.agree.result l.invariant.1 (rw (c.agree.ensures, c.before.before.has.ensures, c.before.before.before.able.ensures)))
 
 returns : tie.Need-returns invariant-loop decreases-loop
-returns c = search (rules, each-end)
+returns c = search (rules, each_end)
 
 pub functions_defined_spec : {M : Type 1} → statement M
 functions_defined_spec =

@@ -5,7 +5,7 @@ use mathlib.Core.Path.{◌≡◌, refl, ap}
 use native.Mathlib.Omega.{arith}
 use Rattle.lists.specs.Lists.{all, numbers}
 use Rattle.server.specs.Sizes.{job_count}
-use Rattle.table_passes.proofs.Tests.{each_on, each-end}
+use Rattle.table_passes.proofs.Tests.{each_on, each_end}
 use Rattle.check_numbers.specs.Numbers.{serial_below}
 use borrow.Author.Rules.{rules}
 use Rattle.check_numbers.proofs.serials_below.Statement.{statement}
@@ -35,7 +35,7 @@ loop-again c = let l = c.before.before.loop in
     (omega arith, each_on (serial_below a.table.now a.last) 32 l.i l.ok (leb c.serial.result a.last) l.invariant.1 (ap (λ (x : ℕ). leb x a.last) c.serial.ensures))
 
 returns : tie.Need-returns invariant-loop decreases-loop
-returns c = search (rules, each-end)
+returns c = search (rules, each_end)
 
 pub serials_below_spec : {M : Type 1} → statement M
 serials_below_spec =

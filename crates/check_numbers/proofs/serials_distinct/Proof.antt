@@ -1,6 +1,6 @@
 -- `check_numbers::serials_distinct` meets its contract. Distinct residues are enough; else each two serials are compared, by their distance. Assumes nothing.
 use mathlib.Core.Path.{◌∙◌}
-use Rattle.check_numbers.proofs.Serials.{residues-distinct, apart-is}
+use Rattle.check_numbers.proofs.Serials.{residues_distinct, apart_is}
 use borrow.Author.Rules.{rules}
 use Rattle.check_numbers.proofs.serials_distinct.Statement.{statement}
 use Rattle.check_numbers.proofs.serials_distinct.Tie as tie
@@ -10,7 +10,7 @@ cast-if1 c = search rules
 
 returns : tie.Need-returns
 returns c = let s = c.before.before.before.before in
-    residues-distinct s.args.table.now s.args.v s.requires.1 c.if1.true
+    residues_distinct s.args.table.now s.args.v s.requires.1 c.if1.true
 
 serials-twice-requires : tie.Need-serials-twice-requires
 serials-twice-requires c κs = search rules
@@ -20,7 +20,7 @@ all-apart-requires c κs = search rules
 
 returns-2 : tie.Need-returns-2
 returns-2 c = let s = c.before.before.before.before.before.before.before in
-    c.All-apart.ensures ∙ apart-is s.args.table.now c.before.before.serials-twice.result c.before.before.serials-twice.ensures
+    c.All-apart.ensures ∙ apart_is s.args.table.now c.before.before.serials-twice.result c.before.before.serials-twice.ensures
 
 pub serials_distinct_spec : {M : Type 1} → statement M
 serials_distinct_spec =

@@ -1,7 +1,7 @@
 -- `check_numbers::serials_twice` meets its contract. The invariant: the serials passed stand in both runs. Assumes nothing.
 use Prim.Native.Nat.{◌≤◌, ◌-◌}
 use borrow.Author.Rules.{rules}
-use Rattle.table_passes.proofs.Arrays.{Written, written-more, written}
+use Rattle.table_passes.proofs.Arrays.{Written, written_more, written}
 use Rattle.server.specs.Sizes.{job_count}
 use Rattle.check_numbers.specs.Numbers.{serial_in}
 use Rattle.check_numbers.proofs.serials_twice.Statement.{statement}
@@ -41,7 +41,7 @@ loop-less : tie.Need-loop-smaller invariant-loop decreases-loop
 loop-less c = search rules
 
 loop-again : tie.Need-loop-preserved invariant-loop decreases-loop
-loop-again c = search (rules, written-more)
+loop-again c = search (rules, written_more)
 
 returns : tie.Need-returns invariant-loop decreases-loop
 returns c = search (rules, written)

@@ -7,8 +7,8 @@ use Rattle.server.specs.Sizes.{connection_count}
 use Rattle.server.specs.Layout.{table_of}
 use Rattle.server.specs.Rules.{functions_as_defined}
 use Rattle.table_passes.proofs.Tests.{and_same, and_fails}
-use Rattle.check_numbers.proofs.Connections.{connections-are}
-use Rattle.check_numbers.proofs.Functions.{defined-is}
+use Rattle.check_numbers.proofs.Connections.{connections_are}
+use Rattle.check_numbers.proofs.Functions.{defined_is}
 use borrow.Author.Rules.{rules}
 use Rattle.check_numbers.proofs.sets_hold.Statement.{statement}
 use Rattle.check_numbers.proofs.sets_hold.Tie as tie
@@ -44,11 +44,11 @@ returns c = let s = c.before.before.before.before.before.before.before.before.be
     let fits : c.before.before.before.before.before.union2.result < 4294967296 = omega arith in
     and_same
     (sym c.before.before.if1.true ∙ c.before.before.before.connections-hold.ensures
-    ∙ connections-are b s.requires.0 (λ k. omega (arith, known k)) s.requires.1 s.requires.2 s.args.v s.requires.3 _ _ _ _
+    ∙ connections_are b s.requires.0 (λ k. omega (arith, known k)) s.requires.1 s.requires.2 s.args.v s.requires.3 _ _ _ _
     c.before.before.before.before.before.before.before.before.joined.ensures c.before.before.before.before.before.before.before.joined2.ensures
     (c.before.before.before.before.before.union2.ensures ∙ ap (λ (x : ℕ). union x s.args.v.holding) c.before.before.before.before.before.before.union.ensures)
     c.before.before.before.before.busy.ensures fits)
-    (c.functions-defined.ensures ∙ defined-is b s.requires.2 s.args.v s.requires.3 s.requires.0 _ c.before.union3.ensures)
+    (c.functions-defined.ensures ∙ defined_is b s.requires.2 s.args.v s.requires.3 s.requires.0 _ c.before.union3.ensures)
 
 returns-2 : tie.Need-returns-2
 returns-2 c = let s = c.before.before.before.before.before.before.before.before in
@@ -57,7 +57,7 @@ returns-2 c = let s = c.before.before.before.before.before.before.before.before 
     let fits : c.before.before.before.union2.result < 4294967296 = omega arith in
     and_fails (functions_as_defined (table_of connection_count b))
     (sym c.if1.false ∙ c.before.connections-hold.ensures
-    ∙ connections-are b s.requires.0 (λ k. omega (arith, known k)) s.requires.1 s.requires.2 s.args.v s.requires.3 _ _ _ _
+    ∙ connections_are b s.requires.0 (λ k. omega (arith, known k)) s.requires.1 s.requires.2 s.args.v s.requires.3 _ _ _ _
     c.before.before.before.before.before.before.joined.ensures c.before.before.before.before.before.joined2.ensures
     (c.before.before.before.union2.ensures ∙ ap (λ (x : ℕ). union x s.args.v.holding) c.before.before.before.before.union.ensures)
     c.before.before.busy.ensures fits)

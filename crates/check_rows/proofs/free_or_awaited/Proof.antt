@@ -5,7 +5,7 @@ use native.Mathlib.Omega.{arith}
 use borrow.Author.Rules.{rules}
 use Rattle.lists.specs.Lists.{all, numbers}
 use Rattle.server.specs.Sizes.{job_count}
-use Rattle.table_passes.proofs.Tests.{each_on, each-end}
+use Rattle.table_passes.proofs.Tests.{each_on, each_end}
 use Rattle.check_rows.specs.Rows.{free_or_awaited}
 use Rattle.check_rows.proofs.free_or_awaited.Statement.{statement}
 use Rattle.check_rows.proofs.free_or_awaited.Tie as tie
@@ -32,7 +32,7 @@ loop-again : tie.Need-loop-preserved invariant-loop decreases-loop
 loop-again c = search (rules, each_on)
 
 returns : tie.Need-returns invariant-loop decreases-loop
-returns c = search (rules, each-end)
+returns c = search (rules, each_end)
 
 pub free_or_awaited_spec : {M : Type 1} → statement M
 free_or_awaited_spec =

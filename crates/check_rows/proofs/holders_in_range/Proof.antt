@@ -6,7 +6,7 @@ use borrow.Author.Rules.{rules}
 use lib.Dec.{leb}
 use Rattle.lists.specs.Lists.{all, numbers}
 use Rattle.server.specs.Sizes.{connection_count, job_count}
-use Rattle.table_passes.proofs.Tests.{each_on, each-end}
+use Rattle.table_passes.proofs.Tests.{each_on, each_end}
 use Rattle.check_rows.specs.Rows.{holder_in_range}
 use Rattle.check_rows.proofs.holders_in_range.Statement.{statement}
 use Rattle.check_rows.proofs.holders_in_range.Tie as tie
@@ -35,7 +35,7 @@ loop-again c = let l = c.before.before.loop in
     (omega arith, each_on (holder_in_range a.table.now) 32 l.i l.ok (leb c.holder.result connection_count) l.invariant.1 (ap (λ (x : ℕ). leb x connection_count) c.holder.ensures))
 
 returns : tie.Need-returns invariant-loop decreases-loop
-returns c = search (rules, each-end)
+returns c = search (rules, each_end)
 
 pub holders_in_range_spec : {M : Type 1} → statement M
 holders_in_range_spec =

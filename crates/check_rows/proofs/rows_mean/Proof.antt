@@ -2,7 +2,7 @@
 use mathlib.Core.Path.{refl, sym, ◌∙◌}
 use mathlib.Core.Bool.{true, false}
 use borrow.Author.Rules.{rules}
-use Rattle.check_rows.proofs.Rows.{rows-mean, out_of_range}
+use Rattle.check_rows.proofs.Rows.{rows_mean_lem, out_of_range}
 use Rattle.check_rows.proofs.rows_mean.Statement.{statement}
 use Rattle.check_rows.proofs.rows_mean.Tie as tie
 
@@ -27,7 +27,7 @@ free-or-awaited-requires c κs = search rules
 returns : tie.Need-returns
 returns c = let s = c.before.before.before.before.before.before.before.before.before.before.before.before in
     let x = c.before.before.before.before.before.before in
-    rows-mean s.args.table.now s.args.live.now x.marks4.result c.before.before.before.before.before.marks2.result c.before.before.before.before.marks22.result s.requires.2 x.marks4.ensures c.before.before.before.before.before.marks2.ensures c.before.before.before.before.marks22.ensures s.requires.0 s.requires.1 true true _
+    rows_mean_lem s.args.table.now s.args.live.now x.marks4.result c.before.before.before.before.before.marks2.result c.before.before.before.before.marks22.result s.requires.2 x.marks4.ensures c.before.before.before.before.before.marks2.ensures c.before.before.before.before.marks22.ensures s.requires.0 s.requires.1 true true _
     (sym c.before.before.before.before.before.before.before.before.before.if1.true ∙ c.before.before.before.before.before.before.before.before.before.before.bytes-in-range.ensures) (sym c.before.before.before.before.before.before.before.if2.true ∙ c.before.before.before.before.before.before.before.before.holders-in-range.ensures) c.free-or-awaited.ensures
 
 returns-2 : tie.Need-returns-2

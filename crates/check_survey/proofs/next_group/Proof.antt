@@ -1,6 +1,6 @@
 -- `check_survey::next_group` meets its contract: where all serials are zero the rows are free. Assumes nothing.
 use mathlib.Core.Path.{sym, ◌∙◌}
-use Rattle.check_survey.proofs.Walk.{rows-free}
+use Rattle.check_survey.proofs.Walk.{rows_free}
 use borrow.Author.Rules.{rules}
 use Rattle.check_survey.proofs.next_group.Statement.{statement}
 use Rattle.check_survey.proofs.next_group.Tie as tie
@@ -29,7 +29,7 @@ with-free-requires c κs = search rules
 returns : tie.Need-returns
 returns c = let a = c.before.before.before.before.before.args in
     let s = c.before.before.before.before.before in
-    rows-free a.table.now a.v c.with-free.result a.p c.before.all-empty.result s.requires.2 (sym c.before.before.before.zeros.ensures ∙ c.before.before.if1.true) c.before.all-empty.ensures c.with-free.ensures
+    rows_free a.table.now a.v c.with-free.result a.p c.before.all-empty.result s.requires.2 (sym c.before.before.before.zeros.ensures ∙ c.before.before.if1.true) c.before.all-empty.ensures c.with-free.ensures
 
 next-rows-requires : tie.Need-next-rows-requires
 next-rows-requires c κs = search rules

@@ -1,5 +1,5 @@
 -- `check_survey::next_row` meets its contract: a free row adds nothing but its unique; a job adds what it is. Assumes nothing.
-use Rattle.check_survey.proofs.Walk.{row-free, row-job}
+use Rattle.check_survey.proofs.Walk.{row_free, row_job}
 use borrow.Author.Rules.{rules}
 use Rattle.check_survey.proofs.next_row.Statement.{statement}
 use Rattle.check_survey.proofs.next_row.Tie as tie
@@ -20,7 +20,7 @@ with-free-requires : tie.Need-with-free-requires
 with-free-requires c κs = search rules
 
 returns : tie.Need-returns
-returns c = search (rules, row-free)
+returns c = search (rules, row_free)
 
 add-with-job : tie.Need-overflow-add-with-job
 add-with-job c = search rules
@@ -35,7 +35,7 @@ with-job-requires : tie.Need-with-job-requires
 with-job-requires c κs = search rules
 
 returns-2 : tie.Need-returns-2
-returns-2 c = search (rules, row-job)
+returns-2 c = search (rules, row_job)
 
 pub next_row_spec : {M : Type 1} → statement M
 next_row_spec =

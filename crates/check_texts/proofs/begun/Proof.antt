@@ -6,7 +6,7 @@ use native.Mathlib.Omega.{arith}
 use borrow.Author.Rules.{rules}
 use Rattle.lists.specs.Lists.{all, numbers}
 use Rattle.server.specs.Sizes.{job_count}
-use Rattle.table_passes.proofs.Tests.{each_on, each-end}
+use Rattle.table_passes.proofs.Tests.{each_on, each_end}
 use lib.ListN.{get_or}
 use lib.Dec.{eqb}
 use Rattle.check_texts.specs.Stored.{begins_with}
@@ -55,7 +55,7 @@ loop-again c = let l = c.before.before.before.before.before.before.loop in
     )
 
 returns : tie.Need-returns invariant-loop decreases-loop
-returns c = search (rules, each-end)
+returns c = search (rules, each_end)
 
 pub begun_spec : {M : Type 1} → statement M
 begun_spec =

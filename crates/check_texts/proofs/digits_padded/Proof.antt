@@ -7,7 +7,7 @@ use borrow.Author.Rules.{rules}
 use lib.ListN.{get_or}
 use lib.Dec.{eqb}
 use Rattle.lists.specs.Lists.{all, numbers}
-use Rattle.table_passes.proofs.Tests.{each_on, each-end}
+use Rattle.table_passes.proofs.Tests.{each_on, each_end}
 use Rattle.check_texts.specs.Stored.{digit_padded}
 use Rattle.check_texts.proofs.digits_padded.Statement.{statement}
 use Rattle.check_texts.proofs.digits_padded.Tie as tie
@@ -59,7 +59,7 @@ loop-again c = let l = c.before.before.before.before.before.loop in
     )
 
 returns : tie.Need-returns invariant-loop decreases-loop
-returns c = search (rules, each-end)
+returns c = search (rules, each_end)
 
 pub digits_padded_spec : {M : Type 1} → statement M
 digits_padded_spec =

@@ -2,7 +2,7 @@
 use mathlib.Core.Path.{ap, ◌∙◌}
 use borrow.Author.Rules.{rules}
 use lib.ListN.{get_or}
-use Rattle.table_passes.proofs.Tests.{same-below}
+use Rattle.table_passes.proofs.Tests.{same_below}
 use Rattle.check_texts.specs.Stored.{begins_at, begins_with}
 use Rattle.check_texts.proofs.numbers_begin.Statement.{statement}
 use Rattle.check_texts.proofs.numbers_begin.Tie as tie
@@ -17,7 +17,7 @@ returns : tie.Need-returns
 returns c = let a = c.before.before.before.before.args in
     let first = c.before.before.first-bytes in
     c.begun.ensures
-    ∙ same-below (λ k. begins_with (get_or a.live.now k 0) (get_or first.result k 0)) (begins_at a.live.now a.table.now a.at) 32
+    ∙ same_below (λ k. begins_with (get_or a.live.now k 0) (get_or first.result k 0)) (begins_at a.live.now a.table.now a.at) 32
     (λ k h. ap (begins_with (get_or a.live.now k 0)) (first.ensures k h))
 
 pub numbers_begin_spec : {M : Type 1} → statement M

@@ -6,7 +6,7 @@ use lib.ListN.{get_or}
 use lib.Dec.{eqb}
 use Rattle.lists.specs.Lists.{all, numbers}
 use Rattle.server.specs.Layout.{numerators_at, denominators_at}
-use Rattle.table_passes.proofs.Tests.{none_on, each-end}
+use Rattle.table_passes.proofs.Tests.{none_on, each_end}
 use Rattle.check_texts.specs.Stored.{first_alone}
 use Rattle.check_texts.proofs.Numbers.{not_first}
 use borrow.Author.Rules.{rules}
@@ -57,7 +57,7 @@ loop-again c = let l = c.before.before.before.before.before.loop in
     )
 
 returns : tie.Need-returns invariant-loop decreases-loop
-returns c = search (rules, each-end)
+returns c = search (rules, each_end)
 
 pub one_digit_each_spec : {M : Type 1} → statement M
 one_digit_each_spec =

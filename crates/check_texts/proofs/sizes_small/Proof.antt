@@ -6,7 +6,7 @@ use borrow.Author.Rules.{rules}
 use lib.Dec.{leb}
 use Rattle.lists.specs.Lists.{all, numbers}
 use Rattle.server.specs.Sizes.{job_count}
-use Rattle.table_passes.proofs.Tests.{each_on, each-end}
+use Rattle.table_passes.proofs.Tests.{each_on, each_end}
 use Rattle.check_texts.specs.Stored.{size_small}
 use Rattle.check_texts.proofs.sizes_small.Statement.{statement}
 use Rattle.check_texts.proofs.sizes_small.Tie as tie
@@ -35,7 +35,7 @@ loop-again c = let l = c.before.before.loop in
     (omega arith, each_on (size_small a.table.now) 32 l.i l.ok (leb c.size.result 926) l.invariant.1 (ap (λ (x : ℕ). leb x 926) c.size.ensures))
 
 returns : tie.Need-returns invariant-loop decreases-loop
-returns c = search (rules, each-end)
+returns c = search (rules, each_end)
 
 pub sizes_small_spec : {M : Type 1} → statement M
 sizes_small_spec =

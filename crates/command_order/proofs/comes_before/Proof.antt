@@ -5,7 +5,7 @@ use mathlib.Core.Path.{◌≡◌, refl}
 use native.Mathlib.Omega.{arith}
 use lib.ListN.{length, drop}
 use Rattle.command.specs.Order.{before}
-use Rattle.command_order.proofs.Names.{before-end, before_on, before-short, before-told}
+use Rattle.command_order.proofs.Names.{before_end, before_on, before_short, before_told}
 use borrow.Author.Rules.{rules}
 use Rattle.command_order.proofs.comes_before.Statement.{statement}
 use Rattle.command_order.proofs.comes_before.Tie as tie
@@ -22,7 +22,7 @@ loop-holds c = (omega arith, omega arith, refl)
 returns : tie.Need-returns invariant-loop decreases-loop
 returns c =
     let l = c.before.before.loop in
-    before-short _ _ l.i l.invariant.2 (omega arith) (omega arith)
+    before_short _ _ l.i l.invariant.2 (omega arith) (omega arith)
 
 shared-slice-read-x : tie.Need-shared-slice-read-x invariant-loop decreases-loop
 shared-slice-read-x c = search rules
@@ -33,7 +33,7 @@ shared-slice-read-y c = search rules
 returns-2 : tie.Need-returns-2 invariant-loop decreases-loop
 returns-2 c =
     let l = c.before.before.before.before.before.loop in
-    before-told _ _ l.i l.invariant.2 (omega arith) (omega arith) c.if2.true
+    before_told _ _ l.i l.invariant.2 (omega arith) (omega arith) c.if2.true
 
 add-i : tie.Need-overflow-add-i invariant-loop decreases-loop
 add-i c = search rules
@@ -49,7 +49,7 @@ loop-again c =
 returns-3 : tie.Need-returns-3 invariant-loop decreases-loop
 returns-3 c =
     let l = c.before.loop in
-    before-end _ _ l.i l.invariant.2 (omega arith)
+    before_end _ _ l.i l.invariant.2 (omega arith)
 
 pub comes_before_spec : {M : Type 1} → statement M
 comes_before_spec =

@@ -5,9 +5,9 @@ use mathlib.Core.Path.{◌≡◌}
 use native.Mathlib.Omega.{arith}
 use Rattle.server.specs.Sizes.{connection_count, function_count}
 use Rattle.server.specs.Layout.{table_of}
-use Rattle.table_passes.proofs.Rows.{functions-length}
+use Rattle.table_passes.proofs.Rows.{functions_length}
 use Rattle.command_order.specs.Listing.{listed}
-use Rattle.command_order.proofs.Listed.{from, list-end, list-turn, none_yet}
+use Rattle.command_order.proofs.Listed.{from, list_end, list_turn, none_yet}
 use borrow.Author.Rules.{rules}
 use Rattle.command_order.proofs.in_order.Statement.{statement}
 use Rattle.command_order.proofs.in_order.Tie as tie
@@ -36,13 +36,13 @@ loop-again : tie.Need-loop-preserved invariant-loop decreases-loop
 loop-again c =
     let s = c.before.before.before.before in
     let l = c.before.before.loop in
-    (omega arith, omega (arith, c.with-known.ensures.0), list-turn (table_of connection_count s.args.table.now).functions function_count l.q _ l.invariant.2 (omega arith) (omega arith) _ c.with-known.ensures.1)
+    (omega arith, omega (arith, c.with-known.ensures.0), list_turn (table_of connection_count s.args.table.now).functions function_count l.q _ l.invariant.2 (omega arith) (omega arith) _ c.with-known.ensures.1)
 
 returns : tie.Need-returns invariant-loop decreases-loop
 returns c =
     let s = c.before.before.before in
     let l = c.before.loop in
-    (omega arith, list-end (table_of connection_count s.args.table.now).functions function_count l.q _ l.invariant.2 (omega arith) (functions-length connection_count s.args.table.now))
+    (omega arith, list_end (table_of connection_count s.args.table.now).functions function_count l.q _ l.invariant.2 (omega arith) (functions_length connection_count s.args.table.now))
 
 pub in_order_spec : {M : Type 1} → statement M
 in_order_spec =

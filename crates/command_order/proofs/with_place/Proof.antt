@@ -7,7 +7,7 @@ use lib.ListN.{length}
 use Rattle.server.specs.Sizes.{connection_count, function_count}
 use Rattle.server.specs.Layout.{table_of}
 use Rattle.command.specs.Order.{before}
-use Rattle.command_order.proofs.Hand.{Hand, hand_end, hand-turn}
+use Rattle.command_order.proofs.Hand.{Hand, hand_end, hand_turn}
 use borrow.Author.Rules.{rules}
 use Rattle.command_order.proofs.with_place.Statement.{statement}
 use Rattle.command_order.proofs.with_place.Tie as tie
@@ -58,7 +58,7 @@ loop-again : tie.Need-loop-preserved invariant-loop decreases-loop
 loop-again c =
     let s = c.before.before.before.before.before.before.before.before in
     let l = c.before.before.before.before.before.before.loop in
-    (omega arith, search rules, hand-turn (table_of connection_count s.args.table.now).functions s.args.q s.args.count s.args.t2 l.next l.hand l.moved l.i l.invariant.2 (omega arith) (omega arith) (omega arith) c.before.before.comes-before.result (c.before.before.comes-before.ensures ∙ ap₂ before c.before.before.before.before.name-at.ensures c.before.before.before.name-at2.ensures) _ _ c.before.pick.ensures c.pick2.ensures)
+    (omega arith, search rules, hand_turn (table_of connection_count s.args.table.now).functions s.args.q s.args.count s.args.t2 l.next l.hand l.moved l.i l.invariant.2 (omega arith) (omega arith) (omega arith) c.before.before.comes-before.result (c.before.before.comes-before.ensures ∙ ap₂ before c.before.before.before.before.name-at.ensures c.before.before.before.name-at2.ensures) _ _ c.before.pick.ensures c.pick2.ensures)
 
 mul-next-2 : tie.Need-overflow-mul-next-2 invariant-loop decreases-loop
 mul-next-2 c = search rules

@@ -7,7 +7,7 @@ use Rattle.lists.specs.Lists.{filter}
 use Rattle.server.specs.Sizes.{job_count}
 use Rattle.server.specs.Table.{no_row}
 use Rattle.command_status.specs.Counts.{counted}
-use Rattle.command_status.proofs.Counting.{count-end, count_turn}
+use Rattle.command_status.proofs.Counting.{count_end, count_turn}
 use borrow.Author.Rules.{rules}
 use Rattle.command_status.proofs.count_jobs.Statement.{statement}
 use Rattle.command_status.proofs.count_jobs.Tie as tie
@@ -46,13 +46,13 @@ loop-again : tie.Need-loop-preserved invariant-loop decreases-loop
 loop-again c =
     let s = c.before.before.before.before.before in
     let l = c.before.before.before.before.loop in
-    (omega arith, omega (arith, c.one-if.ensures.1), count_turn (counted s.args.held s.args.q) s.args.t1 l.p l.count l.invariant.2 no_row _ _ (omega arith) c.before.is-counted.ensures c.one-if.ensures.0)
+    (omega arith, omega (arith, c.one_if.ensures.1), count_turn (counted s.args.held s.args.q) s.args.t1 l.p l.count l.invariant.2 no_row _ _ (omega arith) c.before.is-counted.ensures c.one_if.ensures.0)
 
 returns : tie.Need-returns invariant-loop decreases-loop
 returns c =
     let s = c.before.before in
     let l = c.before.loop in
-    count-end (counted s.args.held s.args.q) s.args.t1 l.p l.count l.invariant.2 (omega arith)
+    count_end (counted s.args.held s.args.q) s.args.t1 l.p l.count l.invariant.2 (omega arith)
 
 pub count_jobs_spec : {M : Type 1} → statement M
 count_jobs_spec =

@@ -1,6 +1,6 @@
 -- `command_status::put_counts` meets its contract: three counts, and a line feed. Assumes nothing.
 use mathlib.Core.List.{◌++◌}
-use Rattle.octets.proofs.Runs.{laid_then, laid-third, room_first, room-second, room-then, room-third}
+use Rattle.octets.proofs.Runs.{laid_then, laid_third, room_first, room_second, room_then, room_third}
 use Rattle.handle.specs.Handle.{decimal}
 use Rattle.command.specs.Texts.{line_feed, tab}
 use Rattle.command_status.specs.Counts.{counts_text}
@@ -18,13 +18,13 @@ put-count-requires-2 : tie.Need-put-count-requires-2
 unfolding counts_text
 put-count-requires-2 c κs =
     let s = c.before.before.before.before.before.before in
-    room-second _ (tab ++ decimal s.args.jobs) (tab ++ decimal s.args.held) ((tab ++ decimal s.args.able) ++ line_feed) _ _ _ c.before.before.before.put_count.ensures s.requires
+    room_second _ (tab ++ decimal s.args.jobs) (tab ++ decimal s.args.held) ((tab ++ decimal s.args.able) ++ line_feed) _ _ _ c.before.before.before.put_count.ensures s.requires
 
 put-count-requires-3 : tie.Need-put-count-requires-3
 unfolding counts_text
 put-count-requires-3 c κs =
     let s = c.before.before.before.before.before.before.before.before.before.before in
-    room_first _ (tab ++ decimal s.args.able) line_feed _ (room-third _ (tab ++ decimal s.args.jobs) (tab ++ decimal s.args.held) ((tab ++ decimal s.args.able) ++ line_feed) _ _ _ c.before.before.before.before.before.before.before.put_count.ensures _ _ c.before.before.before.put-count2.ensures s.requires)
+    room_first _ (tab ++ decimal s.args.able) line_feed _ (room_third _ (tab ++ decimal s.args.jobs) (tab ++ decimal s.args.held) ((tab ++ decimal s.args.able) ++ line_feed) _ _ _ c.before.before.before.before.before.before.before.put_count.ensures _ _ c.before.before.before.put-count2.ensures s.requires)
 
 slice-aggregate-put : tie.Need-slice-aggregate-put
 slice-aggregate-put c = search rules
@@ -33,7 +33,7 @@ put-requires : tie.Need-put-requires
 unfolding counts_text
 put-requires c κs =
     let s = c.before.before.before.before.before.before.before.before.before.before.before.before.before.before.before in
-    room-then _ (tab ++ decimal s.args.able) line_feed _ _ _ c.before.before.before.before.put-count3.ensures (room-third _ (tab ++ decimal s.args.jobs) (tab ++ decimal s.args.held) ((tab ++ decimal s.args.able) ++ line_feed) _ _ _ c.before.before.before.before.before.before.before.before.before.before.before.before.put_count.ensures _ _ c.before.before.before.before.before.before.before.before.put-count2.ensures s.requires)
+    room_then _ (tab ++ decimal s.args.able) line_feed _ _ _ c.before.before.before.before.put-count3.ensures (room_third _ (tab ++ decimal s.args.jobs) (tab ++ decimal s.args.held) ((tab ++ decimal s.args.able) ++ line_feed) _ _ _ c.before.before.before.before.before.before.before.before.before.before.before.before.put_count.ensures _ _ c.before.before.before.before.before.before.before.before.put-count2.ensures s.requires)
 
 same_length : tie.Need-same-length
 same_length c = search rules
@@ -42,7 +42,7 @@ returns : tie.Need-returns
 unfolding counts_text
 returns c =
     let s = c.before.before.before.before.before.before.before.before.before.before.before.before.before.before.before.before.before.before in
-    laid-third _ (tab ++ decimal s.args.jobs) (tab ++ decimal s.args.held) ((tab ++ decimal s.args.able) ++ line_feed) _ _ _ c.before.before.before.before.before.before.before.before.before.before.before.before.before.before.before.put_count.ensures _ _ c.before.before.before.before.before.before.before.before.before.before.before.put-count2.ensures _ _ (laid_then _ (tab ++ decimal s.args.able) line_feed _ _ _ c.before.before.before.before.before.before.before.put-count3.ensures _ _ c.before.before.put.ensures)
+    laid_third _ (tab ++ decimal s.args.jobs) (tab ++ decimal s.args.held) ((tab ++ decimal s.args.able) ++ line_feed) _ _ _ c.before.before.before.before.before.before.before.before.before.before.before.before.before.before.before.put_count.ensures _ _ c.before.before.before.before.before.before.before.before.before.before.before.put-count2.ensures _ _ (laid_then _ (tab ++ decimal s.args.able) line_feed _ _ _ c.before.before.before.before.before.before.before.put-count3.ensures _ _ c.before.before.put.ensures)
 
 pub put_counts_spec : {M : Type 1} → statement M
 put_counts_spec =

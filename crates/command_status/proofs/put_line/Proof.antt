@@ -1,6 +1,6 @@
 -- `command_status::put_line` meets its contract: the name as it is printed, and the counts. Assumes nothing.
 use lib.Count.{ones}
-use Rattle.octets.proofs.Runs.{laid_as, laid_then, room_as, room_first, room-then}
+use Rattle.octets.proofs.Runs.{laid_as, laid_then, room_as, room_first, room_then}
 use Rattle.server.specs.Sizes.{connection_count}
 use Rattle.server.specs.Layout.{table_of}
 use Rattle.prints.specs.Printed.{printed}
@@ -29,14 +29,14 @@ name-at-requires c κs = search rules
 put-printed-requires : tie.Need-put-printed-requires
 put-printed-requires c κs =
     let s = c.before.before.before.before.before.before.before.before in
-    let e = line_is (table_of connection_count s.args.table.now) (sound_prints connection_count _ s.requires.1) s.args.q _ _ _ _ _ c.before.before.before.before.before.read-rows.ensures c.name-at.ensures c.before.before.before.before.count-jobs.ensures c.before.before.before.count-jobs2.ensures c.before.before.able-at.ensures in
-    room_first _ (printed c.name-at.result.now) (counts_text c.before.before.before.before.count-jobs.result c.before.before.before.count-jobs2.result (ones c.before.before.able-at.result)) _ (room_as _ _ e _ _ s.requires.2)
+    let e = line_is (table_of connection_count s.args.table.now) (sound_prints connection_count _ s.requires.1) s.args.q _ _ _ _ _ c.before.before.before.before.before.read-rows.ensures c.name-at.ensures c.before.before.before.before.count-jobs.ensures c.before.before.before.count-jobs2.ensures c.before.before.able_at_lem.ensures in
+    room_first _ (printed c.name-at.result.now) (counts_text c.before.before.before.before.count-jobs.result c.before.before.before.count-jobs2.result (ones c.before.before.able_at_lem.result)) _ (room_as _ _ e _ _ s.requires.2)
 
 put-counts-requires : tie.Need-put-counts-requires
 put-counts-requires c κs =
     let s = c.before.before.before.before.before.before.before.before.before.before.before.before in
-    let e = line_is (table_of connection_count s.args.table.now) (sound_prints connection_count _ s.requires.1) s.args.q _ _ _ _ _ c.before.before.before.before.before.before.before.before.before.read-rows.ensures c.before.before.before.before.name-at.ensures c.before.before.before.before.before.before.before.before.count-jobs.ensures c.before.before.before.before.before.before.before.count-jobs2.ensures c.before.before.before.before.before.before.able-at.ensures in
-    room-then _ _ _ _ _ _ c.before.before.before.put-printed.ensures (room_as _ _ e _ _ s.requires.2)
+    let e = line_is (table_of connection_count s.args.table.now) (sound_prints connection_count _ s.requires.1) s.args.q _ _ _ _ _ c.before.before.before.before.before.before.before.before.before.read-rows.ensures c.before.before.before.before.name-at.ensures c.before.before.before.before.before.before.before.before.count-jobs.ensures c.before.before.before.before.before.before.before.count-jobs2.ensures c.before.before.before.before.before.before.able_at_lem.ensures in
+    room_then _ _ _ _ _ _ c.before.before.before.put-printed.ensures (room_as _ _ e _ _ s.requires.2)
 
 same_length : tie.Need-same-length
 same_length c = search rules
@@ -44,7 +44,7 @@ same_length c = search rules
 returns : tie.Need-returns
 returns c =
     let s = c.before.before.before.before.before.before.before.before.before.before.before.before.before.before.before in
-    let e = line_is (table_of connection_count s.args.table.now) (sound_prints connection_count _ s.requires.1) s.args.q _ _ _ _ _ c.before.before.before.before.before.before.before.before.before.before.before.before.read-rows.ensures c.before.before.before.before.before.before.before.name-at.ensures c.before.before.before.before.before.before.before.before.before.before.before.count-jobs.ensures c.before.before.before.before.before.before.before.before.before.before.count-jobs2.ensures c.before.before.before.before.before.before.before.before.before.able-at.ensures in
+    let e = line_is (table_of connection_count s.args.table.now) (sound_prints connection_count _ s.requires.1) s.args.q _ _ _ _ _ c.before.before.before.before.before.before.before.before.before.before.before.before.read-rows.ensures c.before.before.before.before.before.before.before.name-at.ensures c.before.before.before.before.before.before.before.before.before.before.before.count-jobs.ensures c.before.before.before.before.before.before.before.before.before.before.count-jobs2.ensures c.before.before.before.before.before.before.before.before.before.able_at_lem.ensures in
     laid_as _ _ e _ _ _ _ (laid_then _ _ _ _ _ _ c.before.before.before.before.before.before.put-printed.ensures _ _ c.before.before.put-counts.ensures)
 
 pub put_line_spec : {M : Type 1} → statement M

@@ -7,7 +7,7 @@ use lib.ListN.{length}
 use Rattle.octets.proofs.Runs.{laid_as, room_as}
 use Rattle.server.specs.Sizes.{connection_count, function_count}
 use Rattle.server.specs.Layout.{table_of}
-use Rattle.prints.proofs.Pieces.{Laid, end, start, turn, turn-room}
+use Rattle.prints.proofs.Pieces.{Laid, end, start, turn, turn_room}
 use Rattle.command_status.proofs.Lines.{line_at, lines_are}
 use borrow.Author.Rules.{rules}
 use Rattle.command_status.proofs.put_lines.Statement.{statement}
@@ -35,7 +35,7 @@ put-line-requires c κs =
     let s = c.before.before.before.before.before.before in
     let l = c.before.before.loop in
     let n : length s.args.listing.places ≡ function_count = search rules in
-    (s.requires.0, s.requires.1, turn-room (line_at (table_of connection_count s.args.table.now) s.args.listing.places) s.args.at s.args.out.now l.i l.place l.out l.invariant.2 _ refl s.args.listing.count (omega arith) (room_as _ _ (lines_are (table_of connection_count s.args.table.now) s.args.listing.places s.args.listing.count (omega arith)) _ _ s.requires.3))
+    (s.requires.0, s.requires.1, turn_room (line_at (table_of connection_count s.args.table.now) s.args.listing.places) s.args.at s.args.out.now l.i l.place l.out l.invariant.2 _ refl s.args.listing.count (omega arith) (room_as _ _ (lines_are (table_of connection_count s.args.table.now) s.args.listing.places s.args.listing.count (omega arith)) _ _ s.requires.3))
 
 add-i : tie.Need-overflow-add-i invariant-loop decreases-loop
 add-i c = search rules

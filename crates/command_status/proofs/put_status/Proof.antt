@@ -1,6 +1,6 @@
 -- `command_status::put_status` meets its contract: the lines, and a line with a period. Assumes nothing.
 use mathlib.Core.List.{map}
-use Rattle.octets.proofs.Runs.{laid_as, laid_then, room_as, room_first, room-then}
+use Rattle.octets.proofs.Runs.{laid_as, laid_then, room_as, room_first, room_then}
 use Rattle.lists.specs.Lists.{concat}
 use Rattle.server.specs.Sizes.{connection_count}
 use Rattle.server.specs.Layout.{table_of}
@@ -31,7 +31,7 @@ put-requires c κs =
     let r = c.before.before.before.before.before.before.in_order in
     let x = concat (map (status_line (table_of connection_count s.args.table.now)) (listed r.result)) in
     let e = status_is (table_of connection_count s.args.table.now) _ r.ensures.1 in
-    room-then _ x period_line _ _ _ c.before.before.before.before.put-lines.ensures (room_as _ _ e _ _ s.requires.2)
+    room_then _ x period_line _ _ _ c.before.before.before.before.put-lines.ensures (room_as _ _ e _ _ s.requires.2)
 
 same_length : tie.Need-same-length
 same_length c = search rules

@@ -1,6 +1,6 @@
 -- `command_workers::put_line` meets its contract: the head, the names, and a line feed. Assumes nothing.
 use mathlib.Core.List.{◌++◌}
-use Rattle.octets.proofs.Runs.{laid-third, room_first, room-second, room-third}
+use Rattle.octets.proofs.Runs.{laid_third, room_first, room_second, room_third}
 use Rattle.server.specs.Sizes.{connection_count}
 use Rattle.server.specs.Layout.{table_of}
 use Rattle.command.specs.Texts.{line_feed}
@@ -20,7 +20,7 @@ put-names-requires : tie.Need-put-names-requires
 unfolding line_text
 put-names-requires c κs =
     let s = c.before.before.before.before.before.before.before in
-    (s.requires.0, s.requires.1, s.requires.2, room-second _ (head_text (table_of connection_count s.args.table.now) s.args.c) (names_text (table_of connection_count s.args.table.now) (listed s.args.listing) s.args.c) line_feed _ _ _ c.before.before.before.put-head.ensures s.requires.3)
+    (s.requires.0, s.requires.1, s.requires.2, room_second _ (head_text (table_of connection_count s.args.table.now) s.args.c) (names_text (table_of connection_count s.args.table.now) (listed s.args.listing) s.args.c) line_feed _ _ _ c.before.before.before.put-head.ensures s.requires.3)
 
 slice-aggregate-put : tie.Need-slice-aggregate-put
 slice-aggregate-put c = search rules
@@ -29,7 +29,7 @@ put-requires : tie.Need-put-requires
 unfolding line_text
 put-requires c κs =
     let s = c.before.before.before.before.before.before.before.before.before.before.before.before in
-    room-third _ (head_text (table_of connection_count s.args.table.now) s.args.c) (names_text (table_of connection_count s.args.table.now) (listed s.args.listing) s.args.c) line_feed _ _ _ c.before.before.before.before.before.before.before.before.put-head.ensures _ _ c.before.before.before.before.put-names.ensures s.requires.3
+    room_third _ (head_text (table_of connection_count s.args.table.now) s.args.c) (names_text (table_of connection_count s.args.table.now) (listed s.args.listing) s.args.c) line_feed _ _ _ c.before.before.before.before.before.before.before.before.put-head.ensures _ _ c.before.before.before.before.put-names.ensures s.requires.3
 
 same_length : tie.Need-same-length
 same_length c = search rules
@@ -38,7 +38,7 @@ returns : tie.Need-returns
 unfolding line_text
 returns c =
     let s = c.before.before.before.before.before.before.before.before.before.before.before.before.before.before.before in
-    laid-third _ (head_text (table_of connection_count s.args.table.now) s.args.c) (names_text (table_of connection_count s.args.table.now) (listed s.args.listing) s.args.c) line_feed _ _ _ c.before.before.before.before.before.before.before.before.before.before.before.put-head.ensures _ _ c.before.before.before.before.before.before.before.put-names.ensures _ _ c.before.before.put.ensures
+    laid_third _ (head_text (table_of connection_count s.args.table.now) s.args.c) (names_text (table_of connection_count s.args.table.now) (listed s.args.listing) s.args.c) line_feed _ _ _ c.before.before.before.before.before.before.before.before.before.before.before.put-head.ensures _ _ c.before.before.before.before.before.before.before.put-names.ensures _ _ c.before.before.put.ensures
 
 pub put_line_spec : {M : Type 1} → statement M
 put_line_spec =

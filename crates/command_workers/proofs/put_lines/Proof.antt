@@ -7,8 +7,8 @@ use lib.ListN.{length}
 use Rattle.octets.proofs.Runs.{laid_as, room_as}
 use Rattle.server.specs.Sizes.{connection_count}
 use Rattle.server.specs.Layout.{table_of}
-use Rattle.table_passes.proofs.Rows.{connections-length}
-use Rattle.prints.proofs.Pieces.{Laid, end, start, turn, turn-room}
+use Rattle.table_passes.proofs.Rows.{connections_length}
+use Rattle.prints.proofs.Pieces.{Laid, end, start, turn, turn_room}
 use Rattle.command_order.specs.Listing.{listed}
 use Rattle.command_workers.specs.Parts.{open_text}
 use Rattle.command_workers.proofs.Lines.{lines_are}
@@ -31,7 +31,7 @@ put-if-open-requires : tie.Need-put-if-open-requires invariant-loop decreases-lo
 put-if-open-requires c κs =
     let s = c.before.before.before.before.before in
     let l = c.before.before.loop in
-    (s.requires.0, s.requires.1, omega arith, turn-room (open_text (table_of connection_count s.args.table.now) (listed s.args.listing)) s.args.at s.args.out.now l.c l.place l.out l.invariant.2 _ refl connection_count (omega arith) (room_as _ _ (lines_are (table_of connection_count s.args.table.now) (listed s.args.listing) connection_count (connections-length connection_count s.args.table.now)) _ _ s.requires.2))
+    (s.requires.0, s.requires.1, omega arith, turn_room (open_text (table_of connection_count s.args.table.now) (listed s.args.listing)) s.args.at s.args.out.now l.c l.place l.out l.invariant.2 _ refl connection_count (omega arith) (room_as _ _ (lines_are (table_of connection_count s.args.table.now) (listed s.args.listing) connection_count (connections_length connection_count s.args.table.now)) _ _ s.requires.2))
 
 add-c : tie.Need-overflow-add-c invariant-loop decreases-loop
 add-c c = search rules
@@ -52,7 +52,7 @@ returns : tie.Need-returns invariant-loop decreases-loop
 returns c =
     let s = c.before.before.before.before in
     let l = c.before.loop in
-    laid_as _ _ (lines_are (table_of connection_count s.args.table.now) (listed s.args.listing) connection_count (connections-length connection_count s.args.table.now)) _ _ _ _ (end (open_text (table_of connection_count s.args.table.now) (listed s.args.listing)) s.args.at s.args.out.now l.c connection_count (omega arith) _ _ l.invariant.2)
+    laid_as _ _ (lines_are (table_of connection_count s.args.table.now) (listed s.args.listing) connection_count (connections_length connection_count s.args.table.now)) _ _ _ _ (end (open_text (table_of connection_count s.args.table.now) (listed s.args.listing)) s.args.at s.args.out.now l.c connection_count (omega arith) _ _ l.invariant.2)
 
 pub put_lines_spec : {M : Type 1} → statement M
 put_lines_spec =

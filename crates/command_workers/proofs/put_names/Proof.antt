@@ -7,7 +7,7 @@ use lib.ListN.{length}
 use Rattle.octets.proofs.Runs.{laid_as, room_as}
 use Rattle.server.specs.Sizes.{connection_count, function_count}
 use Rattle.server.specs.Layout.{table_of}
-use Rattle.prints.proofs.Pieces.{Laid, end, start, turn, turn-room}
+use Rattle.prints.proofs.Pieces.{Laid, end, start, turn, turn_room}
 use Rattle.command_workers.proofs.Lines.{name_for, names_are}
 use borrow.Author.Rules.{rules}
 use Rattle.command_workers.proofs.put_names.Statement.{statement}
@@ -35,7 +35,7 @@ put-name-requires c κs =
     let s = c.before.before.before.before.before.before in
     let l = c.before.before.loop in
     let n : length s.args.listing.places ≡ function_count = search rules in
-    (s.requires.0, s.requires.2, turn-room (name_for (table_of connection_count s.args.table.now) s.args.c s.args.listing.places) s.args.at s.args.out.now l.i l.place l.out l.invariant.2 _ refl s.args.listing.count (omega arith) (room_as _ _ (names_are (table_of connection_count s.args.table.now) s.args.c s.args.listing.places s.args.listing.count (omega arith)) _ _ s.requires.3))
+    (s.requires.0, s.requires.2, turn_room (name_for (table_of connection_count s.args.table.now) s.args.c s.args.listing.places) s.args.at s.args.out.now l.i l.place l.out l.invariant.2 _ refl s.args.listing.count (omega arith) (room_as _ _ (names_are (table_of connection_count s.args.table.now) s.args.c s.args.listing.places s.args.listing.count (omega arith)) _ _ s.requires.3))
 
 add-i : tie.Need-overflow-add-i invariant-loop decreases-loop
 add-i c = search rules
@@ -47,7 +47,7 @@ loop-again : tie.Need-loop-preserved invariant-loop decreases-loop
 loop-again c =
     let s = c.before.before.before.before.before.before.before.before.before in
     let l = c.before.before.before.before.before.loop in
-    (search rules, search rules, turn (name_for (table_of connection_count s.args.table.now) s.args.c s.args.listing.places) s.args.at s.args.out.now l.i l.place l.out l.invariant.2 _ refl _ _ c.before.before.put-name.ensures)
+    (search rules, search rules, turn (name_for (table_of connection_count s.args.table.now) s.args.c s.args.listing.places) s.args.at s.args.out.now l.i l.place l.out l.invariant.2 _ refl _ _ c.before.before.put_name.ensures)
 
 same_length : tie.Need-same-length invariant-loop decreases-loop
 same_length c = search rules

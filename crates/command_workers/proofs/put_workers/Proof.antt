@@ -1,11 +1,11 @@
 -- `command_workers::put_workers` meets its contract: the lines, and a line with a period. Assumes nothing.
-use Rattle.octets.proofs.Runs.{laid_as, laid_then, room_as, room_first, room-then}
+use Rattle.octets.proofs.Runs.{laid_as, laid_then, room_as, room_first, room_then}
 use Rattle.server.specs.Sizes.{connection_count}
 use Rattle.server.specs.Layout.{table_of}
 use Rattle.command.specs.Texts.{period_line}
 use Rattle.command_order.specs.Listing.{listed}
 use Rattle.command_workers.specs.Parts.{lines_text}
-use Rattle.command_workers.proofs.Lines.{workers-is}
+use Rattle.command_workers.proofs.Lines.{workers_is}
 use borrow.Author.Rules.{rules}
 use Rattle.command_workers.proofs.put_workers.Statement.{statement}
 use Rattle.command_workers.proofs.put_workers.Tie as tie
@@ -18,7 +18,7 @@ put-lines-requires c κs =
     let s = c.before.before.before.before in
     let r = c.before.in_order in
     let x = lines_text (table_of connection_count s.args.table.now) (listed r.result) in
-    let e = workers-is (table_of connection_count s.args.table.now) _ r.ensures.1 in
+    let e = workers_is (table_of connection_count s.args.table.now) _ r.ensures.1 in
     (s.requires.0, r.ensures.0, room_first _ x period_line _ (room_as _ _ e _ _ s.requires.1))
 
 slice-aggregate-put : tie.Need-slice-aggregate-put
@@ -29,8 +29,8 @@ put-requires c κs =
     let s = c.before.before.before.before.before.before.before.before.before in
     let r = c.before.before.before.before.before.before.in_order in
     let x = lines_text (table_of connection_count s.args.table.now) (listed r.result) in
-    let e = workers-is (table_of connection_count s.args.table.now) _ r.ensures.1 in
-    room-then _ x period_line _ _ _ c.before.before.before.before.put-lines.ensures (room_as _ _ e _ _ s.requires.1)
+    let e = workers_is (table_of connection_count s.args.table.now) _ r.ensures.1 in
+    room_then _ x period_line _ _ _ c.before.before.before.before.put-lines.ensures (room_as _ _ e _ _ s.requires.1)
 
 same_length : tie.Need-same-length
 same_length c = search rules
@@ -40,7 +40,7 @@ returns c =
     let s = c.before.before.before.before.before.before.before.before.before.before.before.before in
     let r = c.before.before.before.before.before.before.before.before.before.in_order in
     let x = lines_text (table_of connection_count s.args.table.now) (listed r.result) in
-    let e = workers-is (table_of connection_count s.args.table.now) _ r.ensures.1 in
+    let e = workers_is (table_of connection_count s.args.table.now) _ r.ensures.1 in
     laid_as _ _ e _ _ _ _ (laid_then _ x period_line _ _ _ c.before.before.before.before.before.before.before.put-lines.ensures _ _ c.before.before.put.ensures)
 
 pub put_workers_spec : {M : Type 1} → statement M

@@ -7,7 +7,7 @@ use borrow.Author.Rules.{rules}
 use lib.ListN.{length, drop}
 use Rattle.octets.specs.Bytes.{every}
 use Rattle.handle.specs.Handle.{is_hub_byte}
-use Rattle.handle.proofs.Hubs.{byte-bad, byte-on, bytes-end}
+use Rattle.handle.proofs.Hubs.{byte_bad, byte_on, bytes_end}
 use Rattle.handle.proofs.all_hub_bytes.Statement.{statement}
 use Rattle.handle.proofs.all_hub_bytes.Tie as tie
 
@@ -27,7 +27,7 @@ is-hub-byte-requires : tie.Need-is-hub-byte-requires invariant-loop decreases-lo
 is-hub-byte-requires c κs = search rules
 
 returns : tie.Need-returns invariant-loop decreases-loop
-returns c = search (rules, byte-bad)
+returns c = search (rules, byte_bad)
 
 add-i : tie.Need-overflow-add-i invariant-loop decreases-loop
 add-i c = search rules
@@ -36,10 +36,10 @@ loop-less : tie.Need-loop-smaller invariant-loop decreases-loop
 loop-less c = search rules
 
 loop-again : tie.Need-loop-preserved invariant-loop decreases-loop
-loop-again c = (omega arith, search (rules, byte-on))
+loop-again c = (omega arith, search (rules, byte_on))
 
 returns-2 : tie.Need-returns-2 invariant-loop decreases-loop
-returns-2 c = search (rules, bytes-end)
+returns-2 c = search (rules, bytes_end)
 
 pub all_hub_bytes_spec : {M : Type 1} → statement M
 all_hub_bytes_spec =

@@ -5,7 +5,7 @@ use mathlib.Core.Path.{◌≡◌}
 use native.Mathlib.Omega.{arith}
 use lib.ListN.{length}
 use Rattle.handle.specs.Handle.{decimal_in}
-use Rattle.handle.proofs.Printing.{count_none, count-last, count-on, count-end}
+use Rattle.handle.proofs.Printing.{count_none, count_last, count_on, count_end}
 use borrow.Author.Rules.{rules}
 use Rattle.handle.proofs.count_digits.Statement.{statement}
 use Rattle.handle.proofs.count_digits.Tie as tie
@@ -23,16 +23,16 @@ add-count : tie.Need-overflow-add-count invariant-loop decreases-loop
 add-count c = search rules
 
 returns : tie.Need-returns invariant-loop decreases-loop
-returns c = let l = c.before.before.loop in (count-last _ _ l.left l.count l.invariant.1 (omega arith) (omega arith), omega arith)
+returns c = let l = c.before.before.loop in (count_last _ _ l.left l.count l.invariant.1 (omega arith) (omega arith), omega arith)
 
 loop-less : tie.Need-loop-smaller invariant-loop decreases-loop
 loop-less c = search rules
 
 loop-again : tie.Need-loop-preserved invariant-loop decreases-loop
-loop-again c = let l = c.before.before.loop in (omega arith, count-on _ _ l.left l.count l.invariant.1 (omega arith) (omega arith))
+loop-again c = let l = c.before.before.loop in (omega arith, count_on _ _ l.left l.count l.invariant.1 (omega arith) (omega arith))
 
 returns-2 : tie.Need-returns-2 invariant-loop decreases-loop
-returns-2 c = let l = c.before.loop in (count-end _ _ l.left l.count l.invariant.1 (omega arith), omega arith)
+returns-2 c = let l = c.before.loop in (count_end _ _ l.left l.count l.invariant.1 (omega arith), omega arith)
 
 pub count_digits_spec : {M : Type 1} → statement M
 count_digits_spec =

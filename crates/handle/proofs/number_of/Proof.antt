@@ -6,7 +6,7 @@ use native.Mathlib.Omega.{arith}
 use lib.ListN.{length, drop}
 use Rattle.octets.specs.Bytes.{every, within}
 use Rattle.handle.specs.Handle.{value}
-use Rattle.handle.proofs.Reading.{number-low, number-high, value_on, digits-on, number-end, bound_on, power_ten}
+use Rattle.handle.proofs.Reading.{number_low, number_high, value_on, digits_on, number_end, bound_on, power_ten}
 use borrow.Author.Rules.{rules}
 use Rattle.handle.proofs.number_of.Statement.{statement}
 use Rattle.handle.proofs.number_of.Tie as tie
@@ -24,10 +24,10 @@ shared-slice-read-x : tie.Need-shared-slice-read-x invariant-loop decreases-loop
 shared-slice-read-x c = search rules
 
 returns : tie.Need-returns invariant-loop decreases-loop
-returns c = let l = c.before.before.before.loop in number-low c.before.before.before.before.args.digits.now l.number l.i l.invariant.2 l.invariant.3 (omega arith) (omega arith)
+returns c = let l = c.before.before.before.loop in number_low c.before.before.before.before.args.digits.now l.number l.i l.invariant.2 l.invariant.3 (omega arith) (omega arith)
 
 returns-2 : tie.Need-returns-2 invariant-loop decreases-loop
-returns-2 c = let l = c.before.before.before.before.loop in number-high c.before.before.before.before.before.args.digits.now l.number l.i l.invariant.2 l.invariant.3 (omega arith) (omega arith) (omega arith)
+returns-2 c = let l = c.before.before.before.before.loop in number_high c.before.before.before.before.before.args.digits.now l.number l.i l.invariant.2 l.invariant.3 (omega arith) (omega arith) (omega arith)
 
 mul-number : tie.Need-overflow-mul-number invariant-loop decreases-loop
 mul-number c = omega (arith, power_ten c.before.before.before.before.loop.i (omega arith))
@@ -48,10 +48,10 @@ loop-again : tie.Need-loop-preserved invariant-loop decreases-loop
 loop-again c =
     let l = c.before.before.before.before.loop in
     let s = c.before.before.before.before.before.args.digits.now in
-    (omega arith, bound_on l.number l.i _ l.invariant.1 (omega arith), value_on s l.number l.i l.invariant.2 l.invariant.3 (omega arith), digits-on s l.number l.i l.invariant.2 l.invariant.3 (omega arith) (omega arith) (omega arith))
+    (omega arith, bound_on l.number l.i _ l.invariant.1 (omega arith), value_on s l.number l.i l.invariant.2 l.invariant.3 (omega arith), digits_on s l.number l.i l.invariant.2 l.invariant.3 (omega arith) (omega arith) (omega arith))
 
 returns-3 : tie.Need-returns-3 invariant-loop decreases-loop
-returns-3 c = let l = c.before.loop in number-end c.before.before.args.digits.now l.number l.i l.invariant.2 l.invariant.3 (omega arith)
+returns-3 c = let l = c.before.loop in number_end c.before.before.args.digits.now l.number l.i l.invariant.2 l.invariant.3 (omega arith)
 
 pub number_of_spec : {M : Type 1} → statement M
 number_of_spec =

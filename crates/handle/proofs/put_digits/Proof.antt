@@ -6,7 +6,7 @@ use native.Mathlib.Omega.{arith}
 use lib.ListN.{length, take, drop, length-set}
 use Rattle.octets.specs.Put.{put}
 use Rattle.handle.specs.Handle.{decimal_in}
-use Rattle.handle.proofs.Printing.{all_left, digits-left, digit-laid, none_left}
+use Rattle.handle.proofs.Printing.{all_left, digits_left, digit_laid, none_left}
 use borrow.Author.Rules.{rules}
 use Rattle.handle.proofs.put_digits.Statement.{statement}
 use Rattle.handle.proofs.put_digits.Tie as tie
@@ -46,7 +46,7 @@ loop-again c =
     let s = c.before.before.before.before in
     let l = c.before.loop in
     let d = (decimal_in s.args.most s.args.number) in
-    (omega arith, rw length-set l.invariant.1, digits-left d l.i l.left l.invariant.0 (omega arith) l.invariant.2, digit-laid d l.i l.left l.invariant.0 (omega arith) l.invariant.2 s.args.at l.out s.args.out.now l.invariant.3)
+    (omega arith, rw length-set l.invariant.1, digits_left d l.i l.left l.invariant.0 (omega arith) l.invariant.2, digit_laid d l.i l.left l.invariant.0 (omega arith) l.invariant.2 s.args.at l.out s.args.out.now l.invariant.3)
 
 add-result : tie.Need-overflow-add-result invariant-loop decreases-loop
 add-result c = search rules

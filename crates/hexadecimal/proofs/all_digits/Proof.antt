@@ -6,7 +6,7 @@ use borrow.Author.Rules.{rules}
 use lib.ListN.{length, drop}
 use Rattle.octets.specs.Bytes.{every}
 use Rattle.hexadecimal.specs.Spelling.{is_digit}
-use Rattle.hexadecimal.proofs.Reading.{digits-stop, digits-on, digits_end}
+use Rattle.hexadecimal.proofs.Reading.{digits_stop, digits_on, digits_end}
 use Rattle.hexadecimal.proofs.all_digits.Statement.{statement}
 use Rattle.hexadecimal.proofs.all_digits.Tie as tie
 
@@ -26,7 +26,7 @@ digit-value-requires : tie.Need-digit-value-requires invariant-loop decreases-lo
 digit-value-requires c κs = search rules
 
 returns : tie.Need-returns invariant-loop decreases-loop
-returns c = search (rules, digits-stop)
+returns c = search (rules, digits_stop)
 
 add-i : tie.Need-overflow-add-i invariant-loop decreases-loop
 add-i c = search rules
@@ -35,7 +35,7 @@ loop-less : tie.Need-loop-smaller invariant-loop decreases-loop
 loop-less c = search rules
 
 loop-again : tie.Need-loop-preserved invariant-loop decreases-loop
-loop-again c = search (rules, digits-on)
+loop-again c = search (rules, digits_on)
 
 returns-2 : tie.Need-returns-2 invariant-loop decreases-loop
 returns-2 c = search (rules, digits_end)

@@ -1,5 +1,5 @@
 -- `hexadecimal::hex_digit` meets its contract, one law for each return. Assumes nothing.
-use Rattle.hexadecimal.proofs.Digits.{digit-decimal, digit-letter}
+use Rattle.hexadecimal.proofs.Digits.{digit_decimal, digit_letter}
 use borrow.Author.Rules.{rules}
 use Rattle.hexadecimal.proofs.hex_digit.Statement.{statement}
 use Rattle.hexadecimal.proofs.hex_digit.Tie as tie
@@ -8,13 +8,13 @@ add-result : tie.Need-overflow-add-result
 add-result c = search rules
 
 returns : tie.Need-returns
-returns c = search (rules, digit-decimal)
+returns c = search (rules, digit_decimal)
 
 add-result-2 : tie.Need-overflow-add-result-2
 add-result-2 c = search rules
 
 returns-2 : tie.Need-returns-2
-returns-2 c = search (rules, digit-letter)
+returns-2 c = search (rules, digit_letter)
 
 pub hex_digit_spec : {M : Type 1} → statement M
 hex_digit_spec = tie.close (tie.spec add-result returns add-result-2 returns-2)

@@ -6,7 +6,7 @@ use borrow.Author.Rules.{rules}
 use lib.ListN.{length, take}
 use Rattle.octets.specs.Put.{put}
 use Rattle.hexadecimal.specs.Hex.{hex}
-use Rattle.hexadecimal.proofs.Writing.{hex-room, hex-none, hex-more, hex-place, hex-all}
+use Rattle.hexadecimal.proofs.Writing.{hex_room, hex_none, hex_more, hex_place, hex_all}
 use Rattle.hexadecimal.proofs.put_hex.Statement.{statement}
 use Rattle.hexadecimal.proofs.put_hex.Tie as tie
 
@@ -17,7 +17,7 @@ abbrev decreases-loop : tie.decreases-loop
 decreases-loop out₀ at bytes place₀ i₀ out place i = length bytes - i
 
 loop-holds : tie.Need-loop-init invariant-loop decreases-loop
-loop-holds c = search (rules, hex-room, hex-none)
+loop-holds c = search (rules, hex_room, hex_none)
 
 shared-slice-read-hex-byte : tie.Need-shared-slice-read-hex-byte invariant-loop decreases-loop
 shared-slice-read-hex-byte c = search rules
@@ -38,13 +38,13 @@ loop-less : tie.Need-loop-smaller invariant-loop decreases-loop
 loop-less c = search rules
 
 loop-again : tie.Need-loop-preserved invariant-loop decreases-loop
-loop-again c = search (rules, hex-more)
+loop-again c = search (rules, hex_more)
 
 same_length : tie.Need-same-length invariant-loop decreases-loop
 same_length c = search rules
 
 returns : tie.Need-returns invariant-loop decreases-loop
-returns c = search (rules, hex-place, hex-all)
+returns c = search (rules, hex_place, hex_all)
 
 pub put_hex_spec : {M : Type 1} → statement M
 put_hex_spec =

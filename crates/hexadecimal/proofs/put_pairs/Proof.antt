@@ -6,7 +6,7 @@ use borrow.Author.Rules.{rules}
 use lib.ListN.{length, take}
 use Rattle.octets.specs.Put.{put}
 use Rattle.hexadecimal.specs.Spelling.{pairs}
-use Rattle.hexadecimal.proofs.Reading.{pairs-none, pairs-more, pairs-all}
+use Rattle.hexadecimal.proofs.Reading.{pairs_none, pairs_more, pairs_all}
 use Rattle.hexadecimal.proofs.put_pairs.Statement.{statement}
 use Rattle.hexadecimal.proofs.put_pairs.Tie as tie
 
@@ -17,7 +17,7 @@ abbrev decreases-loop : tie.decreases-loop
 decreases-loop out₀ digits count i₀ out i = count - i
 
 loop-holds : tie.Need-loop-init invariant-loop decreases-loop
-loop-holds c = search (rules, pairs-none)
+loop-holds c = search (rules, pairs_none)
 
 byte-at-requires : tie.Need-byte-at-requires invariant-loop decreases-loop
 byte-at-requires c κs = search rules
@@ -32,13 +32,13 @@ loop-less : tie.Need-loop-smaller invariant-loop decreases-loop
 loop-less c = search rules
 
 loop-again : tie.Need-loop-preserved invariant-loop decreases-loop
-loop-again c = search (rules, pairs-more)
+loop-again c = search (rules, pairs_more)
 
 same_length : tie.Need-same-length invariant-loop decreases-loop
 same_length c = search rules
 
 returns : tie.Need-returns invariant-loop decreases-loop
-returns c = search (rules, pairs-all)
+returns c = search (rules, pairs_all)
 
 pub put_pairs_spec : {M : Type 1} → statement M
 put_pairs_spec =

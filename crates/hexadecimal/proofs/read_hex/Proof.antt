@@ -1,29 +1,29 @@
 -- `hexadecimal::read_hex` meets its contract, one law for each return. Assumes nothing.
-use Rattle.hexadecimal.proofs.Reading.{spelling-odd, spelling-bad, spelling-even, spelling-digits, spelling-long, spelling-good}
+use Rattle.hexadecimal.proofs.Reading.{spelling_odd, spelling_bad, spelling_even, spelling_digits, spelling_long, spelling_good}
 use borrow.Author.Rules.{rules}
 use Rattle.hexadecimal.proofs.read_hex.Statement.{statement}
 use Rattle.hexadecimal.proofs.read_hex.Tie as tie
 
 returns : tie.Need-returns
-returns c = search (rules, spelling-odd)
+returns c = search (rules, spelling_odd)
 
 all-digits-requires : tie.Need-all-digits-requires
 all-digits-requires c κs = search rules
 
 returns-2 : tie.Need-returns-2
-returns-2 c = search (rules, spelling-bad)
+returns-2 c = search (rules, spelling_bad)
 
 returns-3 : tie.Need-returns-3
-returns-3 c = search (rules, spelling-long)
+returns-3 c = search (rules, spelling_long)
 
 put-pairs-requires : tie.Need-put-pairs-requires
-put-pairs-requires c κs = search (rules, spelling-even, spelling-digits)
+put-pairs-requires c κs = search (rules, spelling_even, spelling_digits)
 
 same_length : tie.Need-same-length
 same_length c = search rules
 
 returns-4 : tie.Need-returns-4
-returns-4 c = search (rules, spelling-good)
+returns-4 c = search (rules, spelling_good)
 
 pub read_hex_spec : {M : Type 1} → statement M
 read_hex_spec =

@@ -1,6 +1,6 @@
 -- `lines::is_open` meets its contract, one law for each return. Assumes nothing.
 use borrow.Author.Rules.{rules}
-use Rattle.lines.proofs.Feeding.{open_begun, open-over}
+use Rattle.lines.proofs.Feeding.{open_begun, open_over}
 use Rattle.lines.proofs.is_open.Statement.{statement}
 use Rattle.lines.proofs.is_open.Tie as tie
 
@@ -11,7 +11,7 @@ returns : tie.Need-returns
 returns c = search (rules, open_begun)
 
 returns-2 : tie.Need-returns-2
-returns-2 c = search (rules, open-over)
+returns-2 c = search (rules, open_over)
 
 pub is_open_spec : {M : Type 1} → statement M
 is_open_spec = tie.close (tie.spec begun-requires returns returns-2)

@@ -5,7 +5,7 @@ use mathlib.Core.Path.{◌≡◌}
 use borrow.Author.Rules.{rules}
 use lib.ListN.{length, drop}
 use Rattle.octets.specs.Bytes.{every, within}
-use Rattle.octets.proofs.Strings.{every-low, every-high, every-on, every-end}
+use Rattle.octets.proofs.Strings.{every_low, every_high, every_on, every_end}
 use Rattle.octets.proofs.all_within.Statement.{statement}
 use Rattle.octets.proofs.all_within.Tie as tie
 
@@ -22,10 +22,10 @@ shared-slice-read-x : tie.Need-shared-slice-read-x invariant-loop decreases-loop
 shared-slice-read-x c = search rules
 
 returns : tie.Need-returns invariant-loop decreases-loop
-returns c = search (rules, every-low)
+returns c = search (rules, every_low)
 
 returns-2 : tie.Need-returns-2 invariant-loop decreases-loop
-returns-2 c = search (rules, every-high)
+returns-2 c = search (rules, every_high)
 
 add-i : tie.Need-overflow-add-i invariant-loop decreases-loop
 add-i c = search rules
@@ -34,10 +34,10 @@ loop-less : tie.Need-loop-smaller invariant-loop decreases-loop
 loop-less c = search rules
 
 loop-again : tie.Need-loop-preserved invariant-loop decreases-loop
-loop-again c = search (rules, every-on)
+loop-again c = search (rules, every_on)
 
 returns-3 : tie.Need-returns-3 invariant-loop decreases-loop
-returns-3 c = search (rules, every-end)
+returns-3 c = search (rules, every_end)
 
 pub all_within_spec : {M : Type 1} → statement M
 all_within_spec =

@@ -4,7 +4,7 @@ use mathlib.Core.Path.{◌≡◌}
 use borrow.Author.Rules.{rules}
 use lib.ListN.{length, drop}
 use Rattle.octets.specs.Bytes.{first_zero}
-use Rattle.octets.proofs.Strings.{scan-found, scan-on, scan-end}
+use Rattle.octets.proofs.Strings.{scan_found, scan_on, scan_end}
 use Rattle.octets.proofs.first_zero.Statement.{statement}
 use Rattle.octets.proofs.first_zero.Tie as tie
 
@@ -21,7 +21,7 @@ shared-slice-read-if1 : tie.Need-shared-slice-read-if1 invariant-loop decreases-
 shared-slice-read-if1 c = search rules
 
 returns : tie.Need-returns invariant-loop decreases-loop
-returns c = search (rules, scan-found)
+returns c = search (rules, scan_found)
 
 add-i : tie.Need-overflow-add-i invariant-loop decreases-loop
 add-i c = search rules
@@ -30,10 +30,10 @@ loop-less : tie.Need-loop-smaller invariant-loop decreases-loop
 loop-less c = search rules
 
 loop-again : tie.Need-loop-preserved invariant-loop decreases-loop
-loop-again c = search (rules, scan-on)
+loop-again c = search (rules, scan_on)
 
 returns-2 : tie.Need-returns-2 invariant-loop decreases-loop
-returns-2 c = search (rules, scan-end)
+returns-2 c = search (rules, scan_end)
 
 pub first_zero_spec : {M : Type 1} → statement M
 first_zero_spec =

@@ -5,7 +5,7 @@ use mathlib.Core.Path.{◌≡◌}
 use borrow.Author.Rules.{rules}
 use lib.ListN.{length, take}
 use Rattle.octets.specs.Put.{put}
-use Rattle.octets.proofs.Laying.{copy-none, copy_more, copy-all}
+use Rattle.octets.proofs.Laying.{copy_none, copy_more, copy_all}
 use Rattle.octets.proofs.put.Statement.{statement}
 use Rattle.octets.proofs.put.Tie as tie
 
@@ -16,7 +16,7 @@ abbrev decreases-loop : tie.decreases-loop
 decreases-loop out₀ at source i₀ out i = length source - i
 
 loop-holds : tie.Need-loop-init invariant-loop decreases-loop
-loop-holds c = search (rules, copy-none)
+loop-holds c = search (rules, copy_none)
 
 shared-slice-read-out : tie.Need-shared-slice-read-out invariant-loop decreases-loop
 shared-slice-read-out c = search rules
@@ -43,7 +43,7 @@ same_length : tie.Need-same-length invariant-loop decreases-loop
 same_length c = search rules
 
 returns : tie.Need-returns invariant-loop decreases-loop
-returns c = search (rules, copy-all)
+returns c = search (rules, copy_all)
 
 pub put_spec : {M : Type 1} → statement M
 put_spec =

@@ -5,7 +5,7 @@ use mathlib.Core.Path.{◌≡◌, refl, sym, ◌∙◌}
 use native.Mathlib.Omega.{arith}
 use lib.ListN.{length, drop}
 use Rattle.octets.specs.Bytes.{starts_with}
-use Rattle.octets.proofs.Strings.{starts_short, starts-equal, starts_other, starts_end}
+use Rattle.octets.proofs.Strings.{starts_short, starts_equal, starts_other, starts_end}
 use Rattle.octets.proofs.starts_with.Statement.{statement}
 use Rattle.octets.proofs.starts_with.Tie as tie
 
@@ -41,7 +41,7 @@ loop-less c = omega arith
 loop-again : tie.Need-loop-preserved invariant-loop decreases-loop
 loop-again c =
     let l = c.before.before.before.before.loop in
-    (omega arith, omega arith, l.invariant.2 ∙ starts-equal _ _ l.i (omega arith) (omega arith) c.if2.false)
+    (omega arith, omega arith, l.invariant.2 ∙ starts_equal _ _ l.i (omega arith) (omega arith) c.if2.false)
 
 returns-3 : tie.Need-returns-3 invariant-loop decreases-loop
 returns-3 c = sym (c.before.loop.invariant.2 ∙ starts_end _ _ c.before.loop.i (omega arith))

@@ -1,7 +1,7 @@
 -- `packet_join::joined_length` meets its contract, by recursion on `count`: the data of two arguments or more is the first, a zero
 -- byte and the data of the others; a sum of capped lengths, capped, is the capped sum. Assumes nothing.
 use borrow.Author.Rules.{rules}
-use Rattle.packet_join.proofs.Joins.{none-long, one-long, more-long}
+use Rattle.packet_join.proofs.Joins.{none_long, one_long, more_long}
 use Prim.Native.Nat.{ℕ, ◌<◌}
 use borrow.Fn.Kinds.{In}
 use borrow.Fn.PlainCycle.{Measures, is, falls, and}
@@ -33,7 +33,7 @@ joined_length_returns : (t : ℕ) → joined-length-lts.Need-returns (
   joined_length_below t,
   joined-length.Post,
 ) (joined_length_at t) joined-length.Post
-joined_length_returns t c = search (rules, none-long)
+joined_length_returns t c = search (rules, none_long)
 
 joined_length_capped_requires : (t : ℕ) → joined-length-lts.Need-capped-requires (
   capped-reads.Asked,
@@ -49,7 +49,7 @@ joined_length_returns_2 : (t : ℕ) → joined-length-lts.Need-returns-2 (
   joined_length_below t,
   joined-length.Post,
 ) (joined_length_at t) joined-length.Post
-joined_length_returns_2 t c = search (rules, one-long)
+joined_length_returns_2 t c = search (rules, one_long)
 
 joined_length_sub_joined_length : (t : ℕ) → joined-length-lts.Need-overflow-sub-joined-length (
   capped-reads.Asked,
@@ -105,7 +105,7 @@ joined_length_returns_3 : (t : ℕ) → joined-length-lts.Need-returns-3 (
   joined_length_below t,
   joined-length.Post,
 ) (joined_length_at t) joined-length.Post
-joined_length_returns_3 t c = search (rules, more-long)
+joined_length_returns_3 t c = search (rules, more_long)
 
 pub +joined-length-spec : {M : Type 1} → statement M
 +joined-length-spec = close μ-joined-length λ t. joined-length-lts.spec (

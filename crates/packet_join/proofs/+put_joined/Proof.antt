@@ -1,7 +1,7 @@
 -- `packet_join::put_joined` meets its contract, by recursion on `count`: the first argument, a zero byte and the data of the others,
 -- laid one after the other, are one run. Assumes nothing.
 use borrow.Author.Rules.{rules}
-use Rattle.packet_join.proofs.Joins.{none-place, none-laid, one_place, one-laid, more-place, more-laid, more_same, first_fits, zero_fits, rest-fits}
+use Rattle.packet_join.proofs.Joins.{none_place, none_laid, one_place, one_laid, more_place, more_laid, more_same, first_fits, zero_fits, rest_fits}
 use Prim.Native.Nat.{ℕ, ◌<◌}
 use borrow.Fn.Kinds.{In}
 use borrow.Fn.PlainCycle.{Measures, is, falls, and}
@@ -32,7 +32,7 @@ put_joined_returns : (t : ℕ) → put-joined-lts.Need-returns (
   put_joined_below t,
   put-joined.Post,
 ) (put_joined_at t) put-joined.Post
-put_joined_returns t c = search (rules, none-place, none-laid)
+put_joined_returns t c = search (rules, none_place, none_laid)
 
 put_joined_put_requires : (t : ℕ) → put-joined-lts.Need-put-requires (
   put_reads.Asked,
@@ -56,7 +56,7 @@ put_joined_returns_2 : (t : ℕ) → put-joined-lts.Need-returns-2 (
   put_joined_below t,
   put-joined.Post,
 ) (put_joined_at t) put-joined.Post
-put_joined_returns_2 t c = search (rules, one_place, one-laid)
+put_joined_returns_2 t c = search (rules, one_place, one_laid)
 
 put_joined_slice_write_out : (t : ℕ) → put-joined-lts.Need-slice-write-out (
   put_reads.Asked,
@@ -88,7 +88,7 @@ put_joined_put_joined_requires : (t : ℕ) → put-joined-lts.Need-put-joined-re
   put_joined_below t,
   put-joined.Post,
 ) (put_joined_at t) put-joined.Post
-put_joined_put_joined_requires t c κs = (search rules, (search rules, search (rules, rest-fits)))
+put_joined_put_joined_requires t c κs = (search rules, (search rules, search (rules, rest_fits)))
 
 put_joined_same_length_2 : (t : ℕ) → put-joined-lts.Need-same-length-2 (
   put_reads.Asked,
@@ -104,7 +104,7 @@ put_joined_returns_3 : (t : ℕ) → put-joined-lts.Need-returns-3 (
   put_joined_below t,
   put-joined.Post,
 ) (put_joined_at t) put-joined.Post
-put_joined_returns_3 t c = search (rules, more-place, more-laid)
+put_joined_returns_3 t c = search (rules, more_place, more_laid)
 
 pub +put-joined-spec : {M : Type 1} → statement M
 +put-joined-spec = close μ-put-joined λ t. put-joined-lts.spec (

@@ -1,7 +1,7 @@
 -- `packet_join::fit_all` meets its contract: another number of arguments than of rules does not fit, and with as many each of the
 -- five places is asked. Assumes nothing.
 use borrow.Author.Rules.{rules}
-use Rattle.packet_join.proofs.Fitting.{fit-other, fit_same}
+use Rattle.packet_join.proofs.Fitting.{fit_other, fit_same}
 use Rattle.packet_join.proofs.fit_all.Statement.{statement}
 use Rattle.packet_join.proofs.fit_all.Tie as tie
 
@@ -9,7 +9,7 @@ count-of-requires : tie.Need-count-of-requires
 count-of-requires c κs = search rules
 
 returns : tie.Need-returns
-returns c = search (rules, fit-other)
+returns c = search (rules, fit_other)
 
 fits-at-requires : tie.Need-fits-at-requires
 fits-at-requires c κs = search rules

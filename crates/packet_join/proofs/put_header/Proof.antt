@@ -7,7 +7,7 @@ use native.Mathlib.Omega.{arith}
 use lib.ListN.{length, length-append}
 use Rattle.octets.specs.Bytes.{Bytes, big_endian}
 use Rattle.octets.specs.Put.{put}
-use Rattle.octets.proofs.Runs.{laid_as, laid-third}
+use Rattle.octets.proofs.Runs.{laid_as, laid_third}
 use Rattle.packet_join.proofs.put_header.Statement.{statement}
 use Rattle.packet_join.proofs.put_header.Tie as tie
 
@@ -42,7 +42,7 @@ header_laid : (at kind size : ℕ) (m k s b : Bytes) → length m ≡ 4 → k �
     → (r ≡ at + 12) × (v ≡ put at (m ++ (big_endian kind ++ big_endian size)) b)
 header_laid at kind size m k s b four ek es p o e q u f r v g =
     let same : m ++ (k ++ s) ≡ m ++ (big_endian kind ++ big_endian size) = rw (ek, es) in
-    let l = laid_as _ _ same at r v b (laid-third at m k s b p o e q u f r v g) in
+    let l = laid_as _ _ same at r v b (laid_third at m k s b p o e q u f r v g) in
     (omega (arith, l.0, length-append m (big_endian kind ++ big_endian size)), l.1)
 
 returns : tie.Need-returns

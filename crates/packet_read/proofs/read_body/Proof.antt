@@ -1,7 +1,7 @@
 -- `packet_read::read_body` meets its contract: a foreign type is 9, data that does not split is 10, and else the arguments' ends are
 -- the answer. Assumes nothing.
 use mathlib.Core.Path.{sym, ap, ◌∙◌}
-use Rattle.packet_read.proofs.Reading.{split_answer, body-foreign, body_own}
+use Rattle.packet_read.proofs.Reading.{split_answer, body_foreign, body_own}
 use borrow.Author.Rules.{rules}
 use Rattle.packet_read.proofs.read_body.Statement.{statement}
 use Rattle.packet_read.proofs.read_body.Tie as tie
@@ -10,7 +10,7 @@ is-own-requires : tie.Need-is-own-requires
 is-own-requires c κs = search rules
 
 returns : tie.Need-returns
-returns c = search (rules, body-foreign)
+returns c = search (rules, body_foreign)
 
 split-requires : tie.Need-split-requires
 split-requires c κs = search rules

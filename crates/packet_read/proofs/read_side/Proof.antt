@@ -10,7 +10,7 @@ read-packet-requires : tie.Need-read-packet-requires
 read-packet-requires c κs = search rules
 
 returns : tie.Need-returns
-returns c = rw c.before.before.if1.true c.read-packet.ensures
+returns c = rw c.before.before.if1.true c.read_packet.ensures
 
 slice-aggregate-read-packet-2 : tie.Need-slice-aggregate-read-packet-2
 slice-aggregate-read-packet-2 c = search rules

@@ -6,7 +6,7 @@ use borrow.Author.Rules.{rules}
 use lib.ListN.{length}
 use lib.Seq.{length-take-le}
 use Rattle.packet.specs.Layout.{rules_of}
-use Rattle.packet_split.proofs.Splitting.{from_last, from-unseparated, from-unfit, from_more}
+use Rattle.packet_split.proofs.Splitting.{from_last, from_unseparated, from_unfit, from_more}
 use Prim.Native.Nat.{ℕ, ◌<◌}
 use borrow.Fn.Kinds.{In}
 use borrow.Fn.PlainCycle.{Measures, is, falls, and}
@@ -55,7 +55,7 @@ module _ (t : ℕ) where
   first-zero-requires c κs = search rules
 
   returns-2 : split-from-lts.Need-returns-2 (callees t) (split_from_at t) Split-from.Post
-  returns-2 c = search (rules, from-unseparated)
+  returns-2 c = search (rules, from_unseparated)
 
   slice-aggregate-fits : split-from-lts.Need-slice-aggregate-fits (callees t) (split_from_at t) Split-from.Post
   slice-aggregate-fits c = sym (length-take-le _ _ c.before.before.first-zero.ensures.1)
@@ -64,7 +64,7 @@ module _ (t : ℕ) where
   fits-requires c κs = search rules
 
   returns-3 : split-from-lts.Need-returns-3 (callees t) (split_from_at t) Split-from.Post
-  returns-3 c = search (rules, from-unfit)
+  returns-3 c = search (rules, from_unfit)
 
   add-split-from : split-from-lts.Need-overflow-add-split-from (callees t) (split_from_at t) Split-from.Post
   add-split-from c = search rules

@@ -3,7 +3,7 @@
 use Prim.Native.Nat.{◌+◌, ◌<◌}
 use native.Mathlib.Omega.{arith}
 use borrow.Author.Rules.{rules}
-use Rattle.packet_write.proofs.Refusals.{foreign, unfit, fit_count, too_much, too_short, no-refusal}
+use Rattle.packet_write.proofs.Refusals.{foreign, unfit, fit_count, too_much, too_short, no_refusal}
 use Rattle.packet_write.proofs.refusal.Statement.{statement}
 use Rattle.packet_write.proofs.refusal.Tie as tie
 
@@ -35,7 +35,7 @@ returns-4 c =
     search (rules, too_short)
 
 returns-5 : tie.Need-returns-5
-returns-5 c = search (rules, no-refusal)
+returns-5 c = search (rules, no_refusal)
 
 pub refusal_spec : {M : Type 1} → statement M
 refusal_spec =

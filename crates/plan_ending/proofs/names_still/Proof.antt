@@ -6,14 +6,14 @@ use Rattle.server.specs.Layout.{table_of}
 use Rattle.server.specs.Table.{names}
 use Rattle.plan.specs.Values.{values_of}
 use Rattle.plan.proofs.Sizes.{rows_long}
-use Rattle.plan_ending.proofs.Walks.{names-none, names_other}
+use Rattle.plan_ending.proofs.Walks.{names_none, names_other}
 use Rattle.plan_ending.proofs.names_still.Statement.{statement}
 use Rattle.plan_ending.proofs.names_still.Tie as tie
 
 returns : tie.Need-returns
 returns c =
     let a = c.before.before.args in
-    names-none (values_of (table_of connection_count a.table.now)).rows a.q _ _ (rw (rows_long a.table.now) c.before.before.requires.1) c.if1.true
+    names_none (values_of (table_of connection_count a.table.now)).rows a.q _ _ (rw (rows_long a.table.now) c.before.before.requires.1) c.if1.true
 
 row-at-requires : tie.Need-row-at-requires
 row-at-requires c κs = search rules

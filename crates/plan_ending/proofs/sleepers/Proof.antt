@@ -10,7 +10,7 @@ use Rattle.server.specs.Layout.{table_of}
 use Rattle.server.specs.Table.{closed}
 use Rattle.plan.specs.Values.{values_of}
 use Rattle.plan.specs.Busy.{unions, wakes_now, to_wake_set}
-use Rattle.plan_settle.proofs.Turns.{union-turn, union-end}
+use Rattle.plan_settle.proofs.Turns.{union_turn, union_end}
 use Rattle.plan.proofs.Sizes.{connections_long}
 use Rattle.plan_ending.proofs.sleepers.Statement.{statement}
 use Rattle.plan_ending.proofs.sleepers.Tie as tie
@@ -47,15 +47,15 @@ loop-again c =
     let a = c.before.before.before.before.before.before.args in
     let v = c.before.waking in (
       omega arith,
-      union-turn (wakes_now a.able) _ _ l.s l.c l.invariant.1 closed c.union.result v.result (omega (arith, connections_long a.table.now)) c.union.ensures
-          (v.ensures ∙ ap (wakes_now a.able l.c) c.before.before.connection-at.ensures),
+      union_turn (wakes_now a.able) _ _ l.s l.c l.invariant.1 closed c.union.result v.result (omega (arith, connections_long a.table.now)) c.union.ensures
+          (v.ensures ∙ ap (wakes_now a.able l.c) c.before.before.connection_at_lem.ensures),
     )
 
 returns : tie.Need-returns invariant-loop decreases-loop
 returns c =
     let l = c.before.loop in
     let a = c.before.before.before.args in
-    union-end (wakes_now a.able) _ _ l.s l.c l.invariant.1 (omega (arith, connections_long a.table.now))
+    union_end (wakes_now a.able) _ _ l.s l.c l.invariant.1 (omega (arith, connections_long a.table.now))
 
 pub sleepers_spec : {M : Type 1} → statement M
 sleepers_spec =

@@ -12,7 +12,7 @@ use Rattle.lists.specs.Lists.{any}
 use Rattle.server.specs.Sizes.{connection_count, job_count}
 use Rattle.plan.specs.Values.{values_of}
 use Rattle.plan.proofs.Sizes.{rows_long}
-use Rattle.plan_ending.proofs.Walks.{any-turn, any-end}
+use Rattle.plan_ending.proofs.Walks.{any_turn, any_end}
 use Rattle.plan_ending.proofs.some_grab.Statement.{statement}
 use Rattle.plan_ending.proofs.some_grab.Tie as tie
 
@@ -40,13 +40,13 @@ loop-again : tie.Need-loop-preserved invariant-loop decreases-loop
 loop-again c =
     let l = c.before.before.loop in
     let a = c.before.before.before.before.args in
-    (omega arith, any-turn (grabbable (values_of (table_of connection_count a.table.now)).able a.c) _ 32 l.i l.found (rows_long _) l.invariant.1 no_row c.grabs.result (omega arith) c.grabs.ensures)
+    (omega arith, any_turn (grabbable (values_of (table_of connection_count a.table.now)).able a.c) _ 32 l.i l.found (rows_long _) l.invariant.1 no_row c.grabs.result (omega arith) c.grabs.ensures)
 
 returns : tie.Need-returns invariant-loop decreases-loop
 returns c =
     let l = c.before.loop in
     let a = c.before.before.before.args in
-    any-end (grabbable (values_of (table_of connection_count a.table.now)).able a.c) _ 32 l.i l.found (rows_long _) l.invariant.1 (omega arith)
+    any_end (grabbable (values_of (table_of connection_count a.table.now)).able a.c) _ 32 l.i l.found (rows_long _) l.invariant.1 (omega arith)
 
 pub some_grab_spec : {M : Type 1} → statement M
 some_grab_spec =

@@ -11,7 +11,7 @@ use Rattle.server.specs.Table.{no_row, names}
 use Rattle.lists.specs.Lists.{any}
 use Rattle.server.specs.Sizes.{connection_count, job_count}
 use Rattle.plan.specs.Values.{values_of}
-use Rattle.plan_ending.proofs.Walks.{any-turn, any-end, left-long}
+use Rattle.plan_ending.proofs.Walks.{any_turn, any_end, left_long}
 use Rattle.plan_ending.proofs.some_name.Statement.{statement}
 use Rattle.plan_ending.proofs.some_name.Tie as tie
 
@@ -39,13 +39,13 @@ loop-again : tie.Need-loop-preserved invariant-loop decreases-loop
 loop-again c =
     let l = c.before.before.loop in
     let a = c.before.before.before.before.args in
-    (omega arith, any-turn (names a.q) _ 32 l.i l.found (left-long _ a.over) l.invariant.1 no_row c.names-still.result (omega arith) c.names-still.ensures)
+    (omega arith, any_turn (names a.q) _ 32 l.i l.found (left_long _ a.over) l.invariant.1 no_row c.names-still.result (omega arith) c.names-still.ensures)
 
 returns : tie.Need-returns invariant-loop decreases-loop
 returns c =
     let l = c.before.loop in
     let a = c.before.before.before.args in
-    any-end (names a.q) _ 32 l.i l.found (left-long _ a.over) l.invariant.1 (omega arith)
+    any_end (names a.q) _ 32 l.i l.found (left_long _ a.over) l.invariant.1 (omega arith)
 
 pub some_name_spec : {M : Type 1} → statement M
 some_name_spec =

@@ -13,7 +13,7 @@ use Rattle.server.specs.Sizes.{connection_count, job_count}
 use Rattle.plan.specs.Values.{values_of}
 use Rattle.plan.specs.Steps.{waits}
 use Rattle.plan.proofs.Sizes.{rows_long}
-use Rattle.plan_ending.proofs.Walks.{any-turn, any-end}
+use Rattle.plan_ending.proofs.Walks.{any_turn, any_end}
 use Rattle.plan_ending.proofs.some_wait.Statement.{statement}
 use Rattle.plan_ending.proofs.some_wait.Tie as tie
 
@@ -42,12 +42,12 @@ loop-again : tie.Need-loop-preserved invariant-loop decreases-loop
 loop-again c =
     let l = c.before.before.before.loop in
     let a = c.before.before.before.before.before.args in
-    (omega arith, any-turn (waits a.q) _ 32 l.i l.found (rows_long _) l.invariant.1 no_row c.waits.result (omega arith) (c.waits.ensures ∙ ap (waits a.q) c.before.row_at.ensures))
+    (omega arith, any_turn (waits a.q) _ 32 l.i l.found (rows_long _) l.invariant.1 no_row c.waits.result (omega arith) (c.waits.ensures ∙ ap (waits a.q) c.before.row_at.ensures))
 
 returns : tie.Need-returns invariant-loop decreases-loop
 returns c =
     let l = c.before.loop in
-    any-end (waits c.before.before.before.args.q) _ 32 l.i l.found (rows_long _) l.invariant.1 (omega arith)
+    any_end (waits c.before.before.before.args.q) _ 32 l.i l.found (rows_long _) l.invariant.1 (omega arith)
 
 pub some_wait_spec : {M : Type 1} → statement M
 some_wait_spec =

@@ -9,7 +9,7 @@ use Rattle.server.specs.Layout.{table_of}
 use Rattle.plan.specs.Values.{values_of}
 use Rattle.plan.specs.Parts.{heard, heard_from}
 use Rattle.plan.proofs.Sizes.{connections_long}
-use Rattle.plan_events.proofs.Hearing.{heard-turn, heard-end}
+use Rattle.plan_events.proofs.Hearing.{heard_turn, heard_end}
 use borrow.Author.Rules.{rules}
 use Rattle.plan_events.proofs.heard.Statement.{statement}
 use Rattle.plan_events.proofs.heard.Tie as tie
@@ -41,14 +41,14 @@ loop-again c =
     let l = c.before.before.before.loop in
     let a = c.before.before.before.before.before.args in
     let b = a.table.now in
-    (omega arith, heard-turn (values_of (table_of connection_count b)).connections a.listeners l.s l.i l.invariant.1 _ (omega (arith, connections_long b)) (c.kept.ensures ∙ rw c.before.connection-at.ensures))
+    (omega arith, heard_turn (values_of (table_of connection_count b)).connections a.listeners l.s l.i l.invariant.1 _ (omega (arith, connections_long b)) (c.kept.ensures ∙ rw c.before.connection_at_lem.ensures))
 
 returns : tie.Need-returns invariant-loop decreases-loop
 returns c =
     let l = c.before.loop in
     let a = c.before.before.before.args in
     let b = a.table.now in
-    heard-end (values_of (table_of connection_count b)).connections a.listeners l.s l.i l.invariant.1 (omega (arith, connections_long b))
+    heard_end (values_of (table_of connection_count b)).connections a.listeners l.s l.i l.invariant.1 (omega (arith, connections_long b))
 
 pub heard_spec : {M : Type 1} → statement M
 heard_spec =

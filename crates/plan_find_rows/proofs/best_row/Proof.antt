@@ -5,7 +5,7 @@ use mathlib.Core.Path.{◌≡◌, refl, sym, ◌∙◌}
 use native.Mathlib.Omega.{arith}
 use borrow.Author.Tests.{not-true}
 use Rattle.plan_find_rows.specs.Queue.{BestOf}
-use Rattle.plan_find_rows.proofs.Walk.{best-start, best-end, unable-nowhere}
+use Rattle.plan_find_rows.proofs.Walk.{best_start, best_end, unable_nowhere}
 use borrow.Author.Rules.{rules}
 use Rattle.server.specs.Sizes.{job_count}
 use Rattle.plan_find_rows.proofs.best_row.Statement.{statement}
@@ -26,10 +26,10 @@ has-requires c κs = search rules
 returns : tie.Need-returns invariant-loop decreases-loop
 returns c =
     let a = c.before.before.before.before.args in
-    unable-nowhere a.table.now a.c c.before.before.joined.result c.before.before.joined.ensures (sym c.before.has.ensures ∙ not-true _ c.if1.true)
+    unable_nowhere a.table.now a.c c.before.before.joined.result c.before.before.joined.ensures (sym c.before.has.ensures ∙ not-true _ c.if1.true)
 
 loop-holds : tie.Need-loop-init invariant-loop decreases-loop
-loop-holds c = (omega arith, refl, best-start _ _)
+loop-holds c = (omega arith, refl, best_start _ _)
 
 next-group-requires : tie.Need-next-group-requires invariant-loop decreases-loop
 next-group-requires c κs = search rules
@@ -48,7 +48,7 @@ returns-2 c =
     let l = c.before.loop in
     let a = c.before.before.before.before.before.before.args in
     let e : l.p ≡ 32 = omega arith in
-    best-end a.table.now a.c l.v (rw e at l.invariant.2)
+    best_end a.table.now a.c l.v (rw e at l.invariant.2)
 
 pub best_row_spec : {M : Type 1} → statement M
 best_row_spec =

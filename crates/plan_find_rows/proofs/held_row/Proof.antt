@@ -1,5 +1,5 @@
 -- `plan_find_rows::held_row` meets its contract: of the rows only the one with the serial is asked for its holder. Assumes nothing.
-use Rattle.plan_find_rows.proofs.Rows.{held-nowhere, held_at}
+use Rattle.plan_find_rows.proofs.Rows.{held_nowhere, held_at}
 use borrow.Author.Rules.{rules}
 use Rattle.plan_find_rows.proofs.held_row.Statement.{statement}
 use Rattle.plan_find_rows.proofs.held_row.Tie as tie
@@ -28,7 +28,7 @@ either-requires c κs = search rules
 returns : tie.Need-returns
 returns c =
     let s = c.before.before.before.before in
-    held-nowhere s.args.table.now s.requires.0 _ _ _ c.before.before.serial-row.ensures c.enum_told.given.1
+    held_nowhere s.args.table.now s.requires.0 _ _ _ c.before.before.serial-row.ensures c.enum_told.given.1
 
 returns-2 : tie.Need-returns-2
 returns-2 c =

@@ -10,7 +10,7 @@ use lib.ListN.{get_or, drop}
 use lib.Dec.{eqb}
 use Rattle.lists.specs.Lists.{find, numbers}
 use Rattle.server.specs.Sizes.{job_count}
-use Rattle.lists.proofs.Lowest.{up_by, lowest_start, number-here, number-on, number-none}
+use Rattle.lists.proofs.Lowest.{up_by, lowest_start, number_here, number_on, number_none}
 use borrow.Author.Rules.{rules}
 use Rattle.plan_find_rows.proofs.lowest.Statement.{statement}
 use Rattle.plan_find_rows.proofs.lowest.Tie as tie
@@ -38,7 +38,7 @@ returns : tie.Need-returns invariant-loop decreases-loop
 returns c =
     let l = c.before.before.before.loop in
     let a = c.before.before.before.before.args in
-    number-here (stands a.column.now a.x) 32 l.i l.invariant.1 (omega arith) (eq-eqb _ _ c.if1.true)
+    number_here (stands a.column.now a.x) 32 l.i l.invariant.1 (omega arith) (eq-eqb _ _ c.if1.true)
 
 add-i : tie.Need-overflow-add-i invariant-loop decreases-loop
 add-i c = search rules
@@ -50,13 +50,13 @@ loop-again : tie.Need-loop-preserved invariant-loop decreases-loop
 loop-again c =
     let l = c.before.before.before.loop in
     let a = c.before.before.before.before.args in
-    (omega arith, number-on (stands a.column.now a.x) 32 l.i l.invariant.1 (omega arith) (ne_eqb _ _ c.if1.false))
+    (omega arith, number_on (stands a.column.now a.x) 32 l.i l.invariant.1 (omega arith) (ne_eqb _ _ c.if1.false))
 
 returns-2 : tie.Need-returns-2 invariant-loop decreases-loop
 returns-2 c =
     let l = c.before.loop in
     let a = c.before.before.args in
-    number-none (stands a.column.now a.x) 32 l.i l.invariant.1 (omega arith)
+    number_none (stands a.column.now a.x) 32 l.i l.invariant.1 (omega arith)
 
 pub lowest_spec : {M : Type 1} → statement M
 lowest_spec =

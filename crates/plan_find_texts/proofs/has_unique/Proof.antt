@@ -1,5 +1,5 @@
 -- `plan_find_texts::has_unique` meets its contract, one law for each return. Assumes nothing.
-use Rattle.plan_find_texts.proofs.Joining.{other-job, same-job}
+use Rattle.plan_find_texts.proofs.Joining.{other_job, same_job}
 use borrow.Author.Rules.{rules}
 use Rattle.plan_find_texts.proofs.has_unique.Statement.{statement}
 use Rattle.plan_find_texts.proofs.has_unique.Tie as tie
@@ -19,7 +19,7 @@ cast-if1 c = search rules
 returns : tie.Need-returns
 returns c =
     let s = c.before.before.before.before in
-    other-job _ _ _ _ _ _ s.requires.2 c.before.wide.ensures.0 c.if1.true
+    other_job _ _ _ _ _ _ s.requires.2 c.before.wide.ensures.0 c.if1.true
 
 mul-unique-at : tie.Need-overflow-mul-unique-at
 mul-unique-at c = search rules
@@ -33,7 +33,7 @@ unique-at-requires c κs = search rules
 returns-2 : tie.Need-returns-2
 returns-2 c =
     let s = c.before.before.before.before.before in
-    same-job _ _ _ _ _ _ s.requires.2 c.before.before.wide.ensures.0 _ c.before.if1.false c.unique-at.ensures
+    same_job _ _ _ _ _ _ s.requires.2 c.before.before.wide.ensures.0 _ c.before.if1.false c.unique-at.ensures
 
 pub has_unique_spec : {M : Type 1} → statement M
 has_unique_spec =

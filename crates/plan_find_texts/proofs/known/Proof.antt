@@ -1,5 +1,5 @@
 -- `plan_find_texts::known` meets its contract: the padded name is looked for among the names as they lie. Assumes nothing.
-use Rattle.plan_find_texts.proofs.Names.{known-place}
+use Rattle.plan_find_texts.proofs.Names.{known_place}
 use borrow.Author.Rules.{rules}
 use Rattle.plan_find_texts.proofs.known.Statement.{statement}
 use Rattle.plan_find_texts.proofs.known.Tie as tie
@@ -16,7 +16,7 @@ place-of-requires c κs = search rules
 returns : tie.Need-returns
 returns c =
     let p = c.before.before.before.before.before.before.before.requires in
-    known-place _ _ p.0 c.before.before.before.before.read_names.ensures _ _ p.2 p.3 c.before.before.before.padded-name.ensures _ c.place_of.ensures
+    known_place _ _ p.0 c.before.before.before.before.read_names.ensures _ _ p.2 p.3 c.before.before.before.padded-name.ensures _ c.place_of.ensures
 
 pub known_spec : {M : Type 1} → statement M
 known_spec =

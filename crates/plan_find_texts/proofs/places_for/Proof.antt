@@ -1,5 +1,5 @@
 -- `plan_find_texts::places_for` meets its contract: both places are found from that of the name. Assumes nothing.
-use Rattle.plan_find_texts.proofs.Names.{known-place, room-place}
+use Rattle.plan_find_texts.proofs.Names.{known_place, room_place}
 use Rattle.plan_find_texts.proofs.Joining.{joined_found}
 use borrow.Author.Rules.{rules}
 use Rattle.plan_find_texts.proofs.places_for.Statement.{statement}
@@ -27,8 +27,8 @@ returns c =
     let names = c.before.before.before.before.before.before.before.read_names.ensures in
     let name = c.before.before.before.before.before.before.padded-name.ensures in
     let place = c.before.before.before.place_of.ensures in (
-      joined_found s.args.table.now p.0 _ _ _ _ p.2 (known-place _ _ p.0 names _ _ p.3 p.4 name _ place) c.before.before.joined_at.ensures,
-      room-place _ _ p.0 names _ _ p.3 p.4 name _ place _ c.or-free.ensures,
+      joined_found s.args.table.now p.0 _ _ _ _ p.2 (known_place _ _ p.0 names _ _ p.3 p.4 name _ place) c.before.before.joined_at.ensures,
+      room_place _ _ p.0 names _ _ p.3 p.4 name _ place _ c.or-free.ensures,
     )
 
 pub places_for_spec : {M : Type 1} → statement M

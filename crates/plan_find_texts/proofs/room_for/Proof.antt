@@ -1,5 +1,5 @@
 -- `plan_find_texts::room_for` meets its contract: the name's place, or else that of the empty name. Assumes nothing.
-use Rattle.plan_find_texts.proofs.Names.{room-place}
+use Rattle.plan_find_texts.proofs.Names.{room_place}
 use borrow.Author.Rules.{rules}
 use Rattle.plan_find_texts.proofs.room_for.Statement.{statement}
 use Rattle.plan_find_texts.proofs.room_for.Tie as tie
@@ -19,7 +19,7 @@ or-free-requires c κs = search rules
 returns : tie.Need-returns
 returns c =
     let p = c.before.before.before.before.before.before.before.before.before.requires in
-    room-place _ _ p.0 c.before.before.before.before.before.before.read_names.ensures _ _ p.2 p.3 c.before.before.before.before.before.padded-name.ensures _ c.before.place_of.ensures _ c.or-free.ensures
+    room_place _ _ p.0 c.before.before.before.before.before.before.read_names.ensures _ _ p.2 p.3 c.before.before.before.before.before.padded-name.ensures _ c.before.place_of.ensures _ c.or-free.ensures
 
 pub room_for_spec : {M : Type 1} → statement M
 room_for_spec =

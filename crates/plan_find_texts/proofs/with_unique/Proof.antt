@@ -7,8 +7,8 @@ use lib.ListN.{drop}
 use Rattle.lists.specs.Lists.{find, numbers}
 use Rattle.server.specs.Sizes.{job_count}
 use Rattle.server.specs.Layout.{little_at, serials_at}
-use Rattle.table_rows.proofs.Reading.{column-at}
-use Rattle.lists.proofs.Lowest.{up_by, lowest_start, number-here, number-on, number-none}
+use Rattle.table_rows.proofs.Reading.{column_at}
+use Rattle.lists.proofs.Lowest.{up_by, lowest_start, number_here, number_on, number_none}
 use Rattle.plan_find_texts.specs.Uniques.{lies_for}
 use Rattle.plan_find_texts.proofs.Joining.{unique_found}
 use borrow.Author.Rules.{rules}
@@ -40,14 +40,14 @@ has-unique-requires : tie.Need-has-unique-requires invariant-loop decreases-loop
 has-unique-requires c κs =
     let l = c.before.before.loop in
     let s = c.before.before.before.before.before.before.before in
-    (s.requires.1, omega arith, column-at (λ k. little_at 4 s.args.table.now (serials_at + 4 * k)) 0 32 _ l.i c.before.before.before.before.fours.ensures (omega arith))
+    (s.requires.1, omega arith, column_at (λ k. little_at 4 s.args.table.now (serials_at + 4 * k)) 0 32 _ l.i c.before.before.before.before.fours.ensures (omega arith))
 
 returns : tie.Need-returns invariant-loop decreases-loop
 returns c =
     let l = c.before.before.before.before.loop in
     let s = c.before.before.before.before.before.before.before.before.before in
     unique_found _ s.requires.0 _ _ _ _ s.requires.2 s.requires.3 c.before.before.before.before.before.padded-unique.ensures
-    (number-here _ 32 l.i l.invariant.1 (omega arith) (sym c.before.has-unique.ensures ∙ c.if1.true))
+    (number_here _ 32 l.i l.invariant.1 (omega arith) (sym c.before.has-unique.ensures ∙ c.if1.true))
 
 add-i : tie.Need-overflow-add-i invariant-loop decreases-loop
 add-i c = search rules
@@ -58,13 +58,13 @@ loop-less c = search rules
 loop-again : tie.Need-loop-preserved invariant-loop decreases-loop
 loop-again c =
     let l = c.before.before.before.before.loop in
-    (omega arith, number-on _ 32 l.i l.invariant.1 (omega arith) (sym c.before.has-unique.ensures ∙ c.if1.false))
+    (omega arith, number_on _ 32 l.i l.invariant.1 (omega arith) (sym c.before.has-unique.ensures ∙ c.if1.false))
 
 returns-2 : tie.Need-returns-2 invariant-loop decreases-loop
 returns-2 c =
     let l = c.before.loop in
     let s = c.before.before.before.before.before.before in
-    unique_found _ s.requires.0 _ _ _ _ s.requires.2 s.requires.3 c.before.before.padded-unique.ensures (number-none _ 32 l.i l.invariant.1 (omega arith))
+    unique_found _ s.requires.0 _ _ _ _ s.requires.2 s.requires.3 c.before.before.padded-unique.ensures (number_none _ 32 l.i l.invariant.1 (omega arith))
 
 pub with_unique_spec : {M : Type 1} → statement M
 with_unique_spec =

@@ -5,7 +5,7 @@ use mathlib.Core.List.{map}
 use native.Mathlib.Omega.{arith}
 use borrow.Author.Rules.{rules}
 use lib.ListN.{length, take, length-set, length-map, get_or-map}
-use Rattle.lists.proofs.Filling.{fill-turn, fill_end}
+use Rattle.lists.proofs.Filling.{fill_turn, fill_end}
 use Rattle.sets.specs.Sets.{remove}
 use Rattle.plan_leave.proofs.unable_all.Statement.{statement}
 use Rattle.plan_leave.proofs.unable_all.Tie as tie
@@ -47,7 +47,7 @@ loop-again c =
     let n = length-map a.t1 (λ s. remove s a.c) in
     let m : length a.t1 ≡ 16 = search rules in
     let h : length l.next ≡ 16 = l.invariant.1 in
-    (omega arith, length-set l.next l.i _ ∙ h, fill-turn (map (λ s. remove s a.c) a.t1) l.next l.i l.invariant.2 (remove 0 a.c) _ (omega arith) (omega arith) (c.remove.ensures ∙ sym (get_or-map (λ s. remove s a.c) a.t1 l.i 0)))
+    (omega arith, length-set l.next l.i _ ∙ h, fill_turn (map (λ s. remove s a.c) a.t1) l.next l.i l.invariant.2 (remove 0 a.c) _ (omega arith) (omega arith) (c.remove.ensures ∙ sym (get_or-map (λ s. remove s a.c) a.t1 l.i 0)))
 
 returns : tie.Need-returns invariant-loop decreases-loop
 returns c =

@@ -1,6 +1,6 @@
 -- `plan_request::held` meets its contract, by the cases of the handle. Assumes nothing.
 use mathlib.Core.Path.{sym, ◌∙◌}
-use Rattle.plan_request.proofs.Planned.{held_found, held-nothing}
+use Rattle.plan_request.proofs.Planned.{held_found, held_nothing}
 use borrow.Author.Rules.{rules}
 use Rattle.plan_request.proofs.held.Statement.{statement}
 use Rattle.plan_request.proofs.held.Tie as tie
@@ -28,7 +28,7 @@ returns c =
 returns-2 : tie.Need-returns-2
 returns-2 c =
     let s = c.before.before.before.before.before.before in
-    held-nothing _ _ _ c.before.before.before.hub-of.ensures s.requires.0 _ (sym c.before.before.serial-of.ensures ∙ c.enum_told.given.1)
+    held_nothing _ _ _ c.before.before.before.hub-of.ensures s.requires.0 _ (sym c.before.before.serial-of.ensures ∙ c.enum_told.given.1)
 
 pub held_spec : {M : Type 1} → statement M
 held_spec =

@@ -6,9 +6,9 @@ use mathlib.Core.Logic.{⊎_elim}
 use borrow.Author.Rules.{rules}
 use Rattle.packet.specs.declared.Shape.TheVariants.{Foreign}
 use Rattle.packet.specs.Layout.{request_shape, served}
-use Rattle.packet_kinds.proofs.Tests.{range-arm, last_arm}
+use Rattle.packet_kinds.proofs.Tests.{range_arm, last_arm}
 use Rattle.packet_kinds.proofs.Shapes.{shapes}
-use Rattle.plan_request.proofs.Planned.{text_short, text-free, can-do-name, cant-do-name, submits_one, submits_run, plan-foreign, plan-can-do, plan-cant-do, plan-reset, plan-identify, plan-pre-sleep, plan-grab, plan-grab-uniq, plan-echo, plan-option, plan-status, plan-reports, plan-ends, plan-throws, plan-tells}
+use Rattle.plan_request.proofs.Planned.{text_short, text_free, can_do_name, cant_do_name, submits_one, submits_run, plan_foreign, plan_can_do_lem, plan_cant_do_lem, plan_reset, plan_identify_lem, plan_pre_sleep, plan_grab_lem, plan_grab_uniq, plan_echo, plan_option_lem, plan_status_lem, plan_reports, plan_ends, plan_throws, plan_tells}
 use Rattle.plan_request.proofs.plan_request.Statement.{statement}
 use Rattle.plan_request.proofs.plan_request.Tie as tie
 
@@ -21,13 +21,13 @@ argument-requires : tie.Need-argument-requires
 argument-requires c κs = search rules
 
 room-for-requires : tie.Need-room-for-requires
-room-for-requires c κs = search (rules, text_short 1 32, text-free 1 32, can-do-name)
+room-for-requires c κs = search (rules, text_short 1 32, text_free 1 32, can_do_name)
 
 can-do-requires : tie.Need-can-do-requires
 can-do-requires c κs = search rules
 
 known-requires : tie.Need-known-requires
-known-requires c κs = search (rules, text_short 1 32, text-free 1 32, cant-do-name)
+known-requires c κs = search (rules, text_short 1 32, text_free 1 32, cant_do_name)
 
 cant-do-requires : tie.Need-cant-do-requires
 cant-do-requires c κs = search rules
@@ -99,59 +99,59 @@ submit-requires c κs =
     (s.requires.0, s.requires.1, s.requires.2, s.requires.3, submits)
 
 returns : tie.Need-returns
-returns c = search (rules, plan-can-do)
+returns c = search (rules, plan_can_do_lem)
 
 returns-2 : tie.Need-returns-2
-returns-2 c = search (rules, plan-cant-do)
+returns-2 c = search (rules, plan_cant_do_lem)
 
 returns-3 : tie.Need-returns-3
-returns-3 c = search (rules, plan-reset)
+returns-3 c = search (rules, plan_reset)
 
 returns-4 : tie.Need-returns-4
-returns-4 c = search (rules, plan-pre-sleep)
+returns-4 c = search (rules, plan_pre_sleep)
 
 returns-5 : tie.Need-returns-5
-returns-5 c = search (rules, plan-grab)
+returns-5 c = search (rules, plan_grab_lem)
 
 returns-6 : tie.Need-returns-6
-returns-6 c = search (rules, plan-reports)
+returns-6 c = search (rules, plan_reports)
 
 returns-7 : tie.Need-returns-7
-returns-7 c = search (rules, plan-status)
+returns-7 c = search (rules, plan_status_lem)
 
 returns-8 : tie.Need-returns-8
-returns-8 c = search (rules, plan-echo)
+returns-8 c = search (rules, plan_echo)
 
 returns-9 : tie.Need-returns-9
-returns-9 c = search (rules, plan-identify)
+returns-9 c = search (rules, plan_identify_lem)
 
 returns-10 : tie.Need-returns-10
-returns-10 c = search (rules, plan-throws)
+returns-10 c = search (rules, plan_throws)
 
 returns-11 : tie.Need-returns-11
-returns-11 c = search (rules, plan-option)
+returns-11 c = search (rules, plan_option_lem)
 
 returns-12 : tie.Need-returns-12
-returns-12 c = search (rules, plan-grab-uniq)
+returns-12 c = search (rules, plan_grab_uniq)
 
 returns-13 : tie.Need-returns-13
-returns-13 c = search (rules, plan-ends)
+returns-13 c = search (rules, plan_ends)
 
 returns-14 : tie.Need-returns-14
-returns-14 c = search (rules, plan-tells)
+returns-14 c = search (rules, plan_tells)
 
 returns-15 : tie.Need-returns-15
 unfolding request_shape
 returns-15 c =
     let s = c.before.before.before.before.before.before in
     let rest = c.before.before.match.rest in
-    plan-foreign s.args.table.now s.args.packet.now _ _ _ s.requires.3 _
+    plan_foreign s.args.table.now s.args.packet.now _ _ _ s.requires.3 _
     (⊎_elim
-    (λ a. range-arm shapes request_shape keys 0 12 tt _ rest zero-le a.taken)
+    (λ a. range_arm shapes request_shape keys 0 12 tt _ rest zero-le a.taken)
     (⊎_elim
-    (λ a. range-arm shapes request_shape keys 15 13 tt _ rest a.1.left a.2.taken)
+    (λ a. range_arm shapes request_shape keys 15 13 tt _ rest a.1.left a.2.taken)
     (⊎_elim
-    (λ a. range-arm shapes request_shape keys 30 2 tt _ rest a.3.left a.4.taken)
+    (λ a. range_arm shapes request_shape keys 30 2 tt _ rest a.3.left a.4.taken)
     (λ a. last_arm shapes served Foreign keys 35 tt _ rest a.5.left)))
     c.before.if1.branch)
 

@@ -1,6 +1,6 @@
 -- `plan_rows::row_at` meets its contract: a place beyond the last has an empty row. Assumes nothing.
 use mathlib.Core.Path.{◌∙◌}
-use Rattle.plan_rows.proofs.Beyond.{at-beyond}
+use Rattle.plan_rows.proofs.Beyond.{at_beyond}
 use borrow.Author.Rules.{rules}
 use Rattle.plan_rows.proofs.row_at.Statement.{statement}
 use Rattle.plan_rows.proofs.row_at.Tie as tie
@@ -9,7 +9,7 @@ no-row-requires : tie.Need-no-row-requires
 no-row-requires c κs = search rules
 
 returns : tie.Need-returns
-returns c = c.no_row.ensures ∙ at-beyond c.before.before.args.t1 32 _ (search rules) c.before.if1.true _
+returns c = c.no_row.ensures ∙ at_beyond c.before.before.args.t1 32 _ (search rules) c.before.if1.true _
 
 mul-result : tie.Need-overflow-mul-result
 mul-result c = search rules

@@ -12,7 +12,7 @@ use Rattle.lists.specs.Lists.{find}
 use Rattle.server.specs.Sizes.{job_count}
 use Rattle.server.specs.Table.{no_row, live}
 use Rattle.plan.specs.Values.{serial_row}
-use Rattle.lists.proofs.Lowest.{up_by, lowest_start, lowest-here, lowest-on, lowest-none}
+use Rattle.lists.proofs.Lowest.{up_by, lowest_start, lowest_here, lowest_on, lowest_none}
 use Rattle.plan_search.proofs.serial_row.Statement.{statement}
 use Rattle.plan_search.proofs.serial_row.Tie as tie
 
@@ -42,7 +42,7 @@ unfolding serial_row
 returns c =
     let l = c.before.before.before.before.loop in
     let a = c.before.before.before.before.before.args in
-    lowest-here (numbered a.serial) a.t1 l.i no_row l.invariant.1 (omega arith) (sym c.before.has-serial.ensures ∙ c.if1.true)
+    lowest_here (numbered a.serial) a.t1 l.i no_row l.invariant.1 (omega arith) (sym c.before.has_serial.ensures ∙ c.if1.true)
 
 add-i : tie.Need-overflow-add-i invariant-loop decreases-loop
 add-i c = search rules
@@ -54,14 +54,14 @@ loop-again : tie.Need-loop-preserved invariant-loop decreases-loop
 loop-again c =
     let l = c.before.before.before.before.loop in
     let a = c.before.before.before.before.before.args in
-    (omega arith, lowest-on (numbered a.serial) a.t1 l.i no_row l.invariant.1 (omega arith) (sym c.before.has-serial.ensures ∙ c.if1.false))
+    (omega arith, lowest_on (numbered a.serial) a.t1 l.i no_row l.invariant.1 (omega arith) (sym c.before.has_serial.ensures ∙ c.if1.false))
 
 returns-2 : tie.Need-returns-2 invariant-loop decreases-loop
 unfolding serial_row
 returns-2 c =
     let l = c.before.loop in
     let a = c.before.before.args in
-    lowest-none (numbered a.serial) a.t1 l.i no_row l.invariant.1 (omega arith)
+    lowest_none (numbered a.serial) a.t1 l.i no_row l.invariant.1 (omega arith)
 
 pub serial_row_spec : {M : Type 1} → statement M
 serial_row_spec =

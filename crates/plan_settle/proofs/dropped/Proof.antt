@@ -8,7 +8,7 @@ use lib.ListN.{length, take, length-set}
 use Rattle.server.specs.Sizes.{job_count}
 use Rattle.server.specs.Table.{no_row}
 use Rattle.plan.specs.Settling.{dropped_rows}
-use Rattle.lists.proofs.Filling.{fill-turn, fill_end}
+use Rattle.lists.proofs.Filling.{fill_turn, fill_end}
 use Rattle.plan_settle.proofs.Turns.{length_dropped, dropped_at}
 use Rattle.plan_settle.proofs.dropped.Statement.{statement}
 use Rattle.plan_settle.proofs.dropped.Tie as tie
@@ -49,7 +49,7 @@ loop-again c =
     let a = c.before.before.before.before.args in
     let n = length_dropped a.t1 in
     let h : length l.auto ≡ 32 = l.invariant.1 in
-    (omega arith, length-set l.auto l.i _ ∙ h, fill-turn (dropped_rows a.t1) l.auto l.i l.invariant.2 no_row _ (omega arith) (omega arith) (c.unless-lost.ensures ∙ sym (dropped_at a.t1 l.i)))
+    (omega arith, length-set l.auto l.i _ ∙ h, fill_turn (dropped_rows a.t1) l.auto l.i l.invariant.2 no_row _ (omega arith) (omega arith) (c.unless-lost.ensures ∙ sym (dropped_at a.t1 l.i)))
 
 returns : tie.Need-returns invariant-loop decreases-loop
 returns c =

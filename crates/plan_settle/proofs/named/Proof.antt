@@ -8,7 +8,7 @@ use lib.ListN.{drop}
 use Rattle.server.specs.Sizes.{job_count}
 use Rattle.server.specs.Table.{no_row}
 use Rattle.plan.specs.Busy.{unions, name_of, named_set}
-use Rattle.plan_settle.proofs.Turns.{union-turn, union-end}
+use Rattle.plan_settle.proofs.Turns.{union_turn, union_end}
 use Rattle.plan_settle.proofs.named.Statement.{statement}
 use Rattle.plan_settle.proofs.named.Tie as tie
 
@@ -45,13 +45,13 @@ loop-again c =
     let l = c.before.before.before.before.loop in
     let a = c.before.before.before.before.before.args in
     let v = c.before.name_of in
-    (omega arith, union-turn (λ k r. name_of r) a.t1 _ l.s l.i l.invariant.1 no_row c.union.result v.result (omega arith) c.union.ensures v.ensures)
+    (omega arith, union_turn (λ k r. name_of r) a.t1 _ l.s l.i l.invariant.1 no_row c.union.result v.result (omega arith) c.union.ensures v.ensures)
 
 returns : tie.Need-returns invariant-loop decreases-loop
 returns c =
     let l = c.before.loop in
     let a = c.before.before.args in
-    union-end (λ k r. name_of r) a.t1 _ l.s l.i l.invariant.1 (omega arith)
+    union_end (λ k r. name_of r) a.t1 _ l.s l.i l.invariant.1 (omega arith)
 
 pub named_spec : {M : Type 1} → statement M
 named_spec =

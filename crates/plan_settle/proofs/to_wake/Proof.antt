@@ -8,7 +8,7 @@ use lib.ListN.{drop}
 use Rattle.server.specs.Sizes.{connection_count}
 use Rattle.server.specs.Table.{closed}
 use Rattle.plan.specs.Busy.{unions, wakes_now, to_wake_set}
-use Rattle.plan_settle.proofs.Turns.{union-turn, union-end}
+use Rattle.plan_settle.proofs.Turns.{union_turn, union_end}
 use Rattle.plan_settle.proofs.to_wake.Statement.{statement}
 use Rattle.plan_settle.proofs.to_wake.Tie as tie
 
@@ -45,13 +45,13 @@ loop-again c =
     let l = c.before.before.before.before.loop in
     let a = c.before.before.before.before.before.args in
     let v = c.before.waking in
-    (omega arith, union-turn (wakes_now a.busy) a.t1 _ l.s l.i l.invariant.1 closed c.union.result v.result (omega arith) c.union.ensures v.ensures)
+    (omega arith, union_turn (wakes_now a.busy) a.t1 _ l.s l.i l.invariant.1 closed c.union.result v.result (omega arith) c.union.ensures v.ensures)
 
 returns : tie.Need-returns invariant-loop decreases-loop
 returns c =
     let l = c.before.loop in
     let a = c.before.before.args in
-    union-end (wakes_now a.busy) a.t1 _ l.s l.i l.invariant.1 (omega arith)
+    union_end (wakes_now a.busy) a.t1 _ l.s l.i l.invariant.1 (omega arith)
 
 pub to_wake_spec : {M : Type 1} → statement M
 to_wake_spec =

@@ -8,7 +8,7 @@ use borrow.Author.Rules.{rules}
 use lib.ListN.{length, get_or, take, length-set}
 use Rattle.sets.specs.Sets.{is_empty}
 use Rattle.plan.specs.Busy.{marked_by}
-use Rattle.lists.proofs.Filling.{fill-turn, fill_end}
+use Rattle.lists.proofs.Filling.{fill_turn, fill_end}
 use Rattle.plan_settle.proofs.Turns.{length_marked, marked_at}
 use Rattle.plan_settle.proofs.Sleepers.{marked_named}
 use Rattle.plan_settle.proofs.wanted.Statement.{statement}
@@ -54,7 +54,7 @@ loop-again c =
     let v = ap (λ (b : Bool). not (is_empty (get_or a.t1 l.i 0)) || b) c.has.ensures in (
       omega arith,
       length-set l.marks l.i _ ∙ h,
-      fill-turn (marked_by a.t1 s) l.marks l.i l.invariant.2 false _ (omega arith) (omega arith) (v ∙ sym (marked_at a.t1 s l.i (omega arith))),
+      fill_turn (marked_by a.t1 s) l.marks l.i l.invariant.2 false _ (omega arith) (omega arith) (v ∙ sym (marked_at a.t1 s l.i (omega arith))),
     )
 
 returns : tie.Need-returns invariant-loop decreases-loop

@@ -8,7 +8,7 @@ use lib.ListN.{length, take, length-set}
 use Rattle.server.specs.Sizes.{connection_count}
 use Rattle.server.specs.Table.{closed}
 use Rattle.plan.specs.Busy.{woken_by}
-use Rattle.lists.proofs.Filling.{fill-turn, fill_end}
+use Rattle.lists.proofs.Filling.{fill_turn, fill_end}
 use Rattle.plan_settle.proofs.Turns.{length_woken, woken_at}
 use Rattle.plan_settle.proofs.woken.Statement.{statement}
 use Rattle.plan_settle.proofs.woken.Tie as tie
@@ -52,7 +52,7 @@ loop-again c =
     let a = c.before.before.before.before.before.args in
     let n = length_woken a.busy a.t1 in
     let h : length l.next ≡ connection_count = l.invariant.1 in
-    (omega arith, length-set l.next l.i _ ∙ h, fill-turn (woken_by a.busy a.t1) l.next l.i l.invariant.2 closed _ (omega arith) (omega arith) (c.roused.ensures ∙ rw c.before.has.ensures (sym (woken_at a.busy a.t1 l.i))))
+    (omega arith, length-set l.next l.i _ ∙ h, fill_turn (woken_by a.busy a.t1) l.next l.i l.invariant.2 closed _ (omega arith) (omega arith) (c.roused.ensures ∙ rw c.before.has.ensures (sym (woken_at a.busy a.t1 l.i))))
 
 returns : tie.Need-returns invariant-loop decreases-loop
 returns c =

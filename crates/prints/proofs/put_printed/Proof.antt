@@ -7,7 +7,7 @@ use lib.ListN.{length, take}
 use Rattle.octets.specs.Put.{put}
 use Rattle.prints.specs.Printed.{printed}
 use Rattle.prints.proofs.Printed.{length_printed}
-use Rattle.prints.proofs.Laying.{laid-all, laid_end, laid_more, laid_none}
+use Rattle.prints.proofs.Laying.{laid_all, laid_end, laid_more, laid_none}
 use borrow.Author.Rules.{rules}
 use Rattle.prints.proofs.put_printed.Statement.{statement}
 use Rattle.prints.proofs.put_printed.Tie as tie
@@ -49,7 +49,7 @@ same_length : tie.Need-same-length invariant-loop decreases-loop
 same_length c = search rules
 
 returns : tie.Need-returns invariant-loop decreases-loop
-returns c = search (rules, laid_end, laid-all)
+returns c = search (rules, laid_end, laid_all)
 
 pub put_printed_spec : {M : Type 1} → statement M
 put_printed_spec =

@@ -2,7 +2,7 @@
 use mathlib.Core.Path.{sym}
 use lib.Seq.{length-take-le}
 use Rattle.hexadecimal.specs.Hex.{hex}
-use Rattle.replay_line.proofs.Digits.{answer-place, answer-laid}
+use Rattle.replay_line.proofs.Digits.{answer_place, answer_laid}
 use borrow.Author.Rules.{rules}
 use Rattle.replay_line.proofs.put_answer.Statement.{statement}
 use Rattle.replay_line.proofs.put_answer.Tie as tie
@@ -24,7 +24,7 @@ same_length : tie.Need-same-length
 same_length c = search rules
 
 returns : tie.Need-returns
-returns c = search (rules, answer-place, answer-laid)
+returns c = search (rules, answer_place, answer_laid)
 
 pub put_answer_spec : {M : Type 1} → statement M
 put_answer_spec =

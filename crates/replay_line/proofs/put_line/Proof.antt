@@ -1,5 +1,5 @@
 -- `replay_line::put_line` meets its contract: the digits, and right after them the line end. Assumes nothing.
-use Rattle.replay_line.proofs.Digits.{digits_room, line-room, line-place, line-laid}
+use Rattle.replay_line.proofs.Digits.{digits_room, line_room, line_place, line_laid}
 use borrow.Author.Rules.{rules}
 use Rattle.replay_line.proofs.put_line.Statement.{statement}
 use Rattle.replay_line.proofs.put_line.Tie as tie
@@ -11,13 +11,13 @@ slice-aggregate-put : tie.Need-slice-aggregate-put
 slice-aggregate-put c = search rules
 
 put-requires : tie.Need-put-requires
-put-requires c κs = search (rules, line-room)
+put-requires c κs = search (rules, line_room)
 
 same_length : tie.Need-same-length
 same_length c = search rules
 
 returns : tie.Need-returns
-returns c = search (rules, line-place, line-laid)
+returns c = search (rules, line_place, line_laid)
 
 pub put_line_spec : {M : Type 1} → statement M
 put_line_spec =

@@ -3,7 +3,7 @@
 use Prim.Native.Nat.{◌-◌}
 use native.Mathlib.Omega.{arith}
 use lib.ListN.{length}
-use Rattle.capture.proofs.Lines.{Turning, counted, header-whole, positive, reach, turning-end, turning-more, turning-room, turning-start}
+use Rattle.capture.proofs.Lines.{Turning, counted, header_whole, positive, reach, turning_end, turning_more, turning_room, turning_start}
 use Rattle.replay_line.specs.Replayed.{line_of}
 use Rattle.replay_line.proofs.Digits.{line_short}
 use borrow.Author.Rules.{rules}
@@ -17,7 +17,7 @@ abbrev decreases-loop : tie.decreases-loop
 decreases-loop text₀ output at₀ i₀ text at i = length output - i
 
 loop-holds : tie.Need-loop-init invariant-loop decreases-loop
-loop-holds c = turning-start line_of 3 line_short _ _ _ c.before.before.requires.0 (omega (arith, c.before.before.requires.1))
+loop-holds c = turning_start line_of 3 line_short _ _ _ c.before.before.requires.0 (omega (arith, c.before.before.requires.1))
 
 sub-rest : tie.Need-overflow-sub-rest invariant-loop decreases-loop
 sub-rest c = search rules
@@ -29,13 +29,13 @@ part-rest-end : tie.Need-slice-bounds-rest-end invariant-loop decreases-loop
 part-rest-end c = search rules
 
 packet-length-requires : tie.Need-packet-length-requires invariant-loop decreases-loop
-packet-length-requires c κs = header-whole line_of 3 line_short _ _ _ _ _ _ c.before.before.loop.invariant c.before.loop-test.true
+packet-length-requires c κs = header_whole line_of 3 line_short _ _ _ _ _ _ c.before.before.loop.invariant c.before.loop-test.true
 
 slice-aggregate-put-line : tie.Need-slice-aggregate-put-line invariant-loop decreases-loop
 slice-aggregate-put-line c = counted line_of 3 line_short _ _ _ _ _ _ c.before.before.before.before.before.loop.invariant c.before.before.before.before.loop-test.true _ c.before.before.packet-length.ensures
 
 put-line-requires : tie.Need-put-line-requires invariant-loop decreases-loop
-put-line-requires c κs = turning-room line_of 3 line_short _ _ _ _ _ _ c.before.before.before.before.before.loop.invariant c.before.before.before.before.loop-test.true _ c.before.before.packet-length.ensures
+put-line-requires c κs = turning_room line_of 3 line_short _ _ _ _ _ _ c.before.before.before.before.before.loop.invariant c.before.before.before.before.loop-test.true _ c.before.before.packet-length.ensures
 
 add-i : tie.Need-overflow-add-i invariant-loop decreases-loop
 add-i c = search (rules, reach line_of 3 line_short _ _ _ _ _ _ c.before.before.before.before.before.before.before.before.loop.invariant c.before.before.before.before.before.before.before.loop-test.true _ c.before.before.before.before.before.packet-length.ensures)
@@ -44,7 +44,7 @@ loop-less : tie.Need-loop-smaller invariant-loop decreases-loop
 loop-less c = omega (arith, reach line_of 3 line_short _ _ _ _ _ _ c.before.before.before.before.before.before.before.before.loop.invariant c.before.before.before.before.before.before.before.loop-test.true _ c.before.before.before.before.before.packet-length.ensures, positive line_of 3 line_short _ _ _ _ _ _ c.before.before.before.before.before.before.before.before.loop.invariant c.before.before.before.before.before.before.before.loop-test.true _ c.before.before.before.before.before.packet-length.ensures)
 
 loop-again : tie.Need-loop-preserved invariant-loop decreases-loop
-loop-again c = turning-more line_of 3 line_short _ _ _ _ _ _ c.before.before.before.before.before.before.before.before.loop.invariant c.before.before.before.before.before.before.before.loop-test.true _ c.before.before.before.before.before.packet-length.ensures _ _ c.before.before.put-line.ensures
+loop-again c = turning_more line_of 3 line_short _ _ _ _ _ _ c.before.before.before.before.before.before.before.before.loop.invariant c.before.before.before.before.before.before.before.loop-test.true _ c.before.before.before.before.before.packet-length.ensures _ _ c.before.before.put-line.ensures
 
 same_length : tie.Need-same-length invariant-loop decreases-loop
 same_length c = search rules
@@ -52,7 +52,7 @@ same_length c = search rules
 returns : tie.Need-returns invariant-loop decreases-loop
 returns c =
     let l = c.before.loop.invariant in
-    let e = turning-end line_of 3 line_short _ _ _ _ _ _ l c.loop-test.false in
+    let e = turning_end line_of 3 line_short _ _ _ _ _ _ l c.loop-test.false in
     (omega (arith, l.near, l.inside), e.0, e.1)
 
 pub put_packets_spec : {M : Type 1} → statement M

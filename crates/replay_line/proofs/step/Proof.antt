@@ -1,11 +1,11 @@
 -- `replay_line::step` meets its contract: a text that is too short, or the lines of what answering the frame left. Assumes nothing.
-use Rattle.replay_line.proofs.Replies.{short-text, reply-packed, replied}
+use Rattle.replay_line.proofs.Replies.{short_text, reply_packed, replied}
 use borrow.Author.Rules.{rules}
 use Rattle.replay_line.proofs.step.Statement.{statement}
 use Rattle.replay_line.proofs.step.Tie as tie
 
 returns : tie.Need-returns
-returns c = short-text _ _ _ _ _ c.if1.true
+returns c = short_text _ _ _ _ _ c.if1.true
 
 read-frame-requires : tie.Need-read-frame-requires
 read-frame-requires c κs = search rules
@@ -14,7 +14,7 @@ answer-frame-requires : tie.Need-answer-frame-requires
 answer-frame-requires c κs = search rules
 
 put-answer-requires : tie.Need-put-answer-requires
-put-answer-requires c κs = reply-packed _ _ _ _ _ _ _ _ _ c.before.before.before.before.before.before.before.before.answer-frame.ensures _ c.before.before.before.before.before.before.before.before.before.before.before.before.before.before.before.if1.false
+put-answer-requires c κs = reply_packed _ _ _ _ _ _ _ _ _ c.before.before.before.before.before.before.before.before.answer-frame.ensures _ c.before.before.before.before.before.before.before.before.before.before.before.before.before.before.before.if1.false
 
 same_length : tie.Need-same-length
 same_length c = search rules

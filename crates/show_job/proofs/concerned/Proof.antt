@@ -1,7 +1,7 @@
 -- `show_job::concerned` meets its contract: the job that the packet names, or else the one that the first sent packet names.
 -- Assumes nothing.
 use mathlib.Core.Path.{◌∙◌, sym}
-use Rattle.show_job.proofs.Named.{concerned-own, concerned-sent}
+use Rattle.show_job.proofs.Named.{concerned_own, concerned_sent}
 use borrow.Author.Rules.{rules}
 use Rattle.show_job.proofs.concerned.Statement.{statement}
 use Rattle.show_job.proofs.concerned.Tie as tie
@@ -19,10 +19,10 @@ sent-first-requires : tie.Need-sent-first-requires
 sent-first-requires c κs = search rules
 
 returns : tie.Need-returns
-returns c = concerned-own _ _ _ _ (sym c.before.own.given.1 ∙ c.before.before.before.job-named.ensures)
+returns c = concerned_own _ _ _ _ (sym c.before.own.given.1 ∙ c.before.before.before.job-named.ensures)
 
 returns-2 : tie.Need-returns-2
-returns-2 c = concerned-sent _ _ _ (sym c.before.enum_told.given.1 ∙ c.before.before.before.job-named.ensures) _ c.sent-first.ensures
+returns-2 c = concerned_sent _ _ _ (sym c.before.enum_told.given.1 ∙ c.before.before.before.job-named.ensures) _ c.sent-first.ensures
 
 pub concerned_spec : {M : Type 1} → statement M
 concerned_spec =

@@ -2,7 +2,7 @@
 use mathlib.Core.Path.{◌∙◌, sym}
 use Rattle.packet_read.specs.Directions.{side}
 use Rattle.packet_read.proofs.Reading.{side_shape}
-use Rattle.show_job.proofs.Named.{named-first, named_none}
+use Rattle.show_job.proofs.Named.{named_first, named_none}
 use borrow.Author.Rules.{rules}
 use Rattle.show_job.proofs.job_named.Statement.{statement}
 use Rattle.show_job.proofs.job_named.Tie as tie
@@ -28,7 +28,7 @@ returns c = named_none _ (side c.before.before.before.before.before.args.request
 returns-2 : tie.Need-returns-2
 returns-2 c =
     let b = c.before.before.before.before.before.before.before.before.args.request in
-    c.handle-in.ensures ∙ named-first _ (side b) _ _ _ (sym c.before.before.before.read.given.1 ∙ c.before.before.before.before.before.read-side.ensures) _ (side_shape b _ _ c.before.shape_of.ensures)
+    c.handle-in.ensures ∙ named_first _ (side b) _ _ _ (sym c.before.before.before.read.given.1 ∙ c.before.before.before.before.before.read-side.ensures) _ (side_shape b _ _ c.before.shape_of.ensures)
 
 pub job_named_spec : {M : Type 1} → statement M
 job_named_spec =

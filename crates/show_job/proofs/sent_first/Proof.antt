@@ -1,5 +1,5 @@
 -- `show_job::sent_first` meets its contract: the first packet lies between its connection and its length. Assumes nothing.
-use Rattle.show_job.proofs.Named.{first-inside, first-long, first-named, first_none}
+use Rattle.show_job.proofs.Named.{first_inside, first_long, first_named, first_none}
 use borrow.Author.Rules.{rules}
 use Rattle.show_job.proofs.sent_first.Statement.{statement}
 use Rattle.show_job.proofs.sent_first.Tie as tie
@@ -8,7 +8,7 @@ returns : tie.Need-returns
 returns c = search (rules, first_none)
 
 packet-length-requires : tie.Need-packet-length-requires
-packet-length-requires c κs = search (rules, first-long)
+packet-length-requires c κs = search (rules, first_long)
 
 sub-job-named : tie.Need-overflow-sub-job-named
 sub-job-named c = search rules
@@ -17,13 +17,13 @@ part-job-named-start : tie.Need-slice-bounds-job-named-start
 part-job-named-start c = search rules
 
 part-job-named-end : tie.Need-slice-bounds-job-named-end
-part-job-named-end c = search (rules, first-inside)
+part-job-named-end c = search (rules, first_inside)
 
 job-named-requires : tie.Need-job-named-requires
 job-named-requires c κs = search rules
 
 returns-2 : tie.Need-returns-2
-returns-2 c = search (rules, first-named)
+returns-2 c = search (rules, first_named)
 
 pub sent_first_spec : {M : Type 1} → statement M
 sent_first_spec =

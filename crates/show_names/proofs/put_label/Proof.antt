@@ -1,7 +1,7 @@
 -- `show_names::put_label` meets its contract: no shape has a sixth argument, and the word of row i is the label. Assumes nothing.
 use native.Mathlib.Omega.{arith}
 use Rattle.octets.proofs.Runs.{laid_as, laid_none, room_as}
-use Rattle.show_names.proofs.Words.{label-width, label-word, no_label}
+use Rattle.show_names.proofs.Words.{label_width, label_word, no_label}
 use borrow.Author.Rules.{rules}
 use Rattle.show_names.proofs.put_label.Statement.{statement}
 use Rattle.show_names.proofs.put_label.Tie as tie
@@ -19,16 +19,16 @@ array-copy-out-row : tie.Need-array-copy-out-row
 array-copy-out-row c = search rules
 
 slice-aggregate-put-word : tie.Need-slice-aggregate-put-word
-slice-aggregate-put-word c = label-width _ _ _ c.before.before.before.labels.ensures (omega arith)
+slice-aggregate-put-word c = label_width _ _ _ c.before.before.before.labels.ensures (omega arith)
 
 put-word-requires : tie.Need-put-word-requires
-put-word-requires c κs = room_as _ _ (label-word _ _ _ c.before.before.before.labels.ensures (omega arith)) _ _ c.before.before.before.before.before.before.requires
+put-word-requires c κs = room_as _ _ (label_word _ _ _ c.before.before.before.labels.ensures (omega arith)) _ _ c.before.before.before.before.before.before.requires
 
 same_length : tie.Need-same-length
 same_length c = search rules
 
 returns-2 : tie.Need-returns-2
-returns-2 c = laid_as _ _ (label-word _ _ _ c.before.before.before.before.before.before.labels.ensures (omega arith)) _ _ _ _ c.before.before.put_word.ensures
+returns-2 c = laid_as _ _ (label_word _ _ _ c.before.before.before.before.before.before.labels.ensures (omega arith)) _ _ _ _ c.before.before.put_word.ensures
 
 pub put_label_spec : {M : Type 1} → statement M
 put_label_spec =

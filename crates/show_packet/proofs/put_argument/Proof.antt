@@ -10,7 +10,7 @@ use Rattle.packet.specs.declared.Shape.{Shape}
 use Rattle.packet.specs.Layout.{rules_of}
 use Rattle.show_packet.specs.Lines.{argument_text, label_before, value_of}
 use Rattle.show_names.specs.Names.{space}
-use Rattle.octets.proofs.Runs.{laid_as, laid-third, room_as, room_first, room-second, room-third}
+use Rattle.octets.proofs.Runs.{laid_as, laid_third, room_as, room_first, room_second, room_third}
 use borrow.Author.Rules.{rules}
 use Rattle.show_packet.proofs.put_argument.Statement.{statement}
 use Rattle.show_packet.proofs.put_argument.Tie as tie
@@ -31,7 +31,7 @@ put-label-before-requires : tie.Need-put-label-before-requires
 unfolding argument_text
 put-label-before-requires c κs =
     let s = c.before.before.before.before.before.before.before.before in
-    room-second _ space (label_before s.args.shape s.args.i) (value s.args.shape s.args.i s.args.a.now) _ _ _ c.before.before.before.put.ensures s.requires.1
+    room_second _ space (label_before s.args.shape s.args.i) (value s.args.shape s.args.i s.args.a.now) _ _ _ c.before.before.before.put.ensures s.requires.1
 
 rule-of-requires : tie.Need-rule-of-requires
 rule-of-requires c κs = search rules
@@ -40,7 +40,7 @@ put-value-requires : tie.Need-put-value-requires
 unfolding argument_text
 put-value-requires c κs =
     let s = c.before.before.before.before.before.before.before.before.before.before.before.before.before in
-    (s.requires.0, room_as _ (value s.args.shape s.args.i s.args.a.now) (ap (λ (r : Rule). value_of r s.args.a.now) c.rule-of.ensures) _ _ (room-third _ space (label_before s.args.shape s.args.i) (value s.args.shape s.args.i s.args.a.now) _ _ _ c.before.before.before.before.before.before.before.before.put.ensures _ _ c.before.before.before.before.put-label-before.ensures s.requires.1))
+    (s.requires.0, room_as _ (value s.args.shape s.args.i s.args.a.now) (ap (λ (r : Rule). value_of r s.args.a.now) c.rule-of.ensures) _ _ (room_third _ space (label_before s.args.shape s.args.i) (value s.args.shape s.args.i s.args.a.now) _ _ _ c.before.before.before.before.before.before.before.before.put.ensures _ _ c.before.before.before.before.put-label-before.ensures s.requires.1))
 
 same_length : tie.Need-same-length
 same_length c = search rules
@@ -49,7 +49,7 @@ returns : tie.Need-returns
 unfolding argument_text
 returns c =
     let s = c.before.before.before.before.before.before.before.before.before.before.before.before.before.before.before.before in
-    laid-third _ space (label_before s.args.shape s.args.i) (value s.args.shape s.args.i s.args.a.now) _ _ _ c.before.before.before.before.before.before.before.before.before.before.before.put.ensures _ _ c.before.before.before.before.before.before.before.put-label-before.ensures _ _ (laid_as _ (value s.args.shape s.args.i s.args.a.now) (ap (λ (r : Rule). value_of r s.args.a.now) c.before.before.before.rule-of.ensures) _ _ _ _ c.before.before.put-value.ensures)
+    laid_third _ space (label_before s.args.shape s.args.i) (value s.args.shape s.args.i s.args.a.now) _ _ _ c.before.before.before.before.before.before.before.before.before.before.before.put.ensures _ _ c.before.before.before.before.before.before.before.put-label-before.ensures _ _ (laid_as _ (value s.args.shape s.args.i s.args.a.now) (ap (λ (r : Rule). value_of r s.args.a.now) c.before.before.before.rule-of.ensures) _ _ _ _ c.before.before.put-value.ensures)
 
 pub put_argument_spec : {M : Type 1} → statement M
 put_argument_spec =

@@ -9,7 +9,7 @@ use Rattle.packet.specs.declared.Ends.{Ends}
 use Rattle.packet.specs.declared.Shape.{Shape}
 use Rattle.packet.specs.Layout.{rules_of}
 use Rattle.packet.specs.Answers.{argument_at}
-use Rattle.prints.proofs.Pieces.{Laid, end, start, turn, turn-room}
+use Rattle.prints.proofs.Pieces.{Laid, end, start, turn, turn_room}
 use Rattle.show_packet.specs.Lines.{argument_text, argument_texts}
 use Rattle.show_packet.proofs.Arguments.{argument_short}
 use borrow.Author.Rules.{rules}
@@ -45,7 +45,7 @@ put-argument-requires c κs =
     let e = c.before.argument.ensures in
     let n : length c.before.argument.result.now ≤ length s.args.packet.now = rw e (argument_short s.args.packet.now s.args.ends l.i) in
     let h : l.i < length (rules_of s.args.shape) = omega (arith, c.before.before.before.before.count_of.ensures.0) in
-    (omega (arith, n, s.requires.0), turn-room (piece s.args.shape s.args.packet.now s.args.ends) s.args.at s.args.out.now l.i l.place l.out l.invariant.2 _ (ap (argument_text s.args.shape l.i) e) _ h s.requires.1)
+    (omega (arith, n, s.requires.0), turn_room (piece s.args.shape s.args.packet.now s.args.ends) s.args.at s.args.out.now l.i l.place l.out l.invariant.2 _ (ap (argument_text s.args.shape l.i) e) _ h s.requires.1)
 
 add-i : tie.Need-overflow-add-i invariant-loop decreases-loop
 add-i c = search rules

@@ -5,8 +5,8 @@ use Rattle.packet_read.specs.Directions.{side}
 use Rattle.packet_read.proofs.Reading.{side_most, side_shape}
 use Rattle.handle.specs.Handle.{decimal}
 use Rattle.show_packet.specs.Lines.{arrow, saying}
-use Rattle.octets.proofs.Runs.{laid_as, laid-third, room_as, room_first, room-second, room-third}
-use Rattle.show_packet.proofs.Said.{packet-short, refused-long, said-packet, said-refused}
+use Rattle.octets.proofs.Runs.{laid_as, laid_third, room_as, room_first, room_second, room_third}
+use Rattle.show_packet.proofs.Said.{packet_short, refused_long, said_packet, said_refused}
 use borrow.Author.Rules.{rules}
 use Rattle.show_packet.proofs.put_line.Statement.{statement}
 use Rattle.show_packet.proofs.put_line.Tie as tie
@@ -21,7 +21,7 @@ put-arrow-requires : tie.Need-put-arrow-requires
 put-arrow-requires c κs =
     let s = c.before.before.before.before.before.before.before in
     let b = s.args.request in
-    room-second _ (decimal s.args.connection) (arrow b) (saying (side b) s.args.packet.now) _ _ _ c.before.before.before.put-number.ensures s.requires
+    room_second _ (decimal s.args.connection) (arrow b) (saying (side b) s.args.packet.now) _ _ _ c.before.before.before.put-number.ensures s.requires
 
 read-side-requires : tie.Need-read-side-requires
 read-side-requires c κs = search rules
@@ -34,7 +34,7 @@ put-refused-requires c κs =
     let s = c.before.before.before.before.before.before.before.before.before.before.before.before.before.before.before in
     let b = s.args.request in
     let e = sym c.before.before.read.given.1 ∙ c.before.before.before.before.read-side.ensures in
-    (refused-long (side b) _ _ e, room_as _ _ (said-refused (side b) _ _ e) _ _ (room-third _ (decimal s.args.connection) (arrow b) (saying (side b) s.args.packet.now) _ _ _ c.before.before.before.before.before.before.before.before.before.before.before.put-number.ensures _ _ c.before.before.before.before.before.before.before.put-arrow.ensures s.requires))
+    (refused_long (side b) _ _ e, room_as _ _ (said_refused (side b) _ _ e) _ _ (room_third _ (decimal s.args.connection) (arrow b) (saying (side b) s.args.packet.now) _ _ _ c.before.before.before.before.before.before.before.before.before.before.before.put-number.ensures _ _ c.before.before.before.before.before.before.before.put-arrow.ensures s.requires))
 
 enum-known-read-2 : tie.Need-enum-known-read-2
 enum-known-read-2 c = search rules
@@ -47,7 +47,7 @@ put-packet-requires c κs =
     let s = c.before.before.before.before.before.before.before.before.before.before.before.before.before.before.before.before in
     let b = s.args.request in
     let e = sym c.before.before.before.read2.given.1 ∙ c.before.before.before.before.before.read-side.ensures in
-    (packet-short (side b) _ _ _ e (side_most b), room_as _ _ (said-packet (side b) _ _ _ e _ (side_shape b _ _ c.shape_of.ensures)) _ _ (room-third _ (decimal s.args.connection) (arrow b) (saying (side b) s.args.packet.now) _ _ _ c.before.before.before.before.before.before.before.before.before.before.before.before.put-number.ensures _ _ c.before.before.before.before.before.before.before.before.put-arrow.ensures s.requires))
+    (packet_short (side b) _ _ _ e (side_most b), room_as _ _ (said_packet (side b) _ _ _ e _ (side_shape b _ _ c.shape_of.ensures)) _ _ (room_third _ (decimal s.args.connection) (arrow b) (saying (side b) s.args.packet.now) _ _ _ c.before.before.before.before.before.before.before.before.before.before.before.before.put-number.ensures _ _ c.before.before.before.before.before.before.before.before.put-arrow.ensures s.requires))
 
 same_length : tie.Need-same-length
 same_length c = search rules
@@ -56,8 +56,8 @@ returns : tie.Need-returns
 returns c =
     let s = c.before.before.before.before.before.before.before.before.before.before.before.before.before.before.before.before.before.before in
     let b = s.args.request in
-    laid-third _ (decimal s.args.connection) (arrow b) (saying (side b) s.args.packet.now) _ _ _ c.before.before.before.before.before.before.before.before.before.before.before.before.before.before.put-number.ensures _ _ c.before.before.before.before.before.before.before.before.before.before.put-arrow.ensures _ _
-    (laid_as _ _ (said-refused (side b) _ _ (sym c.before.before.before.before.before.read.given.1 ∙ c.before.before.before.before.before.before.before.read-side.ensures)) _ _ _ _ c.before.before.Put-refused.ensures)
+    laid_third _ (decimal s.args.connection) (arrow b) (saying (side b) s.args.packet.now) _ _ _ c.before.before.before.before.before.before.before.before.before.before.before.before.before.before.put-number.ensures _ _ c.before.before.before.before.before.before.before.before.before.before.put-arrow.ensures _ _
+    (laid_as _ _ (said_refused (side b) _ _ (sym c.before.before.before.before.before.read.given.1 ∙ c.before.before.before.before.before.before.before.read-side.ensures)) _ _ _ _ c.before.before.Put-refused.ensures)
 
 same-length-2 : tie.Need-same-length-2
 same-length-2 c = search rules
@@ -66,8 +66,8 @@ returns-2 : tie.Need-returns-2
 returns-2 c =
     let s = c.before.before.before.before.before.before.before.before.before.before.before.before.before.before.before.before.before.before.before in
     let b = s.args.request in
-    laid-third _ (decimal s.args.connection) (arrow b) (saying (side b) s.args.packet.now) _ _ _ c.before.before.before.before.before.before.before.before.before.before.before.before.before.before.before.put-number.ensures _ _ c.before.before.before.before.before.before.before.before.before.before.before.put-arrow.ensures _ _
-    (laid_as _ _ (said-packet (side b) _ _ _ (sym c.before.before.before.before.before.before.read2.given.1 ∙ c.before.before.before.before.before.before.before.before.read-side.ensures) _ (side_shape b _ _ c.before.before.before.shape_of.ensures)) _ _ _ _ c.before.before.put-packet.ensures)
+    laid_third _ (decimal s.args.connection) (arrow b) (saying (side b) s.args.packet.now) _ _ _ c.before.before.before.before.before.before.before.before.before.before.before.before.before.before.before.put-number.ensures _ _ c.before.before.before.before.before.before.before.before.before.before.before.put-arrow.ensures _ _
+    (laid_as _ _ (said_packet (side b) _ _ _ (sym c.before.before.before.before.before.before.read2.given.1 ∙ c.before.before.before.before.before.before.before.before.read-side.ensures) _ (side_shape b _ _ c.before.before.before.shape_of.ensures)) _ _ _ _ c.before.before.put-packet.ensures)
 
 pub put_line_spec : {M : Type 1} → statement M
 put_line_spec =

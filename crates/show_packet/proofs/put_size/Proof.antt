@@ -3,7 +3,7 @@ use mathlib.Core.Bool.{cond}
 use lib.Dec.{eqb}
 use Rattle.handle.specs.Handle.{decimal}
 use Rattle.show_packet.specs.Lines.{byte_word, bytes_word, sized}
-use Rattle.octets.proofs.Runs.{laid_as, laid_then, room_as, room_first, room-then}
+use Rattle.octets.proofs.Runs.{laid_as, laid_then, room_as, room_first, room_then}
 use Rattle.show_packet.proofs.Words.{size_many, size_one}
 use borrow.Author.Rules.{rules}
 use Rattle.show_packet.proofs.put_size.Statement.{statement}
@@ -24,7 +24,7 @@ slice-aggregate-put c = search rules
 put-requires : tie.Need-put-requires
 put-requires c κs =
     let s = c.before.before.before.before.before.before.before.before in
-    room-then _ (decimal s.args.count) byte_word _ _ _ c.before.before.before.before.before.put-number.ensures (room_as _ _ (size_one s.args.count c.before.before.if1.true) _ _ s.requires.1)
+    room_then _ (decimal s.args.count) byte_word _ _ _ c.before.before.before.before.before.put-number.ensures (room_as _ _ (size_one s.args.count c.before.before.if1.true) _ _ s.requires.1)
 
 same_length : tie.Need-same-length
 same_length c = search rules
@@ -40,7 +40,7 @@ slice-aggregate-put-2 c = search rules
 put-requires-2 : tie.Need-put-requires-2
 put-requires-2 c κs =
     let s = c.before.before.before.before.before.before.before.before in
-    room-then _ (decimal s.args.count) bytes_word _ _ _ c.before.before.before.before.before.put-number.ensures (room_as _ _ (size_many s.args.count c.before.before.if1.false) _ _ s.requires.1)
+    room_then _ (decimal s.args.count) bytes_word _ _ _ c.before.before.before.before.before.put-number.ensures (room_as _ _ (size_many s.args.count c.before.before.if1.false) _ _ s.requires.1)
 
 same-length-2 : tie.Need-same-length-2
 same-length-2 c = search rules

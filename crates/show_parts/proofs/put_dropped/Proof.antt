@@ -1,5 +1,5 @@
 -- `show_parts::put_dropped` meets its contract: the jobs that are gone and those that are left, or nothing. Assumes nothing.
-use Rattle.octets.proofs.Runs.{laid_as, laid_none, laid_then, room_as, room_first, room-then}
+use Rattle.octets.proofs.Runs.{laid_as, laid_none, laid_then, room_as, room_first, room_then}
 use Rattle.server.specs.Sizes.{connection_count}
 use Rattle.show_table.specs.Standing.{gone_text, jobs_text}
 use Rattle.show_parts.specs.Parts.{dropped_word}
@@ -19,7 +19,7 @@ put-gone-requires c κs =
 put-jobs-requires : tie.Need-put-jobs-requires
 put-jobs-requires c κs =
     let s = c.before.before.before.before.before.before.before.before.before in
-    (s.requires.0, room-then _ (gone_text s.args.hub.now dropped_word s.args.before s.args.after) (jobs_text s.args.hub.now connection_count s.args.after) _ _ _ c.before.before.before.put-gone.ensures (room_as _ _ (close_done s.args.hub.now _ s.args.before s.args.after c.before.before.before.before.before.before.if1.true) _ _ s.requires.1))
+    (s.requires.0, room_then _ (gone_text s.args.hub.now dropped_word s.args.before s.args.after) (jobs_text s.args.hub.now connection_count s.args.after) _ _ _ c.before.before.before.put-gone.ensures (room_as _ _ (close_done s.args.hub.now _ s.args.before s.args.after c.before.before.before.before.before.before.if1.true) _ _ s.requires.1))
 
 same_length : tie.Need-same-length
 same_length c = search rules

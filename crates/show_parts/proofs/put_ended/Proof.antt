@@ -1,5 +1,5 @@
 -- `show_parts::put_ended` meets its contract: the job that is gone, and the job of the serial. Assumes nothing.
-use Rattle.octets.proofs.Runs.{laid_then, room_first, room-then}
+use Rattle.octets.proofs.Runs.{laid_then, room_first, room_then}
 use Rattle.show_table.specs.Standing.{gone_text}
 use Rattle.show_parts.specs.Parts.{ended_word, named_text, packet_jobs}
 use borrow.Author.Rules.{rules}
@@ -19,7 +19,7 @@ put-job-requires : tie.Need-put-job-requires
 unfolding packet_jobs
 put-job-requires c κs =
     let s = c.before.before.before.before.before.before.before.before in
-    (s.requires.0, room-then _ (gone_text s.args.hub.now ended_word s.args.before s.args.after) (named_text s.args.hub.now s.args.serial s.args.before s.args.after) _ _ _ c.before.before.before.put-gone.ensures s.requires.1)
+    (s.requires.0, room_then _ (gone_text s.args.hub.now ended_word s.args.before s.args.after) (named_text s.args.hub.now s.args.serial s.args.before s.args.after) _ _ _ c.before.before.before.put-gone.ensures s.requires.1)
 
 same_length : tie.Need-same-length
 same_length c = search rules
@@ -28,7 +28,7 @@ returns : tie.Need-returns
 unfolding packet_jobs
 returns c =
     let s = c.before.before.before.before.before.before.before.before.before.before.before in
-    laid_then _ (gone_text s.args.hub.now ended_word s.args.before s.args.after) (named_text s.args.hub.now s.args.serial s.args.before s.args.after) _ _ _ c.before.before.before.before.before.before.put-gone.ensures _ _ c.before.before.put-job.ensures
+    laid_then _ (gone_text s.args.hub.now ended_word s.args.before s.args.after) (named_text s.args.hub.now s.args.serial s.args.before s.args.after) _ _ _ c.before.before.before.before.before.before.put-gone.ensures _ _ c.before.before.put_job.ensures
 
 pub put_ended_spec : {M : Type 1} → statement M
 put_ended_spec =

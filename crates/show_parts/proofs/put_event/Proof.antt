@@ -1,7 +1,7 @@
 -- `show_parts::put_event` meets its contract: nothing, a connection and its deed, or the request. Assumes nothing.
 use Rattle.capture.proofs.Answered.{packet_bounded}
 use Rattle.octets.proofs.Runs.{laid_as, laid_none, room_as}
-use Rattle.show_parts.proofs.Laid.{close-event, nothing-event, open-event, packet-event}
+use Rattle.show_parts.proofs.Laid.{close_event, nothing_event, open_event, packet_event}
 use borrow.Author.Rules.{rules}
 use Rattle.show_parts.proofs.put_event.Statement.{statement}
 use Rattle.show_parts.proofs.put_event.Tie as tie
@@ -16,7 +16,7 @@ slice-aggregate-put-deed : tie.Need-slice-aggregate-put-deed
 slice-aggregate-put-deed c = search rules
 
 put-deed-requires : tie.Need-put-deed-requires
-put-deed-requires c κs = room_as _ _ (open-event _ _ _ c.before.before.before.frame.given.1) _ _ c.before.before.before.before.before.before.requires.1
+put-deed-requires c κs = room_as _ _ (open_event _ _ _ c.before.before.before.frame.given.1) _ _ c.before.before.before.before.before.before.requires.1
 
 enum-known-frame-2 : tie.Need-enum-known-frame-2
 enum-known-frame-2 c = search rules
@@ -25,7 +25,7 @@ slice-aggregate-put-deed-2 : tie.Need-slice-aggregate-put-deed-2
 slice-aggregate-put-deed-2 c = search rules
 
 put-deed-requires-2 : tie.Need-put-deed-requires-2
-put-deed-requires-2 c κs = room_as _ _ (close-event _ _ _ c.before.before.before.frame2.given.1) _ _ c.before.before.before.before.before.before.requires.1
+put-deed-requires-2 c κs = room_as _ _ (close_event _ _ _ c.before.before.before.frame2.given.1) _ _ c.before.before.before.before.before.before.requires.1
 
 enum-known-frame-3 : tie.Need-enum-known-frame-3
 enum-known-frame-3 c = search rules
@@ -40,28 +40,28 @@ part-put-request-end : tie.Need-slice-bounds-put-request-end
 part-put-request-end c = search (rules, packet_bounded _ _ _ c.before.before.before.frame3.given.1 c.before.before.before.before.before.before.requires.0)
 
 put-request-requires : tie.Need-put-request-requires
-put-request-requires c κs = room_as _ _ (packet-event _ _ _ _ c.before.before.before.before.frame3.given.1) _ _ c.before.before.before.before.before.before.before.requires.1
+put-request-requires c κs = room_as _ _ (packet_event _ _ _ _ c.before.before.before.before.frame3.given.1) _ _ c.before.before.before.before.before.before.before.requires.1
 
 returns : tie.Need-returns
-returns c = laid_as _ _ (nothing-event _ _ c.enum_told.given.1) _ _ _ _ (laid_none _ _)
+returns c = laid_as _ _ (nothing_event _ _ c.enum_told.given.1) _ _ _ _ (laid_none _ _)
 
 same_length : tie.Need-same-length
 same_length c = search rules
 
 returns-2 : tie.Need-returns-2
-returns-2 c = laid_as _ _ (open-event _ _ _ c.before.before.before.before.before.before.frame.given.1) _ _ _ _ c.before.before.put-deed.ensures
+returns-2 c = laid_as _ _ (open_event _ _ _ c.before.before.before.before.before.before.frame.given.1) _ _ _ _ c.before.before.put-deed.ensures
 
 same-length-2 : tie.Need-same-length-2
 same-length-2 c = search rules
 
 returns-3 : tie.Need-returns-3
-returns-3 c = laid_as _ _ (close-event _ _ _ c.before.before.before.before.before.before.frame2.given.1) _ _ _ _ c.before.before.put-deed2.ensures
+returns-3 c = laid_as _ _ (close_event _ _ _ c.before.before.before.before.before.before.frame2.given.1) _ _ _ _ c.before.before.put-deed2.ensures
 
 same-length-3 : tie.Need-same-length-3
 same-length-3 c = search rules
 
 returns-4 : tie.Need-returns-4
-returns-4 c = laid_as _ _ (packet-event _ _ _ _ c.before.before.before.before.before.before.before.frame3.given.1) _ _ _ _ c.before.before.put-request.ensures
+returns-4 c = laid_as _ _ (packet_event _ _ _ _ c.before.before.before.before.before.before.before.frame3.given.1) _ _ _ _ c.before.before.put-request.ensures
 
 pub put_event_spec : {M : Type 1} → statement M
 put_event_spec =

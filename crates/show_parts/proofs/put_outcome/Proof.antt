@@ -1,7 +1,7 @@
 -- `show_parts::put_outcome` meets its contract: the start of a line, and that the event is done, or the refusal. Assumes nothing.
 use mathlib.Core.Bool.{cond}
 use lib.Dec.{eqb}
-use Rattle.octets.proofs.Runs.{laid_as, laid_then, room_as, room_first, room-then}
+use Rattle.octets.proofs.Runs.{laid_as, laid_then, room_as, room_first, room_then}
 use Rattle.show_packet.specs.Lines.{refusal_text}
 use Rattle.show_table.specs.Standing.{below}
 use Rattle.show_parts.specs.Parts.{done_word, number_text}
@@ -21,7 +21,7 @@ slice-aggregate-put-2 : tie.Need-slice-aggregate-put-2
 slice-aggregate-put-2 c = search rules
 
 put-requires-2 : tie.Need-put-requires-2
-put-requires-2 c κs = room-then _ below done_word _ _ _ c.before.before.before.before.before.put.ensures (room_as _ _ (number_done _ c.before.before.if1.true) _ _ c.before.before.before.before.before.before.before.before.before.requires)
+put-requires-2 c κs = room_then _ below done_word _ _ _ c.before.before.before.before.before.put.ensures (room_as _ _ (number_done _ c.before.before.if1.true) _ _ c.before.before.before.before.before.before.before.before.before.requires)
 
 same_length : tie.Need-same-length
 same_length c = search rules
@@ -30,7 +30,7 @@ returns : tie.Need-returns
 returns c = laid_as _ _ (number_done _ c.before.before.before.before.before.if1.true) _ _ _ _ (laid_then _ below done_word _ _ _ c.before.before.before.before.before.before.before.before.put.ensures _ _ c.before.before.put2.ensures)
 
 put-refusal-requires : tie.Need-put-refusal-requires
-put-refusal-requires c κs = room-then _ below (refusal_text c.before.before.before.before.before.before.before.before.args.number) _ _ _ c.before.before.before.before.put.ensures (room_as _ _ (number_refused _ c.before.if1.false) _ _ c.before.before.before.before.before.before.before.before.requires)
+put-refusal-requires c κs = room_then _ below (refusal_text c.before.before.before.before.before.before.before.before.args.number) _ _ _ c.before.before.before.before.put.ensures (room_as _ _ (number_refused _ c.before.if1.false) _ _ c.before.before.before.before.before.before.before.before.requires)
 
 same-length-2 : tie.Need-same-length-2
 same-length-2 c = search rules

@@ -3,7 +3,7 @@
 use Prim.Native.Nat.{◌-◌}
 use native.Mathlib.Omega.{arith}
 use lib.ListN.{length}
-use Rattle.capture.proofs.Lines.{Turning, counted, header-whole, positive, reach, turning-end, turning-more, turning-room, turning-start}
+use Rattle.capture.proofs.Lines.{Turning, counted, header_whole, positive, reach, turning_end, turning_more, turning_room, turning_start}
 use Rattle.show_parts.specs.Parts.{sent_text}
 use Rattle.show_parts.proofs.Bounds.{sent_short}
 use borrow.Author.Rules.{rules}
@@ -17,7 +17,7 @@ abbrev decreases-loop : tie.decreases-loop
 decreases-loop text₀ at sent place₀ i₀ text place i = length sent - i
 
 loop-holds : tie.Need-loop-init invariant-loop decreases-loop
-loop-holds c = turning-start sent_text 14 sent_short _ _ _ c.before.before.requires.0 (omega (arith, c.before.before.requires.1))
+loop-holds c = turning_start sent_text 14 sent_short _ _ _ c.before.before.requires.0 (omega (arith, c.before.before.requires.1))
 
 sub-rest : tie.Need-overflow-sub-rest invariant-loop decreases-loop
 sub-rest c = search rules
@@ -29,13 +29,13 @@ part-rest-end : tie.Need-slice-bounds-rest-end invariant-loop decreases-loop
 part-rest-end c = search rules
 
 packet-length-requires : tie.Need-packet-length-requires invariant-loop decreases-loop
-packet-length-requires c κs = header-whole sent_text 14 sent_short _ _ _ _ _ _ c.before.before.loop.invariant c.before.loop-test.true
+packet-length-requires c κs = header_whole sent_text 14 sent_short _ _ _ _ _ _ c.before.before.loop.invariant c.before.loop-test.true
 
 slice-aggregate-put-sent : tie.Need-slice-aggregate-put-sent invariant-loop decreases-loop
 slice-aggregate-put-sent c = counted sent_text 14 sent_short _ _ _ _ _ _ c.before.before.before.before.before.loop.invariant c.before.before.before.before.loop-test.true _ c.before.before.packet-length.ensures
 
 put-sent-requires : tie.Need-put-sent-requires invariant-loop decreases-loop
-put-sent-requires c κs = (omega (arith, counted sent_text 14 sent_short _ _ _ _ _ _ c.before.before.before.before.before.loop.invariant c.before.before.before.before.loop-test.true _ c.before.before.packet-length.ensures, positive sent_text 14 sent_short _ _ _ _ _ _ c.before.before.before.before.before.loop.invariant c.before.before.before.before.loop-test.true _ c.before.before.packet-length.ensures), turning-room sent_text 14 sent_short _ _ _ _ _ _ c.before.before.before.before.before.loop.invariant c.before.before.before.before.loop-test.true _ c.before.before.packet-length.ensures)
+put-sent-requires c κs = (omega (arith, counted sent_text 14 sent_short _ _ _ _ _ _ c.before.before.before.before.before.loop.invariant c.before.before.before.before.loop-test.true _ c.before.before.packet-length.ensures, positive sent_text 14 sent_short _ _ _ _ _ _ c.before.before.before.before.before.loop.invariant c.before.before.before.before.loop-test.true _ c.before.before.packet-length.ensures), turning_room sent_text 14 sent_short _ _ _ _ _ _ c.before.before.before.before.before.loop.invariant c.before.before.before.before.loop-test.true _ c.before.before.packet-length.ensures)
 
 add-i : tie.Need-overflow-add-i invariant-loop decreases-loop
 add-i c = search (rules, reach sent_text 14 sent_short _ _ _ _ _ _ c.before.before.before.before.before.before.before.before.loop.invariant c.before.before.before.before.before.before.before.loop-test.true _ c.before.before.before.before.before.packet-length.ensures)
@@ -44,13 +44,13 @@ loop-less : tie.Need-loop-smaller invariant-loop decreases-loop
 loop-less c = omega (arith, reach sent_text 14 sent_short _ _ _ _ _ _ c.before.before.before.before.before.before.before.before.loop.invariant c.before.before.before.before.before.before.before.loop-test.true _ c.before.before.before.before.before.packet-length.ensures, positive sent_text 14 sent_short _ _ _ _ _ _ c.before.before.before.before.before.before.before.before.loop.invariant c.before.before.before.before.before.before.before.loop-test.true _ c.before.before.before.before.before.packet-length.ensures)
 
 loop-again : tie.Need-loop-preserved invariant-loop decreases-loop
-loop-again c = turning-more sent_text 14 sent_short _ _ _ _ _ _ c.before.before.before.before.before.before.before.before.loop.invariant c.before.before.before.before.before.before.before.loop-test.true _ c.before.before.before.before.before.packet-length.ensures _ _ c.before.before.put-sent.ensures
+loop-again c = turning_more sent_text 14 sent_short _ _ _ _ _ _ c.before.before.before.before.before.before.before.before.loop.invariant c.before.before.before.before.before.before.before.loop-test.true _ c.before.before.before.before.before.packet-length.ensures _ _ c.before.before.put-sent.ensures
 
 same_length : tie.Need-same-length invariant-loop decreases-loop
 same_length c = search rules
 
 returns : tie.Need-returns invariant-loop decreases-loop
-returns c = turning-end sent_text 14 sent_short _ _ _ _ _ _ c.before.loop.invariant c.loop-test.false
+returns c = turning_end sent_text 14 sent_short _ _ _ _ _ _ c.before.loop.invariant c.loop-test.false
 
 pub put_packets_spec : {M : Type 1} → statement M
 put_packets_spec =

@@ -1,5 +1,5 @@
 -- `show_parts::put_request` meets its contract: the start of a line, and the request. Assumes nothing.
-use Rattle.octets.proofs.Runs.{laid_then, room_first, room-then}
+use Rattle.octets.proofs.Runs.{laid_then, room_first, room_then}
 use Rattle.show_packet.specs.Lines.{request_line}
 use Rattle.show_table.specs.Standing.{below}
 use borrow.Author.Rules.{rules}
@@ -13,7 +13,7 @@ put-requires : tie.Need-put-requires
 put-requires c κs = room_first _ below (request_line c.before.before.before.before.args.connection c.before.before.before.before.args.packet.now) _ c.before.before.before.before.requires
 
 put-request-requires : tie.Need-put-request-requires
-put-request-requires c κs = room-then _ below (request_line c.before.before.before.before.before.before.before.before.args.connection c.before.before.before.before.before.before.before.before.args.packet.now) _ _ _ c.before.before.before.put.ensures c.before.before.before.before.before.before.before.before.requires
+put-request-requires c κs = room_then _ below (request_line c.before.before.before.before.before.before.before.before.args.connection c.before.before.before.before.before.before.before.before.args.packet.now) _ _ _ c.before.before.before.put.ensures c.before.before.before.before.before.before.before.before.requires
 
 same_length : tie.Need-same-length
 same_length c = search rules

@@ -2,7 +2,7 @@
 use Prim.Native.Nat.{◌-◌}
 use lib.ListN.{length, get_or, take, drop}
 use Rattle.show_packet.specs.Lines.{response_line}
-use Rattle.octets.proofs.Runs.{laid_as, laid_then, room_as, room_first, room-then}
+use Rattle.octets.proofs.Runs.{laid_as, laid_then, room_as, room_first, room_then}
 use Rattle.show_table.specs.Standing.{below}
 use Rattle.show_parts.specs.Parts.{sent_text}
 use Rattle.show_parts.proofs.Laid.{sent_as_lem}
@@ -30,7 +30,7 @@ part-put-response-end : tie.Need-slice-bounds-put-response-end
 part-put-response-end c = search rules
 
 put-response-requires : tie.Need-put-response-requires
-put-response-requires c κs = room-then _ below (response_line (get_or c.before.before.before.before.before.before.before.before.before.before.args.packet.now 0 0) (take (length c.before.before.before.before.before.before.before.before.before.before.args.packet.now - 1) (drop 1 c.before.before.before.before.before.before.before.before.before.before.args.packet.now))) _ _ _ c.before.before.before.before.before.put.ensures (room_as _ _ (sent_as_lem _) _ _ c.before.before.before.before.before.before.before.before.before.before.requires.1)
+put-response-requires c κs = room_then _ below (response_line (get_or c.before.before.before.before.before.before.before.before.before.before.args.packet.now 0 0) (take (length c.before.before.before.before.before.before.before.before.before.before.args.packet.now - 1) (drop 1 c.before.before.before.before.before.before.before.before.before.before.args.packet.now))) _ _ _ c.before.before.before.before.before.put.ensures (room_as _ _ (sent_as_lem _) _ _ c.before.before.before.before.before.before.before.before.before.before.requires.1)
 
 same_length : tie.Need-same-length
 same_length c = search rules

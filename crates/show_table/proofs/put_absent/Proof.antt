@@ -2,7 +2,7 @@
 -- Assumes nothing.
 use mathlib.Core.Path.{sym, ◌∙◌}
 use Rattle.octets.proofs.Runs.{laid_as, laid_none, room_as}
-use Rattle.show_table.proofs.Jobs.{absent, not-absent}
+use Rattle.show_table.proofs.Jobs.{absent, not_absent}
 use borrow.Author.Rules.{rules}
 use Rattle.show_table.proofs.put_absent.Statement.{statement}
 use Rattle.show_table.proofs.put_absent.Tie as tie
@@ -24,7 +24,7 @@ put-handle-line-requires c κs =
 returns : tie.Need-returns
 returns c =
     let s = c.before.before.before.before.before.before.before in
-    laid_as _ _ (not-absent s.args.hub.now s.args.word.now s.args.serial s.args.rows _ (sym c.before.place.given.1 ∙ c.before.before.before.serial-row.ensures)) _ _ _ _ (laid_none _ _)
+    laid_as _ _ (not_absent s.args.hub.now s.args.word.now s.args.serial s.args.rows _ (sym c.before.place.given.1 ∙ c.before.before.before.serial-row.ensures)) _ _ _ _ (laid_none _ _)
 
 same_length : tie.Need-same-length
 same_length c = search rules

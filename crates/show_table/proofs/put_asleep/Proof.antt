@@ -4,7 +4,7 @@ use Prim.Native.Nat.{◌-◌, ◌≤◌}
 use mathlib.Core.Path.{◌≡◌, refl}
 use native.Mathlib.Omega.{arith}
 use lib.ListN.{length}
-use Rattle.prints.proofs.Pieces.{Laid, end, start, turn, turn-room}
+use Rattle.prints.proofs.Pieces.{Laid, end, start, turn, turn_room}
 use Rattle.show_table.specs.Standing.{each}
 use Rattle.show_table.proofs.Connections.{shown, sleeps}
 use borrow.Author.Rules.{rules}
@@ -34,7 +34,7 @@ unfolding each
 put-one-requires c κs =
     let s = c.before.before.before.before.before in
     let l = c.before.before.before.loop in
-    (omega arith, turn-room (shown (sleeps s.args.t3)) s.args.at s.args.out.now l.c l.place l.out l.invariant.2 _ refl 16 (omega arith) s.requires)
+    (omega arith, turn_room (shown (sleeps s.args.t3)) s.args.at s.args.out.now l.c l.place l.out l.invariant.2 _ refl 16 (omega arith) s.requires)
 
 add-c : tie.Need-overflow-add-c invariant-loop decreases-loop
 add-c c = search rules

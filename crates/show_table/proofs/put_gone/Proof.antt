@@ -4,7 +4,7 @@ use Prim.Native.Nat.{◌-◌, ◌≤◌}
 use mathlib.Core.Path.{◌≡◌, refl}
 use native.Mathlib.Omega.{arith}
 use lib.ListN.{length}
-use Rattle.prints.proofs.Pieces.{Laid, end, start, turn, turn-room}
+use Rattle.prints.proofs.Pieces.{Laid, end, start, turn, turn_room}
 use Rattle.show_table.specs.Standing.{gone_text}
 use Rattle.show_table.proofs.Jobs.{gone}
 use borrow.Author.Rules.{rules}
@@ -34,7 +34,7 @@ unfolding gone_text
 put-gone-row-requires c κs =
     let s = c.before.before.before.before.before.before.before in
     let l = c.before.before.before.loop in
-    (s.requires.0, turn-room (gone s.args.hub.now s.args.word.now s.args.t5 s.args.after) s.args.at s.args.out.now l.q l.place l.out l.invariant.2 _ refl 32 (omega arith) s.requires.1)
+    (s.requires.0, turn_room (gone s.args.hub.now s.args.word.now s.args.t5 s.args.after) s.args.at s.args.out.now l.q l.place l.out l.invariant.2 _ refl 32 (omega arith) s.requires.1)
 
 add-q : tie.Need-overflow-add-q invariant-loop decreases-loop
 add-q c = search rules

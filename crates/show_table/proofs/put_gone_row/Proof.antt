@@ -2,7 +2,7 @@
 use mathlib.Core.Path.{sym, ◌∙◌}
 use Rattle.octets.proofs.Runs.{laid_as, laid_none, room_as}
 use Rattle.show_table.specs.Standing.{absent_text, gone_one}
-use Rattle.show_table.proofs.Connections.{if-not, if-so}
+use Rattle.show_table.proofs.Connections.{if_not, if_so}
 use borrow.Author.Rules.{rules}
 use Rattle.show_table.proofs.put_gone_row.Statement.{statement}
 use Rattle.show_table.proofs.put_gone_row.Tie as tie
@@ -14,7 +14,7 @@ put-absent-requires : tie.Need-put-absent-requires
 unfolding gone_one
 put-absent-requires c κs =
     let s = c.before.before.before.before.before.before in
-    (s.requires.0, room_as _ _ (if-so _ (absent_text s.args.hub.now s.args.word.now s.args.row.serial s.args.after) (sym c.before.before.is_live.ensures ∙ c.before.if1.true)) _ _ s.requires.1)
+    (s.requires.0, room_as _ _ (if_so _ (absent_text s.args.hub.now s.args.word.now s.args.row.serial s.args.after) (sym c.before.before.is_live.ensures ∙ c.before.if1.true)) _ _ s.requires.1)
 
 same_length : tie.Need-same-length
 same_length c = search rules
@@ -23,13 +23,13 @@ returns : tie.Need-returns
 unfolding gone_one
 returns c =
     let s = c.before.before.before.before.before.before.before.before.before in
-    laid_as _ _ (if-so _ (absent_text s.args.hub.now s.args.word.now s.args.row.serial s.args.after) (sym c.before.before.before.before.before.is_live.ensures ∙ c.before.before.before.before.if1.true)) _ _ _ _ c.before.before.put-absent.ensures
+    laid_as _ _ (if_so _ (absent_text s.args.hub.now s.args.word.now s.args.row.serial s.args.after) (sym c.before.before.before.before.before.is_live.ensures ∙ c.before.before.before.before.if1.true)) _ _ _ _ c.before.before.put-absent.ensures
 
 returns-2 : tie.Need-returns-2
 unfolding gone_one
 returns-2 c =
     let s = c.before.before.before.before.before in
-    laid_as _ _ (if-not _ (absent_text s.args.hub.now s.args.word.now s.args.row.serial s.args.after) (sym c.before.is_live.ensures ∙ c.if1.false)) _ _ _ _ (laid_none _ _)
+    laid_as _ _ (if_not _ (absent_text s.args.hub.now s.args.word.now s.args.row.serial s.args.after) (sym c.before.is_live.ensures ∙ c.if1.false)) _ _ _ _ (laid_none _ _)
 
 pub put_gone_row_spec : {M : Type 1} → statement M
 put_gone_row_spec =

@@ -1,7 +1,7 @@
 -- `show_table::put_handle_line` meets its contract: the line's start, the word, and the handle. Assumes nothing.
 use Rattle.handle.specs.Handle.{handle}
 use mathlib.Core.List.{◌++◌}
-use Rattle.octets.proofs.Runs.{laid-third, room_first, room-second, room-third}
+use Rattle.octets.proofs.Runs.{laid_third, room_first, room_second, room_third}
 use Rattle.show_table.specs.Standing.{below, handle_line}
 use borrow.Author.Rules.{rules}
 use Rattle.show_table.proofs.put_handle_line.Statement.{statement}
@@ -20,13 +20,13 @@ put-requires-2 : tie.Need-put-requires-2
 unfolding handle_line
 put-requires-2 c κs =
     let s = c.before.before.before.before.before.before.before.before.before in
-    room-second _ below s.args.word.now (handle s.args.hub.now s.args.serial) _ _ _ c.before.before.before.put.ensures s.requires.1
+    room_second _ below s.args.word.now (handle s.args.hub.now s.args.serial) _ _ _ c.before.before.before.put.ensures s.requires.1
 
 put-handle-requires : tie.Need-put-handle-requires
 unfolding handle_line
 put-handle-requires c κs =
     let s = c.before.before.before.before.before.before.before.before.before.before.before.before.before in
-    (s.requires.0, room-third _ below s.args.word.now (handle s.args.hub.now s.args.serial) _ _ _ c.before.before.before.before.before.before.before.put.ensures _ _ c.before.before.before.put2.ensures s.requires.1)
+    (s.requires.0, room_third _ below s.args.word.now (handle s.args.hub.now s.args.serial) _ _ _ c.before.before.before.before.before.before.before.put.ensures _ _ c.before.before.before.put2.ensures s.requires.1)
 
 same_length : tie.Need-same-length
 same_length c = search rules
@@ -35,7 +35,7 @@ returns : tie.Need-returns
 unfolding handle_line
 returns c =
     let s = c.before.before.before.before.before.before.before.before.before.before.before.before.before.before.before.before in
-    laid-third _ below s.args.word.now (handle s.args.hub.now s.args.serial) _ _ _ c.before.before.before.before.before.before.before.before.before.before.put.ensures _ _ c.before.before.before.before.before.before.put2.ensures _ _ c.before.before.put-handle.ensures
+    laid_third _ below s.args.word.now (handle s.args.hub.now s.args.serial) _ _ _ c.before.before.before.before.before.before.before.before.before.before.put.ensures _ _ c.before.before.before.before.before.before.put2.ensures _ _ c.before.before.put-handle.ensures
 
 pub put_handle_line_spec : {M : Type 1} → statement M
 put_handle_line_spec =

@@ -3,7 +3,7 @@ use Prim.Native.Nat.{◌-◌}
 use mathlib.Core.List.{◌++◌}
 use Rattle.handle.specs.Handle.{decimal}
 use Rattle.show_names.specs.Names.{space}
-use Rattle.octets.proofs.Runs.{laid_as, laid_then, room_as, room_first, room-then}
+use Rattle.octets.proofs.Runs.{laid_as, laid_then, room_as, room_first, room_then}
 use Rattle.show_table.specs.Standing.{holder_word, none_word}
 use Rattle.show_table.proofs.Jobs.{holder_none, holder_some}
 use borrow.Author.Rules.{rules}
@@ -39,7 +39,7 @@ cast-put-number c = search rules
 put-number-requires : tie.Need-put-number-requires
 put-number-requires c κs =
     let s = c.before.before.before.before.before.before.before.before in
-    room-then _ (holder_word ++ space) (decimal (s.args.holder - 1)) _ _ _ c.before.before.before.put2.ensures (room_as _ _ (holder_some _ c.before.before.before.before.before.before.if1.false) _ _ s.requires)
+    room_then _ (holder_word ++ space) (decimal (s.args.holder - 1)) _ _ _ c.before.before.before.put2.ensures (room_as _ _ (holder_some _ c.before.before.before.before.before.before.if1.false) _ _ s.requires)
 
 same-length-2 : tie.Need-same-length-2
 same-length-2 c = search rules

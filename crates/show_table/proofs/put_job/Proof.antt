@@ -3,7 +3,7 @@ use mathlib.Core.List.{◌++◌}
 use Rattle.octets.specs.Bytes.{Bytes}
 use Rattle.sets.specs.Sets.{has}
 use Rattle.server.specs.declared.JobRow.{JobRow}
-use Rattle.octets.proofs.Runs.{laid_then, laid-third, room_first, room-second, room-then, room-third}
+use Rattle.octets.proofs.Runs.{laid_then, laid_third, room_first, room_second, room_then, room_third}
 use Rattle.show_table.specs.Standing.{connections_text, handle_line, holder_text, holder_word, job_text, job_word, listeners_word, marks_text}
 use borrow.Author.Rules.{rules}
 use Rattle.show_table.proofs.put_job.Statement.{statement}
@@ -32,19 +32,19 @@ put-marks-requires : tie.Need-put-marks-requires
 unfolding job_text
 put-marks-requires c κs =
     let s = c.before.before.before.before.before.before.before.before in
-    room-second _ (named s.args.hub.now s.args.row) (marks_text s.args.row) (held s.args.row ++ heard s.args.row) _ _ _ c.before.before.before.put-handle-line.ensures s.requires.1
+    room_second _ (named s.args.hub.now s.args.row) (marks_text s.args.row) (held s.args.row ++ heard s.args.row) _ _ _ c.before.before.before.put-handle-line.ensures s.requires.1
 
 put-holder-requires : tie.Need-put-holder-requires
 unfolding job_text
 put-holder-requires c κs =
     let s = c.before.before.before.before.before.before.before.before.before.before.before.before in
-    room_first _ (held s.args.row) (heard s.args.row) _ (room-third _ (named s.args.hub.now s.args.row) (marks_text s.args.row) (held s.args.row ++ heard s.args.row) _ _ _ c.before.before.before.before.before.before.before.put-handle-line.ensures _ _ c.before.before.before.put-marks.ensures s.requires.1)
+    room_first _ (held s.args.row) (heard s.args.row) _ (room_third _ (named s.args.hub.now s.args.row) (marks_text s.args.row) (held s.args.row ++ heard s.args.row) _ _ _ c.before.before.before.before.before.before.before.put-handle-line.ensures _ _ c.before.before.before.put-marks.ensures s.requires.1)
 
 put-listeners-requires : tie.Need-put-listeners-requires
 unfolding job_text
 put-listeners-requires c κs =
     let s = c.before.before.before.before.before.before.before.before.before.before.before.before.before.before.before.before in
-    room-then _ (held s.args.row) (heard s.args.row) _ _ _ c.before.before.before.put-holder.ensures (room-third _ (named s.args.hub.now s.args.row) (marks_text s.args.row) (held s.args.row ++ heard s.args.row) _ _ _ c.before.before.before.before.before.before.before.before.before.before.before.put-handle-line.ensures _ _ c.before.before.before.before.before.before.before.put-marks.ensures s.requires.1)
+    room_then _ (held s.args.row) (heard s.args.row) _ _ _ c.before.before.before.put-holder.ensures (room_third _ (named s.args.hub.now s.args.row) (marks_text s.args.row) (held s.args.row ++ heard s.args.row) _ _ _ c.before.before.before.before.before.before.before.before.before.before.before.put-handle-line.ensures _ _ c.before.before.before.before.before.before.before.put-marks.ensures s.requires.1)
 
 same_length : tie.Need-same-length
 same_length c = search rules
@@ -53,7 +53,7 @@ returns : tie.Need-returns
 unfolding job_text
 returns c =
     let s = c.before.before.before.before.before.before.before.before.before.before.before.before.before.before.before.before.before.before.before in
-    laid-third _ (named s.args.hub.now s.args.row) (marks_text s.args.row) (held s.args.row ++ heard s.args.row) _ _ _ c.before.before.before.before.before.before.before.before.before.before.before.before.before.before.put-handle-line.ensures _ _ c.before.before.before.before.before.before.before.before.before.before.put-marks.ensures _ _ (laid_then _ (held s.args.row) (heard s.args.row) _ _ _ c.before.before.before.before.before.before.put-holder.ensures _ _ c.before.before.put-listeners.ensures)
+    laid_third _ (named s.args.hub.now s.args.row) (marks_text s.args.row) (held s.args.row ++ heard s.args.row) _ _ _ c.before.before.before.before.before.before.before.before.before.before.before.before.before.before.put-handle-line.ensures _ _ c.before.before.before.before.before.before.before.before.before.before.put-marks.ensures _ _ (laid_then _ (held s.args.row) (heard s.args.row) _ _ _ c.before.before.before.before.before.before.put-holder.ensures _ _ c.before.before.put-listeners.ensures)
 
 pub put_job_spec : {M : Type 1} → statement M
 put_job_spec =

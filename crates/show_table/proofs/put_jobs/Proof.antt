@@ -4,7 +4,7 @@ use Prim.Native.Nat.{◌-◌, ◌≤◌}
 use mathlib.Core.Path.{◌≡◌, refl}
 use native.Mathlib.Omega.{arith}
 use lib.ListN.{length}
-use Rattle.prints.proofs.Pieces.{Laid, end, start, turn, turn-room}
+use Rattle.prints.proofs.Pieces.{Laid, end, start, turn, turn_room}
 use Rattle.show_table.specs.Standing.{jobs_text}
 use Rattle.show_table.proofs.Jobs.{unfinished}
 use borrow.Author.Rules.{rules}
@@ -34,7 +34,7 @@ unfolding jobs_text
 put-row-requires c κs =
     let s = c.before.before.before.before.before.before in
     let l = c.before.before.before.loop in
-    (s.requires.0, turn-room (unfinished s.args.hub.now s.args.t4) s.args.at s.args.out.now l.p l.place l.out l.invariant.2 _ refl 32 (omega arith) s.requires.1)
+    (s.requires.0, turn_room (unfinished s.args.hub.now s.args.t4) s.args.at s.args.out.now l.p l.place l.out l.invariant.2 _ refl 32 (omega arith) s.requires.1)
 
 add-p : tie.Need-overflow-add-p invariant-loop decreases-loop
 add-p c = search rules
@@ -46,7 +46,7 @@ loop-again : tie.Need-loop-preserved invariant-loop decreases-loop
 loop-again c =
     let s = c.before.before.before.before.before.before.before.before.before in
     let l = c.before.before.before.before.before.before.loop in
-    (search rules, search rules, turn (unfinished s.args.hub.now s.args.t4) s.args.at s.args.out.now l.p l.place l.out l.invariant.2 _ refl _ _ c.before.before.put-row.ensures)
+    (search rules, search rules, turn (unfinished s.args.hub.now s.args.t4) s.args.at s.args.out.now l.p l.place l.out l.invariant.2 _ refl _ _ c.before.before.put_row_lem.ensures)
 
 same_length : tie.Need-same-length invariant-loop decreases-loop
 same_length c = search rules

@@ -2,7 +2,7 @@
 use Rattle.sets.specs.Sets.{has}
 use Rattle.octets.proofs.Runs.{room_first}
 use Rattle.show_table.specs.Standing.{connections_text, listeners_word}
-use Rattle.show_table.proofs.Connections.{list-laid, list-room, none-room}
+use Rattle.show_table.proofs.Connections.{list_laid, list_room, none_room}
 use borrow.Author.Rules.{rules}
 use Rattle.show_table.proofs.put_listeners.Statement.{statement}
 use Rattle.show_table.proofs.put_listeners.Tie as tie
@@ -18,7 +18,7 @@ put-requires c κs =
 put-members-requires : tie.Need-put-members-requires
 put-members-requires c κs =
     let s = c.before.before.before.before.before.before.before in
-    list-room _ listeners_word (has s.args.listeners) _ _ _ c.before.before.before.put.ensures s.requires
+    list_room _ listeners_word (has s.args.listeners) _ _ _ c.before.before.before.put.ensures s.requires
 
 slice-aggregate-put-if : tie.Need-slice-aggregate-put-if
 slice-aggregate-put-if c = search rules
@@ -26,7 +26,7 @@ slice-aggregate-put-if c = search rules
 put-if-requires : tie.Need-put-if-requires
 put-if-requires c κs =
     let s = c.before.before.before.before.before.before.before.before.before.before.before.before in
-    none-room _ listeners_word (has s.args.listeners) _ _ _ c.before.before.before.before.before.before.before.before.put.ensures s.requires _ _ c.before.before.before.before.put-members.ensures
+    none_room _ listeners_word (has s.args.listeners) _ _ _ c.before.before.before.before.before.before.before.before.put.ensures s.requires _ _ c.before.before.before.before.put-members.ensures
 
 same_length : tie.Need-same-length
 same_length c = search rules
@@ -34,7 +34,7 @@ same_length c = search rules
 returns : tie.Need-returns
 returns c =
     let s = c.before.before.before.before.before.before.before.before.before.before.before.before.before.before.before in
-    list-laid _ listeners_word (has s.args.listeners) _ _ _ c.before.before.before.before.before.before.before.before.before.before.before.put.ensures _ _ c.before.before.before.before.before.before.before.put-members.ensures _ _ c.before.before.put_if.ensures
+    list_laid _ listeners_word (has s.args.listeners) _ _ _ c.before.before.before.before.before.before.before.before.before.before.before.put.ensures _ _ c.before.before.before.before.before.before.before.put-members.ensures _ _ c.before.before.put_if.ensures
 
 pub put_listeners_spec : {M : Type 1} → statement M
 put_listeners_spec =

@@ -4,7 +4,7 @@ use mathlib.Core.List.{[], ◌++◌}
 use lib.Dec.{eqb}
 use Rattle.octets.specs.Bytes.{Bytes}
 use Rattle.server.specs.declared.JobRow.{JobRow}
-use Rattle.octets.proofs.Runs.{laid-third, room_first, room-second, room-third}
+use Rattle.octets.proofs.Runs.{laid_third, room_first, room_second, room_third}
 use Rattle.show_table.specs.Standing.{background_word, high_word, low_word, marks_text}
 use borrow.Author.Rules.{rules}
 use Rattle.show_table.proofs.put_marks.Statement.{statement}
@@ -36,7 +36,7 @@ put-if-requires-2 : tie.Need-put-if-requires-2
 unfolding marks_text
 put-if-requires-2 c κs =
     let s = c.before.before.before.before.before.before.before.before.before.before in
-    room-second _ (low s.args.row) (high s.args.row) (background s.args.row) _ _ _ c.before.before.before.before.before.put_if.ensures s.requires
+    room_second _ (low s.args.row) (high s.args.row) (background s.args.row) _ _ _ c.before.before.before.before.before.put_if.ensures s.requires
 
 slice-aggregate-put-if-3 : tie.Need-slice-aggregate-put-if-3
 slice-aggregate-put-if-3 c = search rules
@@ -45,7 +45,7 @@ put-if-requires-3 : tie.Need-put-if-requires-3
 unfolding marks_text
 put-if-requires-3 c κs =
     let s = c.before.before.before.before.before.before.before.before.before.before.before.before.before.before.before in
-    room-third _ (low s.args.row) (high s.args.row) (background s.args.row) _ _ _ c.before.before.before.before.before.before.before.before.before.before.put_if.ensures _ _ c.before.before.before.before.put-if2.ensures s.requires
+    room_third _ (low s.args.row) (high s.args.row) (background s.args.row) _ _ _ c.before.before.before.before.before.before.before.before.before.before.put_if.ensures _ _ c.before.before.before.before.put-if2.ensures s.requires
 
 same_length : tie.Need-same-length
 same_length c = search rules
@@ -54,7 +54,7 @@ returns : tie.Need-returns
 unfolding marks_text
 returns c =
     let s = c.before.before.before.before.before.before.before.before.before.before.before.before.before.before.before.before.before.before in
-    laid-third _ (low s.args.row) (high s.args.row) (background s.args.row) _ _ _ c.before.before.before.before.before.before.before.before.before.before.before.before.before.put_if.ensures _ _ c.before.before.before.before.before.before.before.put-if2.ensures _ _ c.before.before.put-if3.ensures
+    laid_third _ (low s.args.row) (high s.args.row) (background s.args.row) _ _ _ c.before.before.before.before.before.before.before.before.before.before.before.before.before.put_if.ensures _ _ c.before.before.before.before.before.before.before.put-if2.ensures _ _ c.before.before.put-if3.ensures
 
 pub put_marks_spec : {M : Type 1} → statement M
 put_marks_spec =

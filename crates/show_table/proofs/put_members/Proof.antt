@@ -9,7 +9,7 @@ use lib.ListN.{length}
 use Rattle.sets.specs.Sets.{has}
 use Rattle.handle.specs.Handle.{decimal}
 use Rattle.show_names.specs.Names.{space}
-use Rattle.prints.proofs.Pieces.{Laid, end, start, turn, turn-room}
+use Rattle.prints.proofs.Pieces.{Laid, end, start, turn, turn_room}
 use Rattle.show_table.specs.Standing.{each}
 use Rattle.show_table.proofs.Connections.{shown}
 use borrow.Author.Rules.{rules}
@@ -36,7 +36,7 @@ unfolding each
 put-one-requires c κs =
     let s = c.before.before.before.before.before in
     let l = c.before.before.before.loop in
-    (omega arith, turn-room (shown (has s.args.set)) s.args.at s.args.out.now l.c l.place l.out l.invariant.2 _ (ap (λ (b : Bool). cond b (space ++ decimal l.c) []) c.has.ensures) 16 (omega arith) s.requires)
+    (omega arith, turn_room (shown (has s.args.set)) s.args.at s.args.out.now l.c l.place l.out l.invariant.2 _ (ap (λ (b : Bool). cond b (space ++ decimal l.c) []) c.has.ensures) 16 (omega arith) s.requires)
 
 add-c : tie.Need-overflow-add-c invariant-loop decreases-loop
 add-c c = search rules

@@ -2,7 +2,7 @@
 use mathlib.Core.Path.{sym, ◌∙◌}
 use Rattle.octets.proofs.Runs.{laid_as, laid_none, room_as}
 use Rattle.show_table.specs.Standing.{job_text}
-use Rattle.show_table.proofs.Connections.{if-not, if-so}
+use Rattle.show_table.proofs.Connections.{if_not, if_so}
 use borrow.Author.Rules.{rules}
 use Rattle.server.specs.Sizes.{connection_count}
 use Rattle.show_table.proofs.put_row.Statement.{statement}
@@ -14,7 +14,7 @@ is-live-requires c κs = search rules
 put-job-requires : tie.Need-put-job-requires
 put-job-requires c κs =
     let s = c.before.before.before.before.before in
-    (s.requires.0, room_as _ _ (if-so _ (job_text s.args.hub.now connection_count s.args.row) (sym c.before.before.is_live.ensures ∙ c.before.if1.true)) _ _ s.requires.1)
+    (s.requires.0, room_as _ _ (if_so _ (job_text s.args.hub.now connection_count s.args.row) (sym c.before.before.is_live.ensures ∙ c.before.if1.true)) _ _ s.requires.1)
 
 same_length : tie.Need-same-length
 same_length c = search rules
@@ -22,12 +22,12 @@ same_length c = search rules
 returns : tie.Need-returns
 returns c =
     let s = c.before.before.before.before.before.before.before.before in
-    laid_as _ _ (if-so _ (job_text s.args.hub.now connection_count s.args.row) (sym c.before.before.before.before.before.is_live.ensures ∙ c.before.before.before.before.if1.true)) _ _ _ _ c.before.before.put-job.ensures
+    laid_as _ _ (if_so _ (job_text s.args.hub.now connection_count s.args.row) (sym c.before.before.before.before.before.is_live.ensures ∙ c.before.before.before.before.if1.true)) _ _ _ _ c.before.before.put_job.ensures
 
 returns-2 : tie.Need-returns-2
 returns-2 c =
     let s = c.before.before.before.before in
-    laid_as _ _ (if-not _ (job_text s.args.hub.now connection_count s.args.row) (sym c.before.is_live.ensures ∙ c.if1.false)) _ _ _ _ (laid_none _ _)
+    laid_as _ _ (if_not _ (job_text s.args.hub.now connection_count s.args.row) (sym c.before.is_live.ensures ∙ c.if1.false)) _ _ _ _ (laid_none _ _)
 
 pub put_row_spec : {M : Type 1} → statement M
 put_row_spec = tie.close (tie.spec is-live-requires put-job-requires same_length returns returns-2)

@@ -2,7 +2,7 @@
 use mathlib.Core.List.{◌++◌}
 use Rattle.octets.proofs.Runs.{room_first}
 use Rattle.show_table.specs.Standing.{asleep_word, below, connections_text, sleepers_text}
-use Rattle.show_table.proofs.Connections.{list-laid, list-room, none-room, sleeps}
+use Rattle.show_table.proofs.Connections.{list_laid, list_room, none_room, sleeps}
 use borrow.Author.Rules.{rules}
 use Rattle.show_table.proofs.put_sleepers.Statement.{statement}
 use Rattle.show_table.proofs.put_sleepers.Tie as tie
@@ -20,7 +20,7 @@ put-asleep-requires : tie.Need-put-asleep-requires
 unfolding sleepers_text
 put-asleep-requires c κs =
     let s = c.before.before.before.before.before.before.before in
-    list-room _ (below ++ asleep_word) (sleeps s.args.connections) _ _ _ c.before.before.before.put.ensures s.requires
+    list_room _ (below ++ asleep_word) (sleeps s.args.connections) _ _ _ c.before.before.before.put.ensures s.requires
 
 slice-aggregate-put-if : tie.Need-slice-aggregate-put-if
 slice-aggregate-put-if c = search rules
@@ -29,7 +29,7 @@ put-if-requires : tie.Need-put-if-requires
 unfolding sleepers_text
 put-if-requires c κs =
     let s = c.before.before.before.before.before.before.before.before.before.before.before.before in
-    none-room _ (below ++ asleep_word) (sleeps s.args.connections) _ _ _ c.before.before.before.before.before.before.before.before.put.ensures s.requires _ _ c.before.before.before.before.put-asleep.ensures
+    none_room _ (below ++ asleep_word) (sleeps s.args.connections) _ _ _ c.before.before.before.before.before.before.before.before.put.ensures s.requires _ _ c.before.before.before.before.put_asleep.ensures
 
 same_length : tie.Need-same-length
 same_length c = search rules
@@ -38,7 +38,7 @@ returns : tie.Need-returns
 unfolding sleepers_text
 returns c =
     let s = c.before.before.before.before.before.before.before.before.before.before.before.before.before.before.before in
-    list-laid _ (below ++ asleep_word) (sleeps s.args.connections) _ _ _ c.before.before.before.before.before.before.before.before.before.before.before.put.ensures _ _ c.before.before.before.before.before.before.before.put-asleep.ensures _ _ c.before.before.put_if.ensures
+    list_laid _ (below ++ asleep_word) (sleeps s.args.connections) _ _ _ c.before.before.before.before.before.before.before.before.before.before.before.put.ensures _ _ c.before.before.before.before.before.before.before.put_asleep.ensures _ _ c.before.before.put_if.ensures
 
 pub put_sleepers_spec : {M : Type 1} → statement M
 put_sleepers_spec =

@@ -5,7 +5,7 @@ use mathlib.Core.Path.{ap, ◌∙◌}
 use native.Mathlib.Omega.{arith}
 use Rattle.sets.proofs.Laws.{zero_has}
 use Rattle.server.specs.Layout.{little_at}
-use Rattle.table_passes.proofs.Unions.{joins-on, joins-end}
+use Rattle.table_passes.proofs.Unions.{joins_on, joins_end}
 use Rattle.table_passes.specs.Unions.{Joined}
 use borrow.Author.Rules.{rules}
 use Rattle.table_columns.proofs.joined.Statement.{statement}
@@ -41,12 +41,12 @@ loop-less c = search rules
 loop-again : tie.Need-loop-preserved invariant-loop decreases-loop
 loop-again c = let l = c.before.before.before.loop in
     let a = c.before.before.before.before.before.args in
-    (omega arith, λ x. ap (λ (y : ℕ). has y x) c.union.ensures ∙ joins-on (λ k. little_at 4 a.table.now (a.at + 4 * k)) a.n l.i l.s l.invariant.1 c.before.number4.result c.before.number4.ensures x)
+    (omega arith, λ x. ap (λ (y : ℕ). has y x) c.union.ensures ∙ joins_on (λ k. little_at 4 a.table.now (a.at + 4 * k)) a.n l.i l.s l.invariant.1 c.before.number4.result c.before.number4.ensures x)
 
 returns : tie.Need-returns invariant-loop decreases-loop
 returns c = let l = c.before.loop in
     let a = c.before.before.before.args in
-    joins-end (λ k. little_at 4 a.table.now (a.at + 4 * k)) a.n l.i l.s l.invariant.1 l.invariant.0 (omega arith)
+    joins_end (λ k. little_at 4 a.table.now (a.at + 4 * k)) a.n l.i l.s l.invariant.1 l.invariant.0 (omega arith)
 
 pub joined_spec : {M : Type 1} → statement M
 joined_spec =

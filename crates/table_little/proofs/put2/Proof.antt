@@ -2,7 +2,7 @@
 use native.Mathlib.Omega.{arith}
 use borrow.Author.Rules.{rules}
 use lib.ListN.{length-set}
-use Rattle.table_little.proofs.Numbers.{two-put}
+use Rattle.table_little.proofs.Numbers.{two_put}
 use Rattle.table_little.proofs.put2.Statement.{statement}
 use Rattle.table_little.proofs.put2.Tie as tie
 
@@ -25,7 +25,7 @@ same_length : tie.Need-same-length
 same_length c = search rules
 
 returns : tie.Need-returns
-returns c = two-put _ _ _
+returns c = two_put _ _ _
 
 pub put2_spec : {M : Type 1} → statement M
 put2_spec =

@@ -2,7 +2,7 @@
 use native.Mathlib.Omega.{arith}
 use borrow.Author.Rules.{rules}
 use lib.ListN.{length-set}
-use Rattle.table_little.proofs.Numbers.{four-put}
+use Rattle.table_little.proofs.Numbers.{four_put}
 use Rattle.table_little.proofs.put4.Statement.{statement}
 use Rattle.table_little.proofs.put4.Tie as tie
 
@@ -43,7 +43,7 @@ same_length : tie.Need-same-length
 same_length c = search rules
 
 returns : tie.Need-returns
-returns c = four-put _ _ _
+returns c = four_put _ _ _
 
 pub put4_spec : {M : Type 1} → statement M
 put4_spec =

@@ -6,7 +6,7 @@ use borrow.Author.Rules.{rules}
 use lib.ListN.{length, take}
 use Rattle.lists.specs.Lists.{numbers}
 use Rattle.server.specs.Layout.{little_at, able_at}
-use Rattle.table_rows.proofs.Reading.{fill_more, able-read}
+use Rattle.table_rows.proofs.Reading.{fill_more, able_read}
 use Rattle.table_rows.proofs.read_able.Statement.{statement}
 use Rattle.table_rows.proofs.read_able.Tie as tie
 
@@ -44,7 +44,7 @@ loop-again : tie.Need-loop-preserved invariant-loop decreases-loop
 loop-again c = search (rules, fill_more)
 
 returns : tie.Need-returns invariant-loop decreases-loop
-returns c = search (rules, able-read)
+returns c = search (rules, able_read)
 
 pub read_able_spec : {M : Type 1} → statement M
 read_able_spec =

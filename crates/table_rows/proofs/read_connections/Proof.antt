@@ -7,7 +7,7 @@ use lib.ListN.{length, take}
 use Rattle.lists.specs.Lists.{numbers}
 use Rattle.server.specs.Sizes.{connection_count}
 use Rattle.server.specs.Layout.{connection_in}
-use Rattle.table_rows.proofs.Reading.{fill_more, connections-read}
+use Rattle.table_rows.proofs.Reading.{fill_more, connections_read}
 use borrow.Author.Rules.{rules}
 use Rattle.table_rows.proofs.read_connections.Statement.{statement}
 use Rattle.table_rows.proofs.read_connections.Tie as tie
@@ -43,7 +43,7 @@ loop-again : tie.Need-loop-preserved invariant-loop decreases-loop
 loop-again c = search (rules, fill_more)
 
 returns : tie.Need-returns invariant-loop decreases-loop
-returns c = search (rules, connections-read)
+returns c = search (rules, connections_read)
 
 pub read_connections_spec : {M : Type 1} → statement M
 read_connections_spec =

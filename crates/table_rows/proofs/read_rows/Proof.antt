@@ -7,7 +7,7 @@ use lib.ListN.{length, take}
 use Rattle.lists.specs.Lists.{numbers}
 use Rattle.server.specs.Sizes.{job_count, connection_count}
 use Rattle.server.specs.Layout.{row_in}
-use Rattle.table_rows.proofs.Reading.{fill_more, rows-read}
+use Rattle.table_rows.proofs.Reading.{fill_more, rows_read}
 use Rattle.table_rows.proofs.read_rows.Statement.{statement}
 use Rattle.table_rows.proofs.read_rows.Tie as tie
 
@@ -42,7 +42,7 @@ loop-again : tie.Need-loop-preserved invariant-loop decreases-loop
 loop-again c = search (rules, fill_more)
 
 returns : tie.Need-returns invariant-loop decreases-loop
-returns c = search (rules, rows-read)
+returns c = search (rules, rows_read)
 
 pub read_rows_spec : {M : Type 1} → statement M
 read_rows_spec =

@@ -7,7 +7,7 @@ use native.Mathlib.Omega.{arith}
 use lib.ListN.{get_or, drop}
 use Rattle.octets.specs.Bytes.{Bytes}
 use Rattle.lists.specs.Lists.{find, numbers}
-use Rattle.lists.proofs.Lowest.{up_by, lowest_start, number-here, number-on, number-none}
+use Rattle.lists.proofs.Lowest.{up_by, lowest_start, number_here, number_on, number_none}
 use Rattle.table_texts.specs.Places.{agree}
 use borrow.Author.Rules.{rules}
 use Rattle.table_texts.proofs.place_of.Statement.{statement}
@@ -33,7 +33,7 @@ returns : tie.Need-returns invariant-loop decreases-loop
 returns c =
     let l = c.before.before.before.loop in
     let a = c.before.before.before.before.args in
-    number-here (stands a.names.now a.name.now) 16 l.i l.invariant.1 (omega arith) (sym c.before.stands_at.ensures ∙ c.if1.true)
+    number_here (stands a.names.now a.name.now) 16 l.i l.invariant.1 (omega arith) (sym c.before.stands_at.ensures ∙ c.if1.true)
 
 add-i : tie.Need-overflow-add-i invariant-loop decreases-loop
 add-i c = search rules
@@ -45,13 +45,13 @@ loop-again : tie.Need-loop-preserved invariant-loop decreases-loop
 loop-again c =
     let l = c.before.before.before.loop in
     let a = c.before.before.before.before.args in
-    (omega arith, number-on (stands a.names.now a.name.now) 16 l.i l.invariant.1 (omega arith) (sym c.before.stands_at.ensures ∙ c.if1.false))
+    (omega arith, number_on (stands a.names.now a.name.now) 16 l.i l.invariant.1 (omega arith) (sym c.before.stands_at.ensures ∙ c.if1.false))
 
 returns-2 : tie.Need-returns-2 invariant-loop decreases-loop
 returns-2 c =
     let l = c.before.loop in
     let a = c.before.before.args in
-    number-none (stands a.names.now a.name.now) 16 l.i l.invariant.1 (omega arith)
+    number_none (stands a.names.now a.name.now) 16 l.i l.invariant.1 (omega arith)
 
 pub place_of_spec : {M : Type 1} → statement M
 place_of_spec =

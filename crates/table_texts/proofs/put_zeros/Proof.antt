@@ -5,7 +5,7 @@ use borrow.Author.Rules.{rules}
 use lib.ListN.{length}
 use Rattle.octets.specs.Put.{put}
 use Rattle.table_texts.specs.Places.{zeros}
-use Rattle.table_texts.proofs.Padding.{zeros-none, zeros-more, zeros-all}
+use Rattle.table_texts.proofs.Padding.{zeros_none, zeros_more, zeros_all}
 use Rattle.table_texts.proofs.put_zeros.Statement.{statement}
 use Rattle.table_texts.proofs.put_zeros.Tie as tie
 
@@ -16,7 +16,7 @@ abbrev decreases-loop : tie.decreases-loop
 decreases-loop b₀ at n i₀ b i = n - i
 
 loop-holds : tie.Need-loop-init invariant-loop decreases-loop
-loop-holds c = search (rules, zeros-none)
+loop-holds c = search (rules, zeros_none)
 
 add-b : tie.Need-overflow-add-b invariant-loop decreases-loop
 add-b c = search rules
@@ -31,13 +31,13 @@ loop-less : tie.Need-loop-smaller invariant-loop decreases-loop
 loop-less c = search rules
 
 loop-again : tie.Need-loop-preserved invariant-loop decreases-loop
-loop-again c = search (rules, zeros-more)
+loop-again c = search (rules, zeros_more)
 
 same_length : tie.Need-same-length invariant-loop decreases-loop
 same_length c = search rules
 
 returns : tie.Need-returns invariant-loop decreases-loop
-returns c = search (rules, zeros-all)
+returns c = search (rules, zeros_all)
 
 pub put_zeros_spec : {M : Type 1} → statement M
 put_zeros_spec =

@@ -5,7 +5,7 @@ use mathlib.Core.List.{[]}
 use native.Mathlib.Omega.{arith}
 use lib.ListN.{get_or}
 use Rattle.table_texts.specs.Places.{agree}
-use Rattle.table_texts.proofs.Names.{agree-more, agree-all}
+use Rattle.table_texts.proofs.Names.{agree_more, agree_all}
 use borrow.Author.Rules.{rules}
 use Rattle.table_texts.proofs.stands_at.Statement.{statement}
 use Rattle.table_texts.proofs.stands_at.Tie as tie
@@ -42,13 +42,13 @@ loop-again : tie.Need-loop-preserved invariant-loop decreases-loop
 loop-again c =
     let l = c.before.before.before.loop in
     let a = c.before.before.before.before.args in
-    (omega arith, agree-more (get_or a.names.now a.q []) a.name.now l.i l.ok l.invariant.1 _ refl)
+    (omega arith, agree_more (get_or a.names.now a.q []) a.name.now l.i l.ok l.invariant.1 _ refl)
 
 returns : tie.Need-returns invariant-loop decreases-loop
 returns c =
     let l = c.before.loop in
     let a = c.before.before.args in
-    agree-all (get_or a.names.now a.q []) a.name.now l.i l.ok l.invariant.1 32 l.invariant.0 (omega arith)
+    agree_all (get_or a.names.now a.q []) a.name.now l.i l.ok l.invariant.1 32 l.invariant.0 (omega arith)
 
 pub stands_at_spec : {M : Type 1} → statement M
 stands_at_spec =

@@ -5,7 +5,7 @@ use native.Mathlib.Omega.{arith}
 use lib.ListN.{take, drop}
 use lib.Seq.{get_or-take, get_or-drop}
 use Rattle.table_texts.specs.Places.{agree}
-use Rattle.table_texts.proofs.Names.{agree-more, agree-all}
+use Rattle.table_texts.proofs.Names.{agree_more, agree_all}
 use borrow.Author.Rules.{rules}
 use Rattle.table_texts.proofs.unique_at.Statement.{statement}
 use Rattle.table_texts.proofs.unique_at.Tie as tie
@@ -39,13 +39,13 @@ loop-again : tie.Need-loop-preserved invariant-loop decreases-loop
 loop-again c =
     let l = c.before.before.before.loop in
     let a = c.before.before.before.before.args in
-    (omega arith, agree-more (take 64 (drop a.at a.table.now)) a.unique.now l.i l.ok l.invariant.1 _ (rw (get_or-take 64 (drop a.at a.table.now) l.i 0 (omega arith), get_or-drop)))
+    (omega arith, agree_more (take 64 (drop a.at a.table.now)) a.unique.now l.i l.ok l.invariant.1 _ (rw (get_or-take 64 (drop a.at a.table.now) l.i 0 (omega arith), get_or-drop)))
 
 returns : tie.Need-returns invariant-loop decreases-loop
 returns c =
     let l = c.before.loop in
     let a = c.before.before.args in
-    agree-all (take 64 (drop a.at a.table.now)) a.unique.now l.i l.ok l.invariant.1 64 l.invariant.0 (omega arith)
+    agree_all (take 64 (drop a.at a.table.now)) a.unique.now l.i l.ok l.invariant.1 64 l.invariant.0 (omega arith)
 
 pub unique_at_spec : {M : Type 1} → statement M
 unique_at_spec =

@@ -2,7 +2,7 @@
 -- nothing of it. Assumes nothing.
 use mathlib.Core.Path.{sym, ◌∙◌}
 use native.Mathlib.Omega.{arith}
-use Rattle.plan_find_rows.proofs.Walk.{free-passed, best-there, behind-passed}
+use Rattle.plan_find_rows.proofs.Walk.{free_passed, best_there, behind_passed}
 use borrow.Author.Rules.{rules}
 use Rattle.plan_find_rows.proofs.queue.next_group.Statement.{statement}
 use Rattle.plan_find_rows.proofs.queue.next_group.Tie as tie
@@ -19,7 +19,7 @@ zeros-requires c κs = search rules
 returns : tie.Need-returns
 returns c =
     let s = c.before.before.before in
-    free-passed s.args.table.now s.args.c s.args.p s.args.v s.requires.1 s.requires.3 (sym c.before.zeros.ensures ∙ c.if1.true)
+    free_passed s.args.table.now s.args.c s.args.p s.args.v s.requires.1 s.requires.3 (sym c.before.zeros.ensures ∙ c.if1.true)
 
 enum-known-place : tie.Need-enum-known-place
 enum-known-place c = search rules
@@ -27,17 +27,17 @@ enum-known-place c = search rules
 add-none-before : tie.Need-overflow-add-none-before
 add-none-before c =
     let s = c.before.before.before.before.before.before in
-    omega (arith, (best-there s.args.table.now s.args.c s.args.p s.args.v s.requires.1 s.requires.3 _ c.before.place.given.1).0)
+    omega (arith, (best_there s.args.table.now s.args.c s.args.p s.args.v s.requires.1 s.requires.3 _ c.before.place.given.1).0)
 
 shared-slice-read-none-before : tie.Need-shared-slice-read-none-before
 shared-slice-read-none-before c =
     let s = c.before.before.before.before.before.before.before in
-    omega (arith, (best-there s.args.table.now s.args.c s.args.p s.args.v s.requires.1 s.requires.3 _ c.before.before.place.given.1).0)
+    omega (arith, (best_there s.args.table.now s.args.c s.args.p s.args.v s.requires.1 s.requires.3 _ c.before.before.place.given.1).0)
 
 serial-requires : tie.Need-serial-requires
 serial-requires c κs =
     let s = c.before.before.before.before.before.before.before in
-    (s.requires.0, (best-there s.args.table.now s.args.c s.args.p s.args.v s.requires.1 s.requires.3 _ c.before.before.place.given.1).0)
+    (s.requires.0, (best_there s.args.table.now s.args.c s.args.p s.args.v s.requires.1 s.requires.3 _ c.before.before.place.given.1).0)
 
 none-before-requires : tie.Need-none-before-requires
 none-before-requires c κs = search rules
@@ -45,7 +45,7 @@ none-before-requires c κs = search rules
 returns-2 : tie.Need-returns-2
 returns-2 c =
     let s = c.before.before.before.before.before.before.before.before.before.before in
-    behind-passed s.args.table.now s.args.c s.args.p s.args.v s.requires.1 s.requires.3 _ c.before.before.before.before.before.place.given.1
+    behind_passed s.args.table.now s.args.c s.args.p s.args.v s.requires.1 s.requires.3 _ c.before.before.before.before.before.place.given.1
     (rw (← c.before.before.serial.ensures) (sym c.before.none_before.ensures ∙ c.if2.true))
 
 enum_told : tie.Need-enum-told

@@ -5,7 +5,7 @@ use native.Mathlib.Omega.{arith}
 use Rattle.lists.specs.Lists.{all, numbers}
 use Rattle.server.specs.Sizes.{connection_count}
 use Rattle.server.specs.Layout.{row_in}
-use Rattle.table_passes.proofs.Tests.{each_on, each-end}
+use Rattle.table_passes.proofs.Tests.{each_on, each_end}
 use Rattle.plan_find_rows.specs.Queue.{stays_behind}
 use borrow.Author.Rules.{rules}
 use Rattle.plan_find_rows.proofs.queue.none_before.Statement.{statement}
@@ -51,7 +51,7 @@ returns : tie.Need-returns invariant-loop decreases-loop
 returns c =
     let l = c.before.loop in
     let a = c.before.before.before.args in
-    each-end (λ k. stays_behind a.priority a.serial (row_in connection_count a.table.now (a.p + k))) 8 l.k l.ok l.invariant.1 l.invariant.0 (omega arith)
+    each_end (λ k. stays_behind a.priority a.serial (row_in connection_count a.table.now (a.p + k))) 8 l.k l.ok l.invariant.1 l.invariant.0 (omega arith)
 
 pub none_before_spec : {M : Type 1} → statement M
 none_before_spec =
