@@ -1,8 +1,7 @@
 #!/usr/bin/env bash
 # Times submit, grab and complete on this computer: the archive beside the ordinary server of host/peer. With --before FOLDER the older
 # liblap.a of that folder takes its turn as well. It may be one whose lap_fresh takes no name yet: it is given one all the same, which it
-# does not look at, and its handles say lap as those of the others here do. Where this is no x86-64 machine the archive's code is measured
-# as compiled for its processor (host/native.sh), and an older archive must be one of that kind.
+# does not look at, and its handles say lap as those of the others here do. It needs an x86-64 machine (host/native.sh).
 # usage: host/bench.sh [--before FOLDER] [--rounds N] [--events N]
 set -euo pipefail
 older=

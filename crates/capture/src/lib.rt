@@ -20,7 +20,7 @@ pub const LONGEST_LINE: usize = 2 * FRAME_SIZE;
 pub const LINE_ROOM: usize = LONGEST_LINE + 1;
 
 // What a line is: a frame of one of three kinds, or nothing of the sort. A packet's bytes stand in the lent bytes from 2 to its end.
-#[derive(Drop)]
+#[derive(Clone, Copy)]
 pub enum Frame {
     Open { connection: u8 },
     Close { connection: u8 },

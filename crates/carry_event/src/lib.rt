@@ -17,7 +17,7 @@ use packet::{Ends, Shape};
 use plan::Plan;
 
 // What a call answers: document 01's number, 0 if it is done, and how many bytes of the output it wrote.
-#[derive(Drop)]
+#[derive(Clone, Copy)]
 pub struct Answer {
     pub number: u8,
     pub length: usize,

@@ -1,5 +1,7 @@
 // Addressed packets, laid over a lent output: one connection byte and then a response. Each function returns the place after
 // what it laid. An inner crate: its callers see to the arguments and to the room, and nothing is refused.
+#![tactic(auto)]
+
 ghost use Rattle.std.specs.Prelude.{◌≡◌, [], ◌∷◌, cond, true, ◌+◌, ◌^◌, ◌≤◌, ◌<◌, drop, length};
 ghost use Rattle.octets.specs.Put.{put};
 ghost use Rattle.packet.specs.Layout as L;

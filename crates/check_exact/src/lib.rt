@@ -1,5 +1,7 @@
 // The table rules of refusal 1 that compare texts or add up their lengths, asked exactly. They are asked only where a key or a bound cannot
 // decide. Whatever the bytes are, each rule answers `true` or `false`; it asks only that all of the table's bytes are there.
+#![tactic(auto)]
+
 ghost use Rattle.std.specs.Prelude.{◌≡◌, ◌+◌, ◌-◌, ◌<◌, ◌≤◌, length, leb};
 ghost use Rattle.lists.specs.Lists.{all, numbers};
 ghost use Rattle.server.specs.Sizes.{connection_count, function_count, job_count, name_size, unique_size};

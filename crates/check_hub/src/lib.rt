@@ -1,5 +1,7 @@
 // What refusal 1 asks of the hub's name: 1 to 15 lowercase letters and digits, and zeros after them. Whatever the bytes are, the answer is
 // `true` or `false`; the check asks only that all of the table's bytes are there.
+#![tactic(auto)]
+
 ghost use Rattle.std.specs.Prelude.{◌≡◌, ◌≤◌, length};
 ghost use Rattle.server.specs.Sizes.{connection_count};
 ghost use Rattle.server.specs.Layout.{table_size};

@@ -1,6 +1,8 @@
 // What refusal 1 asks of client ids: zeros follow each of them, and only an open connection has one. Eight places that are zero are passed at
 // once, and no loop has an exit, so that each becomes vector code. Whatever the bytes are, the answer is `true` or `false`; the check asks only
 // that all of the table's bytes are there.
+#![tactic(auto)]
+
 ghost use Rattle.std.specs.Prelude.{◌≡◌, ◌+◌, ◌<◌, ◌≤◌, length};
 ghost use Rattle.lists.specs.Lists.{all, numbers};
 ghost use Rattle.server.specs.Sizes.{connection_count};

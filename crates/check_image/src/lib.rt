@@ -1,6 +1,8 @@
 // What refusal 1 asks of flags and texts as bytes: a flag is 0 or 1, and after a text's first zero byte only zeros follow. No loop has an
 // exit, so that each becomes vector code, and a run of texts that are all empty is compared with zeros alone. Whatever the bytes are, the
 // answer is `true` or `false`; each function asks only that its bytes are there.
+#![tactic(auto)]
+
 ghost use Rattle.std.specs.Prelude.{◌≡◌, ◌+◌, ◌*◌, ◌<◌, ◌≤◌, length};
 ghost use Rattle.lists.specs.Lists.{all, numbers};
 ghost use Rattle.server.specs.Sizes.{connection_count, function_count, job_count, name_size, unique_size};

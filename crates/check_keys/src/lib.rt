@@ -1,6 +1,8 @@
 // No two functions with one name, no two jobs with one function and unique, decided by keys: equal texts in padded places have equal keys, so
 // where the keys are distinct the rule holds; where two are equal the exact rule is asked. Each function asks that its bytes are there, and
 // names_hold and uniques_hold that names and uniques are padded.
+#![tactic(auto)]
+
 ghost use Rattle.std.specs.Prelude.{◌≡◌, true, ◌+◌, ◌<◌, ◌≤◌, length};
 ghost use Rattle.lists.specs.Lists.{all, numbers};
 ghost use Rattle.server.specs.Sizes.{connection_count, function_count, job_count, name_size, unique_size};

@@ -1,6 +1,8 @@
 // What refusal 1 asks of numbers that belong together: serials below the last one and distinct, functions known exactly if they are wanted,
 // abilities, listeners, holders, options and sleep only on open connections, and no sleeper with a grabbable job. The sets that they speak
 // of come from `check_survey`. An inner crate: its callers lend all of the table, and have tried flags and each row by itself.
+#![tactic(auto)]
+
 ghost use Rattle.std.specs.Prelude.{◌≡◌, cond, true, ◌&&◌, ◌+◌, ◌≤◌, ◌*◌, ◌^◌, length, ltb};
 ghost use Rattle.lists.specs.Lists.{all, numbers};
 ghost use Rattle.server.specs.Sizes.{connection_count, function_count, job_count};

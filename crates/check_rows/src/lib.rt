@@ -1,6 +1,8 @@
 // What refusal 1 asks of the numbers of each job's row by itself: a free row is zero, a live one has a priority, a function, and nobody or a
 // connection as its holder, and a queued job is background or has a listener. Each column is read in one loop without an exit; columns of
 // wider numbers become columns of marks first, so that a row's fields are compared in one width.
+#![tactic(auto)]
+
 ghost use Rattle.std.specs.Prelude.{◌≡◌, true, ℕ, ◌+◌, ◌*◌, ◌<◌, ◌≤◌, length, get_or, leb};
 ghost use Rattle.lists.specs.Lists.{all, numbers};
 ghost use Rattle.server.specs.Sizes.{connection_count, job_count};

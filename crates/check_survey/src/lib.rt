@@ -1,6 +1,8 @@
 // One pass over the rows: what they say of serials, functions and holders, gathered into sets, and whether a free row has a unique. A rule
 // of all jobs is then one of a set. Eight free rows are passed at once. An inner crate: it asks that all of the table's bytes are there,
 // and refuses nothing.
+#![tactic(auto)]
+
 ghost use Rattle.std.specs.Prelude.{◌≡◌, ◌+◌, ◌<◌, ◌≤◌, length};
 ghost use Rattle.server.specs.Sizes.{connection_count, job_count};
 ghost use Rattle.server.specs.Layout.{table_size};
@@ -10,7 +12,7 @@ use server::{FUNCTIONS_AT, JOBS, SERIALS_AT, UNIQUE_SIZE, UNIQUES_AT};
 
 // What the rows passed say: the serials' residues modulo 32, as a set and as the sum of their bits; the functions of queued jobs and of held
 // ones; the connections that hold one; and whether no free row has a unique.
-#[derive(Drop)]
+#[derive(Clone, Copy)]
 pub struct Survey {
     pub residues: u32,
     pub sum: u64,

@@ -1,6 +1,8 @@
 // What refusal 1 asks of the stored numbers and of the sizes of workloads. A numerator and a denominator are texts of 1 to 10 digits in
 // places of 10 bytes, empty in a free row, and zeros follow them. No loop has an exit, so that each becomes vector code; numbers of one
 // digit are found first, by the zeros after them. Whatever the bytes are, the answer is `true` or `false`.
+#![tactic(auto)]
+
 ghost use Rattle.std.specs.Prelude.{◌≡◌, ◌&&◌, ◌+◌, ◌≤◌, length, get_or};
 ghost use Rattle.lists.specs.Lists.{all, numbers};
 ghost use Rattle.server.specs.Sizes.{connection_count, job_count};

@@ -1,6 +1,8 @@
 // The known functions of the lent table in rising byte order of name: their places, in an array by value, and how many they are. Names are
 // compared where they lie. An inner crate: each function asks its callers that the table lies inside the bytes, and refuses nothing; a
 // place beyond the last has no name.
+#![tactic(auto)]
+
 ghost use Rattle.std.specs.Prelude.{◌≡◌, cond, ◌+◌, ◌≤◌, ◌<◌, length, take};
 ghost use Rattle.server.specs.Sizes.{connection_count, function_count};
 ghost use Rattle.server.specs.Table.{function_at};
@@ -11,7 +13,7 @@ ghost use Rattle.command_order.specs.Listing.{listed};
 use server::{FUNCTIONS, NAME_SIZE, NAMES_AT};
 
 // Places of functions: the first `count` of these. What stands behind them has no meaning.
-#[derive(Drop)]
+#[derive(Clone, Copy)]
 pub struct Listing {
     pub places: [usize; FUNCTIONS],
     pub count: usize,

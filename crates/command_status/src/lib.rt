@@ -1,6 +1,8 @@
 // The answer to `status`, laid over a lent text: a line for each known function, and a line with a period. Each function that lays
 // returns the place after what it laid. An inner crate: its callers lend a table that obeys the rules and see to the room, and nothing is
 // refused.
+#![tactic(auto)]
+
 ghost use Rattle.std.specs.Prelude.{◌≡◌, cond, true, ◌++◌, map, ◌+◌, ◌≤◌, length};
 ghost use Rattle.octets.specs.Put.{put};
 ghost use Rattle.handle.specs.Handle.{decimal};

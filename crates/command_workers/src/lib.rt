@@ -1,5 +1,7 @@
 // The answer to `workers`, laid over a lent text: a line for each open connection, and a line with a period. Each function that lays returns
 // the place after what it laid. An inner crate: its callers lend the table's bytes and see to the room, and nothing is refused.
+#![tactic(auto)]
+
 ghost use Rattle.std.specs.Prelude.{◌≡◌, ◌+◌, ◌<◌, ◌≤◌, length};
 ghost use Rattle.octets.specs.Put.{put};
 ghost use Rattle.server.specs.Sizes.{connection_count, function_count};

@@ -1,5 +1,7 @@
 // The names of hubs, and the handles of jobs: `H:`, the name of the hub, `:` and a serial in decimal, with no leading zero. A text that is
 // no serial's handle at this hub is `None`. An inner crate: `handle_of` asks its callers for a hub's name.
+#![tactic(auto)]
+
 ghost use Rattle.std.specs.Prelude.{◌≡◌, cond, true, ◌+◌, ◌≤◌, ◌<◌, length};
 ghost use Rattle.octets.specs.Bytes.{every, starts_with, within};
 ghost use Rattle.octets.specs.Put.{put};
@@ -11,14 +13,14 @@ pub const HUB_MOST: usize = 15;
 pub const HANDLE_MOST: usize = 13 + HUB_MOST;
 
 // A handle's text, followed by zeros, and its length.
-#[derive(Drop)]
+#[derive(Clone, Copy)]
 pub struct Handle {
     pub text: [u8; HANDLE_MOST],
     pub length: usize,
 }
 
 // The serial of which a text is the handle.
-#[derive(Drop)]
+#[derive(Clone, Copy)]
 pub enum Serial {
     Of(u32),
     None,

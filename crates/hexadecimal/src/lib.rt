@@ -1,5 +1,7 @@
 // Lowercase hexadecimal, two digits a byte: the bytes that digits spell, laid over the start of a lent buffer, and the digits of
 // bytes. `read_hex` refuses nothing it is lent; `put_hex` asks its caller that there is room.
+#![tactic(auto)]
+
 ghost use Rattle.std.specs.Prelude.{◌≡◌, true, ◌+◌, ◌*◌, ◌<◌, ◌≤◌, get_or, length};
 ghost use Rattle.octets.specs.Bytes.{every};
 ghost use Rattle.octets.specs.Put.{put};
@@ -7,7 +9,7 @@ ghost use Rattle.hexadecimal.specs.Hex.{digit_value, hex, hex_byte, hex_digit};
 ghost use Rattle.hexadecimal.specs.Spelling.{is_digit, pairs, spelling};
 
 // What reading answers: how many bytes the digits spell, or that they spell none.
-#[derive(Drop)]
+#[derive(Clone, Copy)]
 pub enum Spelled {
     Bytes(usize),
     Bad,

@@ -1,13 +1,19 @@
 // Standard input line by line, in two buffers that the caller lends: one for the chunk that was read last, one for the line. No
 // contract can say what is read; the lines themselves are made by the crate `lines`.
+#![tactic(auto)]
+
 ghost use Rattle.std.specs.Prelude.{◌≡◌};
 ghost use Rattle.input.specs.Reading.{has_line, start};
 
 use lines::Line;
+use std::io::Read;
+
+// How long a chunk the programs lend.
+pub const CHUNK_SIZE: usize = 4096;
 
 // Where reading stands: the line under way, the next place in the chunk and the chunk's end, whether the input is over, and whether
 // that is because reading failed.
-#[derive(Drop)]
+#[derive(Clone, Copy)]
 pub struct Input {
     pub line: Line,
     pub at: usize,
@@ -60,22 +66,39 @@ fn fed(input: Input, chunk: &[u8], buffer: &mut [u8]) -> Input {
     }
 }
 
-// Reads a chunk. The input is over where nothing comes, or reading fails.
-fn refilled(input: Input, chunk: &mut [u8]) -> Input {
-    let line = input.line;
-    let got = libc::read(0, chunk);
+// Where reading stands after a chunk: the input is over where nothing comes.
+fn filled(input: Input, count: usize) -> Input {
     Input {
-        line: line,
+        line: input.line,
         at: 0,
-        end: io::count(got, chunk),
-        over: got <= 0,
-        failed: got < 0,
+        end: count,
+        over: count == 0,
+        failed: false,
+    }
+}
+
+// Where reading stands once it has failed: the input is over.
+fn broken(input: Input) -> Input {
+    Input {
+        line: input.line,
+        at: 0,
+        end: 0,
+        over: true,
+        failed: true,
+    }
+}
+
+// Reads a chunk. The input is over where nothing comes, or reading fails.
+fn refilled<R: Read>(reader: &mut R, input: Input, chunk: &mut [u8]) -> Input {
+    match reader.read(chunk) {
+        Ok(count) => filled(input, count),
+        Err(_) => broken(input),
     }
 }
 
 // Goes on to the end of the next line, or of the input. Nothing says that the input ends, so the chunks are counted down from a
 // number that no run uses up.
-pub fn next(input: Input, chunk: &mut [u8], buffer: &mut [u8]) -> Input {
+pub fn next<R: Read>(reader: &mut R, input: Input, chunk: &mut [u8], buffer: &mut [u8]) -> Input {
     let mut now = begun(input);
     let mut turns = u64::MAX;
     while turns > 0 {
@@ -83,7 +106,7 @@ pub fn next(input: Input, chunk: &mut [u8], buffer: &mut [u8]) -> Input {
         if has_line(now) {
             return now;
         }
-        now = refilled(now, chunk);
+        now = refilled(reader, now, chunk);
         if now.over {
             return now;
         }

@@ -1,10 +1,12 @@
 // Lines of a text that is read byte by byte, in a buffer that the caller lends. A line longer than the buffer is remembered as too
 // long, and what does not fit is dropped; the line feed is no part of a line. No function refuses anything.
+#![tactic(auto)]
+
 ghost use Rattle.std.specs.Prelude.{◌≡◌, take};
 ghost use Rattle.lines.specs.Lines.{begun, fed, fresh, is_open};
 
 // A line so far: how many of its bytes stand in the buffer, whether it has more of them, and whether its line feed has come.
-#[derive(Drop)]
+#[derive(Clone, Copy)]
 pub struct Line {
     pub length: usize,
     pub overlong: bool,

@@ -1,5 +1,7 @@
 // Byte strings: compared, searched for their first zero byte, laid over a lent buffer; big-endian numbers of four bytes.
 // An inner crate: `put` and `number_at` ask their callers that the place lies inside the buffer, and the rest refuse nothing.
+#![tactic(auto)]
+
 ghost use Rattle.std.specs.Prelude.{◌≡◌, ◌+◌, ◌≤◌, ◌<◌, length};
 ghost use Rattle.octets.specs.Bytes.{big_endian, every, first_zero, number_at, same, starts_with, within};
 ghost use Rattle.octets.specs.Put.{put};

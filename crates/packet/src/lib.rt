@@ -1,8 +1,9 @@
 // What a packet is: the types that the packet layer's code and its definitions share. The definitions stand in specs/; there is no
 // code here.
+#![tactic(auto)]
 
 // The shape of a type's data: its arguments, in order.
-#[derive(Drop)]
+#[derive(Clone, Copy)]
 pub enum Shape {
     Foreign, // not a type of this direction
     Empty, // no data
@@ -21,7 +22,7 @@ pub enum Shape {
 }
 
 // What one argument may be. None but an opaque one holds a zero byte.
-#[derive(Drop)]
+#[derive(Clone, Copy)]
 pub enum Rule {
     Text { least: usize, most: usize }, // this many bytes
     Digits { least: usize, most: usize }, // this many digits 0-9
@@ -32,11 +33,11 @@ pub enum Rule {
 }
 
 // A type's row: served, sent, separators, priority (2 high, 1 normal, 0 low or no submission), background.
-#[derive(Drop)]
+#[derive(Clone, Copy)]
 pub struct Kind(pub bool, pub bool, pub u8, pub u8, pub bool);
 
 // Where each argument of a packet ends, counted from the packet's first byte; 0 where there is no such argument.
-#[derive(Drop)]
+#[derive(Clone, Copy)]
 pub struct Ends {
     pub first: usize,
     pub second: usize,
@@ -46,28 +47,28 @@ pub struct Ends {
 }
 
 // What splitting a packet's data into arguments finds.
-#[derive(Drop)]
+#[derive(Clone, Copy)]
 pub enum Split {
     Bad,
     Good(Ends),
 }
 
 // What reading a header finds: a refusal 5 to 8, or the type.
-#[derive(Drop)]
+#[derive(Clone, Copy)]
 pub enum Header {
     Refused(u8),
     Good(u32),
 }
 
 // What reading a packet finds: the number of a refusal, or the type and where its arguments end.
-#[derive(Drop)]
+#[derive(Clone, Copy)]
 pub enum Read {
     Refused(u8),
     Packet { kind: u32, ends: Ends },
 }
 
 // What writing a packet answers: the number of a refusal, or the packet's length.
-#[derive(Drop)]
+#[derive(Clone, Copy)]
 pub enum Written {
     Refused(u8),
     Length(usize),

@@ -3,7 +3,7 @@ use crate::parse::Case;
 use packet::{Ends, Read, Written};
 
 // How reading back went: nothing was written, the same type and arguments, others, or the number of a refusal.
-#[derive(Drop)]
+#[derive(Clone, Copy)]
 pub enum Back {
     Nothing,
     Same,
@@ -12,7 +12,7 @@ pub enum Back {
 }
 
 // What a call answered.
-#[derive(Drop)]
+#[derive(Clone, Copy)]
 pub struct Outcome {
     pub kind: u32,
     pub number: u8,

@@ -3,58 +3,58 @@
 //
 // A line is `q KIND COUNT L1 L2 L3 L4 L5 FILL ROOM` for a request and `s ...` for a response: the type, how many arguments there
 // are, the length of each of five, the byte that they are filled with, and the length of the output; each length at most 4,096.
+#![tactic(auto)]
+
 mod case;
 mod parse;
 
 use case::{Back, Outcome};
+use input::CHUNK_SIZE;
+use std::io;
 
 // Writes how reading back went.
-fn print_back(back: Back) {
+fn print_back(rt: HostRuntime, back: Back) -> io::Result<()> {
     match back {
-        Back::Nothing => {}
-        Back::Same => {
-            io::write_all(1, b" reads back");
-        }
-        Back::Differs => {
-            io::write_all(1, b" reads differently");
-        }
-        Back::Refused(number) => {
-            io::write_all(1, b" refused ");
-            io::print_decimal(1, number as u64);
-        }
+        Back::Nothing => Ok(()),
+        Back::Same => print!(rt; " reads back"),
+        Back::Differs => print!(rt; " reads differently"),
+        Back::Refused(number) => print!(rt; " refused {number}"),
     }
 }
 
 // Writes what a call answered.
-fn print_outcome(outcome: Outcome) {
-    io::print_decimal(1, outcome.kind as u64);
-    io::write_all(1, b" -> number ");
-    io::print_decimal(1, outcome.number as u64);
-    io::write_all(1, b" length ");
-    io::print_decimal(1, outcome.length as u64);
+fn print_outcome(rt: HostRuntime, outcome: Outcome) -> io::Result<()> {
+    let kind = outcome.kind;
+    let number = outcome.number;
+    let length = outcome.length;
+    print!(rt; "{kind} -> number {number} length {length}")?;
     if outcome.touched {
-        io::write_all(1, b" touched");
+        print!(rt; " touched")?;
     }
-    let back = outcome.back;
-    print_back(back);
-    io::write_all(1, b"\n");
+    print_back(rt, outcome.back)?;
+    println!(rt; "")
 }
 
 // The lines are counted down from a number that no run uses up: a proved loop has to end, and nothing says that the input does.
-fn print_all(chunk: &mut [u8], buffer: &mut [u8]) {
+fn print_all(rt: HostRuntime, chunk: &mut [u8], buffer: &mut [u8]) -> io::Result<()> {
+    let mut reader = rt.stdin();
     let mut now = input::start();
     let mut turns = u64::MAX;
     while turns > 0 && !now.over {
-        now = input::next(now, chunk, buffer);
+        now = input::next(&mut reader, now, chunk, buffer);
         if input::has_line(now) {
-            print_outcome(case::outcome_of(parse::case_of(lines::text(now.line, buffer))));
+            print_outcome(
+                rt,
+                case::outcome_of(parse::case_of(lines::text(now.line, buffer))),
+            )?;
         }
         turns -= 1;
     }
+    Ok(())
 }
 
-fn main() {
-    let mut chunk = io::buffer();
+fn main(rt: HostRuntime) -> io::Result<()> {
+    let mut chunk = [0u8; CHUNK_SIZE];
     let mut buffer = [0u8; 200];
-    print_all(&mut chunk, &mut buffer);
+    print_all(rt, &mut chunk, &mut buffer)
 }

@@ -2,7 +2,7 @@
 ghost use Rattle.std.specs.Prelude.{◌≤◌, ◌<◌};
 
 // A call of the writer: its direction, the type, how many arguments, the length of each, their byte, and the output's length.
-#[derive(Drop)]
+#[derive(Clone, Copy)]
 pub struct Case {
     pub is_response: bool,
     pub kind: u32,

@@ -1,5 +1,7 @@
 // A packet that is to be written: its header, laid over a buffer; its arguments, tried against the rules of its shape, measured, and
 // laid with a zero byte between each two. An inner crate of the packet layer.
+#![tactic(auto)]
+
 ghost use Rattle.std.specs.Prelude.{◌≡◌, cond, true, ◌++◌, ◌+◌, ◌≤◌, min, get_or, length, leb};
 ghost use Rattle.octets.specs.Bytes.{big_endian};
 ghost use Rattle.octets.specs.Put.{put};

@@ -1,5 +1,7 @@
 // The protocol's numbers: the shape of each type's data, the rule of each argument, and the constant table of the 36 types.
 // An inner crate of the packet layer: its functions refuse nothing, and a number that is no type has the row of number 0.
+#![tactic(auto)]
+
 ghost use Rattle.std.specs.Prelude.{◌≡◌, cond, ◌≤◌, get_or, length};
 ghost use Rattle.packet.specs.declared.Rule.TheVariants.{Absent};
 ghost use Rattle.packet.specs.Layout.{is_own, kind_of, padded, request_shape, response_shape, rules_of};

@@ -1,31 +1,39 @@
 // Reads standard input line by line, each line one packet in lowercase hexadecimal, and writes a line for each: what the packet
 // reader finds, and whether the packet writer gives the same bytes back. What is said of a line is made in text.rt.
+#![tactic(auto)]
+
 mod text;
 
+use input::CHUNK_SIZE;
 use lines::Line;
+use std::io;
+use std::io::Write;
 
 // Writes what is said of a line.
-fn print_line(line: Line, buffer: &[u8]) {
+fn print_line<W: Write>(writer: &mut W, line: Line, buffer: &[u8]) -> io::Result<()> {
     let mut out = [0u8; 8192];
     let end = text::said(&mut out, lines::text(line, buffer), line.overlong);
-    io::write_all(1, lines::front(&out, end));
+    writer.write_all(lines::front(&out, end))
 }
 
 // The lines are counted down from a number that no run uses up: a proved loop has to end, and nothing says that the input does.
-fn print_all(chunk: &mut [u8], buffer: &mut [u8]) {
+fn print_all(rt: HostRuntime, chunk: &mut [u8], buffer: &mut [u8]) -> io::Result<()> {
+    let mut reader = rt.stdin();
+    let mut writer = rt.stdout();
     let mut now = input::start();
     let mut turns = u64::MAX;
     while turns > 0 && !now.over {
-        now = input::next(now, chunk, buffer);
+        now = input::next(&mut reader, now, chunk, buffer);
         if input::has_line(now) {
-            print_line(now.line, buffer);
+            print_line(&mut writer, now.line, buffer)?;
         }
         turns -= 1;
     }
+    Ok(())
 }
 
-fn main() {
-    let mut chunk = io::buffer();
+fn main(rt: HostRuntime) -> io::Result<()> {
+    let mut chunk = [0u8; CHUNK_SIZE];
     let mut buffer = [0u8; 2200];
-    print_all(&mut chunk, &mut buffer);
+    print_all(rt, &mut chunk, &mut buffer)
 }

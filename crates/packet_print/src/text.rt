@@ -16,9 +16,18 @@ fn put_text(out: &mut [u8], at: usize, source: &[u8]) -> usize {
 
 // Lays a number in decimal.
 fn put_number(out: &mut [u8], at: usize, n: u32) -> usize {
-    let mut digits = [0u8; 20];
-    let count = io::decimal(n as u64, &mut digits);
-    put_text(out, at, &digits[..count])
+    let mut digits = [0u8; 10];
+    let mut first = 10;
+    let mut rest = n;
+    while first > 0 {
+        first -= 1;
+        digits[first] = b'0' + (rest % 10) as u8;
+        rest /= 10;
+        if rest == 0 {
+            break;
+        }
+    }
+    put_text(out, at, &digits[first..])
 }
 
 // Whether a byte stands for itself between quotes.

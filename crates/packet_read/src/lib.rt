@@ -1,5 +1,7 @@
 // Reads a packet: four bytes of magic, four of type, four of size, and then size bytes of arguments with a zero byte between
 // each two. Refuses by 5 to 10, in number order, what is no request, or no response. Writes nothing.
+#![tactic(auto)]
+
 ghost use Rattle.std.specs.Prelude.{◌≡◌, ◌<◌, ◌^◌, length};
 ghost use Rattle.packet.specs.Packet.{body, read, requests, responses};
 ghost use Rattle.packet.specs.Answers.{answer_of, argument_at, between, header_of};

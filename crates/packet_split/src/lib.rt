@@ -1,5 +1,7 @@
 // The arguments of a packet's data, read by the rules of its shape: after each zero byte the rest of the data goes to the next
 // argument's reader as a part. An inner crate of the packet layer; data that does not split as the shape asks is `Bad`.
+#![tactic(auto)]
+
 ghost use Rattle.std.specs.Prelude.{◌≡◌, [], ◌∷◌, ◌+◌, ◌<◌, ◌^◌, drop, length};
 ghost use Rattle.octets.specs.Bytes.{within};
 ghost use Rattle.packet.specs.Layout.{rules_of};

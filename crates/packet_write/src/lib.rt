@@ -1,6 +1,8 @@
 // Writes a packet into a lent buffer: four bytes of magic, four of type, four of size, and then the arguments with a zero byte
 // between each two. Refuses, in this order, a foreign type by 9, bad arguments by 10, too much data by 7 and too short an output
 // by 1; a refusal writes nothing, and nothing is written beyond the packet.
+#![tactic(auto)]
+
 ghost use Rattle.std.specs.Prelude.{◌≡◌, ◌+◌, ◌≤◌, ◌<◌, length};
 ghost use Rattle.octets.specs.Put.{put};
 ghost use Rattle.packet.specs.Arguments.{join};

@@ -1,12 +1,14 @@
 // What an event comes to, decided before anything is written: the numbers of a table by value, the step that an event takes on them,
 // the texts that it changes and the packets that it sends, and what the end of the event does beyond the step. The types stand here
 // and their meaning in specs/; there is no code.
+#![tactic(auto)]
+
 use lists::Place;
 use server::{CONNECTIONS, Connection, FUNCTIONS, JOBS, JobRow};
 
 // The numbers of a table, by value: the last serial given out, the connections, the connections able to do each function, and the
 // rows of the jobs. Names, uniques, stored texts and workloads stay in the lent bytes.
-#[derive(Drop)]
+#[derive(Clone, Copy)]
 pub struct Values {
     pub last: u32,
     pub connections: [Connection; CONNECTIONS],
@@ -15,7 +17,7 @@ pub struct Values {
 }
 
 // The texts that an event changes.
-#[derive(Drop)]
+#[derive(Clone, Copy)]
 pub enum Change {
     Nothing,
     Name { function: usize }, // the function's name is put at its place
@@ -27,7 +29,7 @@ pub enum Change {
 
 // The packets that an event sends before any NOOP: all to the sender, but what a worker says of its job. That goes to a set: as copies, or
 // as copies to those of it who hear it and WORK_FAIL to the others.
-#[derive(Drop)]
+#[derive(Clone, Copy)]
 pub enum Order {
     Nothing,
     Created { serial: u32 },
@@ -42,7 +44,7 @@ pub enum Order {
 }
 
 // What changes among the numbers before the table is settled.
-#[derive(Drop)]
+#[derive(Clone, Copy)]
 pub enum Step {
     Nothing,
     Row {
@@ -80,7 +82,7 @@ pub enum Step {
 
 // What an event comes to: a refusal's number, or 0 and the step that it takes, the texts that it changes and the packets that it sends,
 // before the table is settled.
-#[derive(Drop)]
+#[derive(Clone, Copy)]
 pub struct Plan {
     pub number: u8,
     pub step: Step,
@@ -89,7 +91,7 @@ pub struct Plan {
 }
 
 // What the end of an event does beyond its step: the sleepers that wake, as a set, and the function that is forgotten.
-#[derive(Drop)]
+#[derive(Clone, Copy)]
 pub struct Ending {
     pub woken: u32,
     pub forgotten: Place,

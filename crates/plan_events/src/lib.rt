@@ -19,7 +19,7 @@ use plan::{Change, Order, Plan, Step};
 use server::{CONNECTIONS, Connection};
 
 // What a worker says of its job: data or a warning, a status, its end, an exception.
-#[derive(Drop)]
+#[derive(Clone, Copy)]
 pub enum Work {
     Tells,
     Reports,

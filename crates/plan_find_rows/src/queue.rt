@@ -13,7 +13,7 @@ use lists::Place;
 use server::{FUNCTIONS_AT, PRIORITIES_AT, SERIALS_AT};
 
 // The best job of the rows passed: its place, and its rank, which is 0 where there is none.
-#[derive(Drop)]
+#[derive(Clone, Copy)]
 pub struct Best {
     pub place: Place,
     pub rank: u64,

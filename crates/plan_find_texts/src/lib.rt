@@ -1,6 +1,8 @@
 // Searches in a table that obeys the table rules: the place of a function's name, a place for a new one, and the job that a
 // submission joins. Names are a local array of byte arrays; a place is compared with a padded text, all bytes of it. An inner crate:
 // it asks for such a table and for texts that a packet may have, and refuses nothing.
+#![tactic(auto)]
+
 ghost use Rattle.std.specs.Prelude.{◌≡◌, true, [], ◌≤◌, ◌<◌, length};
 ghost use Rattle.octets.specs.Bytes.{zero_free};
 ghost use Rattle.lists.specs.Lists.{find, fit};
@@ -16,7 +18,7 @@ use lists::Place;
 use server::{FUNCTIONS, FUNCTIONS_AT, JOBS, NAME_SIZE, SERIALS_AT, UNIQUE_SIZE, UNIQUES_AT};
 
 // Where a submission goes: the job that it joins, and the place that its function has or would take.
-#[derive(Drop)]
+#[derive(Clone, Copy)]
 pub struct Places {
     pub joined: Place,
     pub room: Place,

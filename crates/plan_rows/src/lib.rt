@@ -1,5 +1,7 @@
 // The numbers of a table by value, read and put anew at a place. A place beyond the last is read as an empty one, and nothing is put
 // there. An inner crate: its callers name connections that there are.
+#![tactic(auto)]
+
 ghost use Rattle.std.specs.Prelude.{◌≡◌, ◌<◌, get_or, set};
 ghost use Rattle.server.specs.Sizes.{connection_count};
 ghost use Rattle.server.specs.Table.{no_row};

@@ -1,4 +1,6 @@
 // Tests of a job's row by value, the connections able to do a function, and the job with a serial among all rows. No row is refused.
+#![tactic(auto)]
+
 ghost use Rattle.std.specs.Prelude.{◌≡◌, ◌&&◌, get_or, eqb};
 ghost use Rattle.server.specs.Table.{live, queued};
 ghost use Rattle.lists.specs.Places.{placed};

@@ -1,5 +1,7 @@
 // The end of every event that is done, on the numbers by value: lost jobs are dropped, sleepers with a grabbable job are woken, and
 // the functions that are still wanted are marked. Refuses nothing.
+#![tactic(auto)]
+
 ghost use Rattle.std.specs.Prelude.{◌≡◌, ◌<◌, cond, ◌&&◌};
 ghost use Rattle.sets.specs.Sets.{has};
 ghost use Rattle.server.specs.Sizes.{connection_count};

@@ -1,6 +1,8 @@
 // What every text for people is made of: a number in decimal, and a text that a client chose with `?` for what is no visible character,
 // laid over a lent text; and the laws of runs that are laid piece by piece. Each function that lays returns the place after what it laid.
 // An inner crate: its callers see to the room, and nothing is refused.
+#![tactic(auto)]
+
 ghost use Rattle.std.specs.Prelude.{◌≡◌, ◌+◌, ◌≤◌, length};
 ghost use Rattle.octets.specs.Put.{put};
 ghost use Rattle.handle.specs.Handle.{decimal};

@@ -1,5 +1,6 @@
 // What the job server is: the rows that its code and its definitions share, how they are put anew, and the product's counts, sizes and
 // places in the table. The definitions stand in specs/; `numbers` ties the constants to them.
+#![tactic(auto)]
 
 ghost use Rattle.server.specs.Table as T;
 ghost use Rattle.server.specs.Table.{fresh_row, in_background, just_opened, no_row, with_asleep, with_exceptions, with_holder, with_listeners};
@@ -72,7 +73,7 @@ pub const WORKLOADS_SIZE: usize = WORKLOAD_SIZE * JOBS;
 pub const OUTPUT_SIZE: usize = 16592 + 1037 * (CONNECTIONS - 16);
 
 // A connection's row.
-#[derive(Drop)]
+#[derive(Clone, Copy)]
 pub struct Connection {
     pub opened: bool,
     pub asleep: bool,
@@ -80,7 +81,7 @@ pub struct Connection {
 }
 
 // The numbers of a job's row. A free row has serial 0 and is zero throughout.
-#[derive(Drop)]
+#[derive(Clone, Copy)]
 pub struct JobRow {
     pub serial: u32,
     pub function: u8, // the place of its function

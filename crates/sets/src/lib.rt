@@ -1,5 +1,7 @@
 // Sets of connections, each in one unsigned number: connection c is bit c.
 // An inner crate: its callers name connections below 32, and no set is refused.
+#![tactic(auto)]
+
 ghost use Rattle.std.specs.Prelude.{◌≡◌, ◌<◌, ◌^◌};
 ghost use Rattle.sets.specs.Sets as S;
 

@@ -1,5 +1,7 @@
 // Columns of the table's numbers in the lent bytes: read into an array by value, 01's "rows as arrays by value", or gathered into one
 // set. Numbers are little-endian. An inner crate: each function asks its callers that the column lies inside the bytes, and refuses nothing.
+#![tactic(auto)]
+
 ghost use Rattle.std.specs.Prelude.{◌≡◌, map, ◌+◌, ◌*◌, ◌≤◌, length};
 ghost use Rattle.lists.specs.Lists.{numbers};
 ghost use Rattle.server.specs.Sizes.{job_count};

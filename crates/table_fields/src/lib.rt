@@ -1,5 +1,7 @@
 // One number of one row or function, read where it lies in the lent table. Each is a function of its own, so that a comparison of the number
 // is one of the whole number and not of its bytes. An inner crate: each function asks its callers that the place is one, and refuses nothing.
+#![tactic(auto)]
+
 ghost use Rattle.std.specs.Prelude.{◌≡◌, ◌<◌, ◌≤◌, length};
 ghost use Rattle.server.specs.Sizes.{connection_count, function_count, job_count};
 ghost use Rattle.server.specs.Layout.{function_in, row_in, table_size};

@@ -1,5 +1,7 @@
 // Numbers in lent bytes, little-endian: of four bytes and of two, read and laid. An inner crate: each function asks its callers that
 // the place lies inside the bytes, and refuses nothing.
+#![tactic(auto)]
+
 ghost use Rattle.std.specs.Prelude.{◌≡◌, ◌+◌, ◌≤◌, length};
 ghost use Rattle.octets.specs.Put.{put};
 ghost use Rattle.server.specs.Layout.{little, little_at};

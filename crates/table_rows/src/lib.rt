@@ -1,6 +1,8 @@
 // The numbers of a table read from the lent bytes: one row, one set or one connection at its place, or all of them into arrays by value.
 // docs/TABLE.md has the columns, little-endian; texts stay in the bytes. An inner crate: each function asks its callers that the table
 // lies inside the bytes, and refuses nothing; a place beyond the last is read as an empty one.
+#![tactic(auto)]
+
 ghost use Rattle.std.specs.Prelude.{◌≡◌, ◌≤◌, ◌<◌, length, get_or};
 ghost use Rattle.server.specs.Sizes.{connection_count, job_count};
 ghost use Rattle.server.specs.Table.{closed, no_row, ables_of, rows_of};

@@ -1,6 +1,8 @@
 // The texts of the table in the lent bytes: names, uniques, stored texts, client ids and the hub's name, each at the start of a place of
 // fixed width and followed by zeros. An inner crate: every function asks its callers that the place lies inside the bytes, and refuses
 // nothing.
+#![tactic(auto)]
+
 ghost use Rattle.std.specs.Prelude.{◌≡◌, ◌+◌, ◌*◌, ◌≤◌, ◌<◌, [], length, get_or, take, drop};
 ghost use Rattle.octets.specs.Put.{put};
 ghost use Rattle.lists.specs.Lists.{fit};

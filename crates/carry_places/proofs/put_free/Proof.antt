@@ -37,7 +37,7 @@ same_length c = search rules
 
 returns : tie.Need-returns
 unfolding laid_free
-returns c = c.before.before.put_numbers.ensures ∙ rw (c.before.before.before.before.before.before.before.before.put-text.ensures, c.before.before.before.before.before.before.before.before.before.before.before.before.before.put_row_lem.ensures, c.before.before.before.before.before.before.before.before.before.before.before.before.before.before.no_row.ensures)
+returns c = c.before.before.put_numbers.ensures ∙ rw (c.before.before.before.before.before.before.before.before.put-text.ensures, c.before.before.before.before.before.before.before.before.before.before.before.before.before.put_row.ensures, c.before.before.before.before.before.before.before.before.before.before.before.before.before.before.no_row.ensures)
 
 pub put_free_spec : {M : Type 1} → statement M
 put_free_spec =

@@ -24,7 +24,7 @@ same-length-2 c = search rules
 
 returns-2 : tie.Need-returns-2
 unfolding laid_job
-returns-2 c = c.before.before.put_row_lem.ensures ∙ rw (ne_eqb _ _ c.before.before.before.before.if1.false)
+returns-2 c = c.before.before.put_row.ensures ∙ rw (ne_eqb _ _ c.before.before.before.before.if1.false)
 
 pub put_job_spec : {M : Type 1} → statement M
 put_job_spec =

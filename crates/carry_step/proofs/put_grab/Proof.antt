@@ -14,7 +14,7 @@ same_length : tie.Need-same-length
 same_length c = search rules
 
 returns : tie.Need-returns
-returns c = c.before.before.put_row_lem.ensures ∙ rw c.before.before.before.before.before.before.put-flags.ensures
+returns c = c.before.before.put_row.ensures ∙ rw c.before.before.before.before.before.before.put-flags.ensures
 
 pub put_grab_spec : {M : Type 1} → statement M
 put_grab_spec = tie.close (tie.spec put-flags-requires put-row-requires same_length returns)

@@ -67,7 +67,7 @@ same_length c = search rules
 
 returns-2 : tie.Need-returns-2
 unfolding laid_step
-returns-2 c = rw c.before.before.before.before.before.step.given.1 c.before.before.put_row_lem.ensures
+returns-2 c = rw c.before.before.before.before.before.step.given.1 c.before.before.put_row.ensures
 
 same-length-2 : tie.Need-same-length-2
 same-length-2 c = search rules

@@ -29,7 +29,7 @@ only-open-requires c κs = search rules
 
 returns-2 : tie.Need-returns-2
 returns-2 c = let s = c.before.before.before.before.before in
-    followed_hold s.args.table.now s.requires.0 s.args.c s.requires.1 s.args.last.now _ _ s.requires.2 c.before.all-followed.ensures c.only_open_lem.ensures
+    followed_hold s.args.table.now s.requires.0 s.args.c s.requires.1 s.args.last.now _ _ s.requires.2 c.before.all-followed.ensures c.only_open.ensures
 
 pub eight_hold_spec : {M : Type 1} → statement M
 eight_hold_spec =

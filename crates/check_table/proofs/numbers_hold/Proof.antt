@@ -11,13 +11,13 @@ rows-mean-requires c κs = search rules
 
 numbers-hold-requires : tie.Need-numbers-hold-requires
 numbers-hold-requires c κs = let s = c.before.before.before in
-    (s.requires.0, s.requires.2, sym c.before.rows_mean_lem.ensures ∙ c.if1.true)
+    (s.requires.0, s.requires.2, sym c.before.rows_mean.ensures ∙ c.if1.true)
 
 returns : tie.Need-returns
-returns c = and_same (sym c.before.if1.true ∙ c.before.before.rows_mean_lem.ensures) c.numbers-hold.ensures
+returns c = and_same (sym c.before.if1.true ∙ c.before.before.rows_mean.ensures) c.numbers-hold.ensures
 
 returns-2 : tie.Need-returns-2
-returns-2 c = and_fails (number_rules c.before.before.before.args.table.now) (sym c.if1.false ∙ c.before.rows_mean_lem.ensures)
+returns-2 c = and_fails (number_rules c.before.before.before.args.table.now) (sym c.if1.false ∙ c.before.rows_mean.ensures)
 
 pub numbers_hold_spec : {M : Type 1} → statement M
 numbers_hold_spec = tie.close (tie.spec rows-mean-requires numbers-hold-requires returns returns-2)

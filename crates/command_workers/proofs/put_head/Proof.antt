@@ -42,8 +42,8 @@ id-at-requires c κs = search rules
 put-printed-or-requires : tie.Need-put-printed-or-requires
 put-printed-or-requires c κs =
     let s = c.before.before.before.before.before.before.before.before.before.before.before.before.before.before in
-    let z = printed_or (text "-") c.id_at_lem.result.now in
-    let e = head_is (table_of connection_count s.args.table.now) s.args.c c.id_at_lem.result.now c.id_at_lem.ensures in
+    let z = printed_or (text "-") c.id_at.result.now in
+    let e = head_is (table_of connection_count s.args.table.now) s.args.c c.id_at.result.now c.id_at.ensures in
     room_first _ z (text " :") _ (room_third _ (decimal s.args.c) (text " - ") (z ++ (text " :")) _ _ _ c.before.before.before.before.before.before.before.before.before.before.put-number.ensures _ _ c.before.before.before.before.before.put.ensures (room_as _ _ e _ _ s.requires.2))
 
 slice-aggregate-put-2 : tie.Need-slice-aggregate-put-2
@@ -52,8 +52,8 @@ slice-aggregate-put-2 c = search rules
 put-requires-2 : tie.Need-put-requires-2
 put-requires-2 c κs =
     let s = c.before.before.before.before.before.before.before.before.before.before.before.before.before.before.before.before.before.before.before in
-    let z = printed_or (text "-") c.before.before.before.before.before.id_at_lem.result.now in
-    let e = head_is (table_of connection_count s.args.table.now) s.args.c c.before.before.before.before.before.id_at_lem.result.now c.before.before.before.before.before.id_at_lem.ensures in
+    let z = printed_or (text "-") c.before.before.before.before.before.id_at.result.now in
+    let e = head_is (table_of connection_count s.args.table.now) s.args.c c.before.before.before.before.before.id_at.result.now c.before.before.before.before.before.id_at.ensures in
     room_then _ z (text " :") _ _ _ c.before.before.before.before.put-printed-or.ensures (room_third _ (decimal s.args.c) (text " - ") (z ++ (text " :")) _ _ _ c.before.before.before.before.before.before.before.before.before.before.before.before.before.before.before.put-number.ensures _ _ c.before.before.before.before.before.before.before.before.before.before.put.ensures (room_as _ _ e _ _ s.requires.2))
 
 same_length : tie.Need-same-length
@@ -62,8 +62,8 @@ same_length c = search rules
 returns : tie.Need-returns
 returns c =
     let s = c.before.before.before.before.before.before.before.before.before.before.before.before.before.before.before.before.before.before.before.before.before.before in
-    let z = printed_or (text "-") c.before.before.before.before.before.before.before.before.id_at_lem.result.now in
-    let e = head_is (table_of connection_count s.args.table.now) s.args.c c.before.before.before.before.before.before.before.before.id_at_lem.result.now c.before.before.before.before.before.before.before.before.id_at_lem.ensures in
+    let z = printed_or (text "-") c.before.before.before.before.before.before.before.before.id_at.result.now in
+    let e = head_is (table_of connection_count s.args.table.now) s.args.c c.before.before.before.before.before.before.before.before.id_at.result.now c.before.before.before.before.before.before.before.before.id_at.ensures in
     laid_as _ _ e _ _ _ _ (laid_third _ (decimal s.args.c) (text " - ") (z ++ (text " :")) _ _ _ c.before.before.before.before.before.before.before.before.before.before.before.before.before.before.before.before.before.before.put-number.ensures _ _ c.before.before.before.before.before.before.before.before.before.before.before.before.before.put.ensures _ _ (laid_then _ z (text " :") _ _ _ c.before.before.before.before.before.before.before.put-printed-or.ensures _ _ c.before.before.put2.ensures))
 
 pub put_head_spec : {M : Type 1} → statement M

@@ -22,7 +22,7 @@ has-requires c κs = search rules
 returns : tie.Need-returns
 returns c =
     let a = c.before.before.before.before.before.before.before.args in
-    grab_read (values_of (table_of connection_count a.table.now)) a.c a.i _ _ _ c.before.before.before.before.before.row_at.ensures c.before.able_at_lem.ensures c.has.ensures
+    grab_read (values_of (table_of connection_count a.table.now)) a.c a.i _ _ _ c.before.before.before.before.before.row_at.ensures c.before.able_at.ensures c.has.ensures
 
 pub grabs_spec : {M : Type 1} → statement M
 grabs_spec =

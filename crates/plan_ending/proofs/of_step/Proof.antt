@@ -94,7 +94,7 @@ returns-2 c = c.woken2.ensures ∙ rw c.before.before.step.given.1
 
 returns-3 : tie.Need-returns-3
 unfolding ending
-returns-3 c = rw (c.before.before.before.before.before.step2.given.1, c.forgotten.ensures, c.before.able_at_lem.ensures, c.before.before.before.row_at.ensures)
+returns-3 c = rw (c.before.before.before.before.before.step2.given.1, c.forgotten.ensures, c.before.able_at.ensures, c.before.before.before.row_at.ensures)
 
 returns-4 : tie.Need-returns-4
 unfolding ending

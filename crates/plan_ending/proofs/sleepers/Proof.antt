@@ -48,7 +48,7 @@ loop-again c =
     let v = c.before.waking in (
       omega arith,
       union_turn (wakes_now a.able) _ _ l.s l.c l.invariant.1 closed c.union.result v.result (omega (arith, connections_long a.table.now)) c.union.ensures
-          (v.ensures ∙ ap (wakes_now a.able l.c) c.before.before.connection_at_lem.ensures),
+          (v.ensures ∙ ap (wakes_now a.able l.c) c.before.before.connection_at.ensures),
     )
 
 returns : tie.Need-returns invariant-loop decreases-loop

@@ -41,7 +41,7 @@ loop-again c =
     let l = c.before.before.before.loop in
     let a = c.before.before.before.before.before.args in
     let b = a.table.now in
-    (omega arith, heard_turn (values_of (table_of connection_count b)).connections a.listeners l.s l.i l.invariant.1 _ (omega (arith, connections_long b)) (c.kept.ensures ∙ rw c.before.connection_at_lem.ensures))
+    (omega arith, heard_turn (values_of (table_of connection_count b)).connections a.listeners l.s l.i l.invariant.1 _ (omega (arith, connections_long b)) (c.kept.ensures ∙ rw c.before.connection_at.ensures))
 
 returns : tie.Need-returns invariant-loop decreases-loop
 returns c =

@@ -21,7 +21,7 @@ done-requires : tie.Need-done-requires
 done-requires c κs = search rules
 
 returns-2 : tie.Need-returns-2
-returns-2 c = c.done.ensures ∙ rw (c.before.with-exceptions.ensures, c.before.before.connection_at_lem.ensures, not-false c.before.before.before.before.before.args.served c.before.before.before.if1.false)
+returns-2 c = c.done.ensures ∙ rw (c.before.with-exceptions.ensures, c.before.before.connection_at.ensures, not-false c.before.before.before.before.before.args.served c.before.before.before.if1.false)
 
 pub option_spec : {M : Type 1} → statement M
 option_spec =

@@ -29,7 +29,7 @@ returns c = c.refused.ensures ∙ rw c.before.enum_told.given.1
 
 returns-2 : tie.Need-returns-2
 unfolding plan_can_do
-returns-2 c = c.done.ensures ∙ rw (c.before.insert.ensures, c.before.before.able_at_lem.ensures, c.before.before.before.before.room.given.1)
+returns-2 c = c.done.ensures ∙ rw (c.before.insert.ensures, c.before.before.able_at.ensures, c.before.before.before.before.room.given.1)
 
 pub can_do_spec : {M : Type 1} → statement M
 can_do_spec =

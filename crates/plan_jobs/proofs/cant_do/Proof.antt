@@ -29,7 +29,7 @@ returns c = c.done.ensures ∙ rw c.before.enum_told.given.1
 
 returns-2 : tie.Need-returns-2
 unfolding plan_cant_do
-returns-2 c = c.done2.ensures ∙ rw (c.before.remove.ensures, c.before.before.able_at_lem.ensures, c.before.before.before.before.known.given.1)
+returns-2 c = c.done2.ensures ∙ rw (c.before.remove.ensures, c.before.before.able_at.ensures, c.before.before.before.before.known.given.1)
 
 pub cant_do_spec : {M : Type 1} → statement M
 cant_do_spec =

@@ -11,7 +11,7 @@ with-asleep-requires : tie.Need-with-asleep-requires
 with-asleep-requires c κs = search rules
 
 returns : tie.Need-returns
-returns c = c.with-asleep.ensures ∙ rw c.before.connection_at_lem.ensures
+returns c = c.with-asleep.ensures ∙ rw c.before.connection_at.ensures
 
 pub sleeping_spec : {M : Type 1} → statement M
 sleeping_spec = tie.close (tie.spec connection-at-requires with-asleep-requires returns)

@@ -49,7 +49,7 @@ loop-again c =
     let n = length-map a.t1 (left_row a.c) in
     let m : length a.t1 ≡ 32 = search rules in
     let h : length l.next ≡ 32 = l.invariant.1 in
-    (omega arith, length-set l.next l.i _ ∙ h, fill_turn (map (left_row a.c) a.t1) l.next l.i l.invariant.2 (left_row a.c no_row) _ (omega arith) (omega arith) (c.left_row_lem.ensures ∙ sym (get_or-map (left_row a.c) a.t1 l.i no_row)))
+    (omega arith, length-set l.next l.i _ ∙ h, fill_turn (map (left_row a.c) a.t1) l.next l.i l.invariant.2 (left_row a.c no_row) _ (omega arith) (omega arith) (c.left_row.ensures ∙ sym (get_or-map (left_row a.c) a.t1 l.i no_row)))
 
 returns : tie.Need-returns invariant-loop decreases-loop
 returns c =

@@ -44,7 +44,7 @@ returns c =
     let s = c.before.before.before.before.before.before.before.before.before in
     plan_submit_lem s.args.table.now s.args.packet.now _ _ _ s.requires.3 s.requires.4 _ _ _ _ _ _ _ _
     c.before.before.before.before.before.before.argument.ensures c.before.before.before.before.before.argument2.ensures c.before.before.before.before.argument3.ensures c.before.before.before.kind-of.ensures
-    c.before.before.places-for.ensures.0 c.before.before.places-for.ensures.1 c.before.free_row_lem.ensures c.submit.ensures
+    c.before.before.places-for.ensures.0 c.before.before.places-for.ensures.1 c.before.free_row.ensures c.submit.ensures
 
 pub submit_spec : {M : Type 1} → statement M
 submit_spec =

@@ -46,7 +46,7 @@ loop-again : tie.Need-loop-preserved invariant-loop decreases-loop
 loop-again c =
     let s = c.before.before.before.before.before.before.before.before.before in
     let l = c.before.before.before.before.before.before.loop in
-    (search rules, search rules, turn (unfinished s.args.hub.now s.args.t4) s.args.at s.args.out.now l.p l.place l.out l.invariant.2 _ refl _ _ c.before.before.put_row_lem.ensures)
+    (search rules, search rules, turn (unfinished s.args.hub.now s.args.t4) s.args.at s.args.out.now l.p l.place l.out l.invariant.2 _ refl _ _ c.before.before.put_row.ensures)
 
 same_length : tie.Need-same-length invariant-loop decreases-loop
 same_length c = search rules

@@ -24,7 +24,7 @@ has-requires c κs = search rules
 
 returns : tie.Need-returns
 unfolding values_of
-returns c = rw (c.has.ensures, c.before.able_at_lem.ensures, c.before.before.wide.ensures.0)
+returns c = rw (c.has.ensures, c.before.able_at.ensures, c.before.before.wide.ensures.0)
 
 pub is_able_spec : {M : Type 1} → statement M
 is_able_spec =

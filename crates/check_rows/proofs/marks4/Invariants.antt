@@ -1,0 +1,14 @@
+-- `check_rows::marks4` meets its contract. The invariant: the entries written are the marks of their numbers. Assumes nothing.
+use Prim.Native.Nat.{◌≤◌, ◌-◌, ℕ, ◌+◌, ◌*◌, ◌<◌}
+use mathlib.Core.Path.{◌≡◌}
+use lib.ListN.{length, get_or}
+use Rattle.server.specs.Sizes.{job_count}
+use Rattle.server.specs.Layout.{little_at}
+use Rattle.check_rows.specs.Rows.{mark_of}
+use Rattle.check_rows.proofs.marks4.Given as goal
+
+abbrev pub invariant-loop-i : goal.invariant-loop-i
+invariant-loop-i l = (l.i ≤ job_count) × ((length l.m ≡ 32) × ((k : ℕ) → k < l.i → get_or l.m k 0 ≡ mark_of (little_at 4 l.table (l.at + 4 * k))))
+
+abbrev pub decreases-loop-i : goal.decreases-loop-i
+decreases-loop-i l = 32 - l.i
