@@ -11,7 +11,7 @@ use Rattle.server.specs.declared.Connection.{Connection}
 use Rattle.lists.specs.Lists.{fit}
 use Rattle.server.specs.Sizes.{function_count, job_count, name_size, unique_size, number_size, id_size, hub_size}
 use Rattle.server.specs.Table.{Table, closed, no_function, no_job, fresh}
-use Rattle.server.specs.Layout.{little, column, set_size, table_size, row_bytes, bytes_of, serials_at, names_at, hub_at}
+use Rattle.server.specs.Layout.{little, flag_byte, column, set_size, table_size, row_bytes, bytes_of, serials_at, names_at, hub_at}
 use Rattle.table_laws.proofs.Puts.{put_hub}
 use Rattle.lists.proofs.Lists.{fit_none}
 use Rattle.table_texts.specs.Places.{zeros}
@@ -72,9 +72,9 @@ empty_zeros n q p k e =
     (then hub_size _ (text_zeros hub_size)
     (then (sets n * q) _ (rows _ no_function (sets n) (little_zeros (sets n)) q)
     (then (sets n * p) _ (rows _ no_job (sets n) (little_zeros (sets n)) p)
-    (then (1 * n) _ (rows _ closed 1 flag_zeros n)
-    (then (1 * n) _ (rows _ closed 1 flag_zeros n)
-    (then (1 * n) _ (rows _ closed 1 flag_zeros n) (rows _ [] id_size (text_zeros id_size) n))))))))))))
+    (then (1 * n) _ (rows (λ (x : Connection). flag_byte x.opened) closed 1 flag_zeros n)
+    (then (1 * n) _ (rows (λ (x : Connection). flag_byte x.asleep) closed 1 flag_zeros n)
+    (then (1 * n) _ (rows (λ (x : Connection). flag_byte x.exceptions) closed 1 flag_zeros n) (rows {A = Bytes} (fit id_size) [] id_size (text_zeros id_size) n))))))))))))
 
 -- the rows of all places: the bytes between the serials and the names
 row_zeros : row_bytes (replicate job_count no_job) ≡ zeros (names_at - serials_at)

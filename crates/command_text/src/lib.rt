@@ -1,5 +1,7 @@
 // A line of the technicians answered: which command it is, and its answer laid over a lent text. Any line that is no command is answered by
 // `ERR unknown`. An inner crate: its callers lend a table that obeys the rules and see to the room.
+#![tactic(auto)]
+
 ghost use Rattle.std.specs.Prelude.{◌≡◌, true, ◌||◌, ◌+◌, ◌≤◌, length};
 ghost use Rattle.octets.specs.Bytes.{same};
 ghost use Rattle.octets.specs.Put.{put};

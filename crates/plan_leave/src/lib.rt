@@ -1,5 +1,7 @@
 // All numbers of a table after a step that is not lean: a connection gives up its abilities, or it leaves. Loops over the rows by
 // value. An inner crate: its callers name connections that there are.
+#![tactic(auto)]
+
 ghost use Rattle.std.specs.Prelude.{◌≡◌, false, map, ◌<◌};
 ghost use Rattle.sets.specs.Sets as S;
 ghost use Rattle.server.specs.Sizes.{connection_count};

@@ -2,8 +2,8 @@
 use Rattle.std.proofs.Common.{◌-◌, ◌≡◌, length}
 use Rattle.input.proofs.fed.Given as goal
 
-abbrev pub invariant_loop_at : goal.invariant_loop_at
-invariant_loop_at l = length l.buffer ≡ length l.fn.buffer
+abbrev pub invariant-loop-at : goal.invariant-loop-at
+invariant-loop-at l = length l.buffer ≡ length l.fn.buffer
 
-abbrev pub decreases_loop_at : goal.decreases_loop_at
-decreases_loop_at l = length l.bytes - l.at
+abbrev pub decreases-loop-at : goal.decreases-loop-at
+decreases-loop-at l = length l.bytes - l.at

@@ -2,8 +2,8 @@
 use Rattle.std.proofs.Common.{◌≡◌, length}
 use Rattle.packet_cases.proofs.print_all.Given as goal
 
-abbrev pub invariant_loop_turns : goal.invariant_loop_turns
-invariant_loop_turns l = (length l.chunk ≡ length l.fn.chunk) × (length l.buffer ≡ length l.fn.buffer)
+abbrev pub invariant-loop-turns : goal.invariant-loop-turns
+invariant-loop-turns l = (length l.chunk ≡ length l.fn.chunk) × (length l.buffer ≡ length l.fn.buffer)
 
-abbrev pub decreases_loop_turns : goal.decreases_loop_turns
-decreases_loop_turns l = l.turns
+abbrev pub decreases-loop-turns : goal.decreases-loop-turns
+decreases-loop-turns l = l.turns

@@ -2,8 +2,8 @@
 use Rattle.std.proofs.Common.{◌≤◌}
 use Rattle.packet_print.proofs.text.put_number.Given as goal
 
-abbrev pub invariant_loop_first : goal.invariant_loop_first
-invariant_loop_first l = l.first ≤ 10
+abbrev pub invariant-loop-first : goal.invariant-loop-first
+invariant-loop-first l = l.first ≤ 10
 
-abbrev pub decreases_loop_first : goal.decreases_loop_first
-decreases_loop_first l = l.first
+abbrev pub decreases-loop-first : goal.decreases-loop-first
+decreases-loop-first l = l.first

@@ -1,0 +1,12 @@
+-- `check_ids::eight_hold` meets its contract. Places of zeros hold; else each place is asked byte by byte, and its connection's flag. Assumes nothing.
+use mathlib.Core.Path.{sym, ◌∙◌}
+use Rattle.check_ids.proofs.Ids.{zeros_hold, followed_hold}
+use Rattle.check_ids.proofs.eight_hold.Goals as goal
+
+pub returns-then-zeros : goal.returns-then-zeros
+returns-then-zeros c =
+    zeros_hold c.args.table.now c.requires.0 c.args.c c.requires.1 (sym c.zeros.ensures ∙ c.if-zeros.true)
+
+pub returns : goal.returns
+returns c =
+    followed_hold c.args.table.now c.requires.0 c.args.c c.requires.1 c.args.last.now _ _ c.requires.2 c.all_followed.ensures c.only_open.ensures

@@ -1,0 +1,19 @@
+-- `command_workers::put_if_open` meets its contract: the line, or nothing for a closed connection. Assumes nothing.
+use Rattle.octets.proofs.Runs.{laid_as, laid_none, room_as}
+use Rattle.server.specs.Sizes.{connection_count}
+use Rattle.server.specs.Layout.{table_of}
+use Rattle.command_order.specs.Listing.{listed}
+use Rattle.command_workers.proofs.Lines.{open_is, open_none}
+use Rattle.command_workers.proofs.put_if_open.Goals as goal
+
+pub put_line-requires : goal.put_line-requires
+put_line-requires c =
+    (c.requires.0, c.requires.1, c.requires.2, room_as _ _ (open_is (table_of connection_count c.args.table.now) (listed c.args.listing) c.args.c _ c.connection_at-connection.ensures c.if-connection.true) _ _ c.requires.3)
+
+pub returns-then-connection : goal.returns-then-connection
+returns-then-connection c =
+    laid_as _ _ (open_is (table_of connection_count c.args.table.now) (listed c.args.listing) c.args.c _ c.connection_at-connection.ensures c.if-connection.true) _ _ _ _ c.put_line.ensures
+
+pub returns : goal.returns
+returns c =
+    laid_as _ _ (open_none (table_of connection_count c.args.table.now) (listed c.args.listing) c.args.c _ c.connection_at-connection.ensures c.if-connection.false) _ _ _ _ (laid_none _ _)

@@ -1,0 +1,27 @@
+-- `command_workers::put_workers` meets its contract: the lines, and a line with a period. Assumes nothing.
+use Rattle.octets.proofs.Runs.{laid_as, laid_then, room_as, room_first, room_then}
+use Rattle.server.specs.Sizes.{connection_count}
+use Rattle.server.specs.Layout.{table_of}
+use Rattle.command.specs.Texts.{period_line}
+use Rattle.command_order.specs.Listing.{listed}
+use Rattle.command_workers.specs.Parts.{lines_text}
+use Rattle.command_workers.proofs.Lines.{workers_is}
+use Rattle.command_workers.proofs.put_workers.Goals as goal
+
+pub put_lines-end-requires : goal.put_lines-end-requires
+put_lines-end-requires c =
+    let x = lines_text (table_of connection_count c.args.table.now) (listed c.in_order-listing.result) in
+    let e = workers_is (table_of connection_count c.args.table.now) _ c.in_order-listing.ensures.1 in
+    (c.requires.0, c.in_order-listing.ensures.0, room_first _ x period_line _ (room_as _ _ e _ _ c.requires.1))
+
+pub put-requires : goal.put-requires
+put-requires c =
+    let x = lines_text (table_of connection_count c.args.table.now) (listed c.in_order-listing.result) in
+    let e = workers_is (table_of connection_count c.args.table.now) _ c.in_order-listing.ensures.1 in
+    room_then _ x period_line _ _ _ c.put_lines-end.ensures (room_as _ _ e _ _ c.requires.1)
+
+pub returns : goal.returns
+returns c =
+    let x = lines_text (table_of connection_count c.args.table.now) (listed c.in_order-listing.result) in
+    let e = workers_is (table_of connection_count c.args.table.now) _ c.in_order-listing.ensures.1 in
+    laid_as _ _ e _ _ _ _ (laid_then _ x period_line _ _ _ c.put_lines-end.ensures _ _ c.put.ensures)

@@ -1,0 +1,14 @@
+-- `plan_settle::named` meets its contract. The invariant: the union over all rows is that of s and the rows from row i on.
+-- Assumes nothing.
+use Prim.Native.Nat.{◌≤◌, ◌-◌}
+use mathlib.Core.Path.{◌≡◌}
+use lib.ListN.{drop}
+use Rattle.server.specs.Sizes.{job_count}
+use Rattle.plan.specs.Busy.{unions, name_of, named_set}
+use Rattle.plan_settle.proofs.named.Given as goal
+
+abbrev pub invariant-loop-i : goal.invariant-loop-i
+invariant-loop-i l = (l.i ≤ job_count) × (named_set l.rows ≡ unions (λ k r. name_of r) l.s l.i (drop l.i l.rows))
+
+abbrev pub decreases-loop-i : goal.decreases-loop-i
+decreases-loop-i l = 32 - l.i
