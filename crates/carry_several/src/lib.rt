@@ -1,6 +1,8 @@
 // One packet for each connection of a set, laid over a lent output in rising order: a copy of a packet's data, a NOOP, or a copy for some
 // and WORK_FAIL for the others. `forward_all`, `tell_all` and `wake_all` return the place after what they laid. An inner crate: its
 // callers see to the arguments and to the room, and nothing is refused.
+#![tactic(auto)]
+
 ghost use Rattle.std.specs.Prelude.{◌≡◌, [], true, ◌&&◌, ◌+◌, ◌/◌, ◌^◌, ◌≤◌, ◌<◌, ltb, drop, length};
 ghost use Rattle.octets.specs.Put.{put};
 ghost use Rattle.packet.specs.Arguments.{join};

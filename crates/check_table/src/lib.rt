@@ -1,6 +1,8 @@
 // The table check of refusal 1: the bytes are an image of the layout, and the table that they hold obeys every table rule. Whatever the
 // bytes are, the answer is `true` or `false`; the check asks only that the table's bytes are there. Each part is equal to rules of
 // its own, and a part that fails ends the check.
+#![tactic(auto)]
+
 ghost use Rattle.std.specs.Prelude.{◌≡◌, true, ◌&&◌, ◌≤◌, ◌*◌, length};
 ghost use Rattle.server.specs.Sizes.{connection_count, function_count, job_count, name_size, unique_size};
 ghost use Rattle.server.specs.Layout.{backgrounds_at, names_at, opened_at, serials_at, table_size, uniques_at};

@@ -1,5 +1,7 @@
 // What the end of an event does beyond its step, from the table's lent bytes before the event: the sleepers that wake, and the
 // function that is forgotten. An inner crate: its callers lend a table's bytes and a step inside it, and it refuses nothing.
+#![tactic(auto)]
+
 ghost use Rattle.std.specs.Prelude.{◌≡◌, cond, ◌&&◌, ◌≤◌, ◌<◌, length, get_or, set};
 ghost use Rattle.sets.specs.Sets.{insert};
 ghost use Rattle.lists.specs.Lists.{any};

@@ -1,6 +1,8 @@
 // Where a job lies in the lent table: the lowest free place, the job with a serial, the job with a serial that a connection holds, and
 // the job that a connection is given (`queue`). The column of serials is searched, and of a row only what its test asks is read. An inner
 // crate: it asks for all of the table's bytes, and `held_row` for a table that obeys the rules; an answer is a place or nowhere.
+#![tactic(auto)]
+
 mod queue;
 
 ghost use Rattle.std.specs.Prelude.{◌≡◌, cond, true, ◌≤◌, ◌<◌, length, get_or, eqb};

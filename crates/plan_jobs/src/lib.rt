@@ -1,5 +1,7 @@
 // What an event comes to, as a plan: from what the searches found, and the row, set or connection of the lent table that it is about.
 // An inner crate: it asks for all of the table's bytes, and refuses nothing; a plan carries the number of a refusal.
+#![tactic(auto)]
+
 ghost use Rattle.std.specs.Prelude.{◌≡◌, ℕ, ◌≤◌, ◌<◌, length};
 ghost use Rattle.std.proofs.Math.Option.{some};
 ghost use Rattle.server.specs.Sizes.{connection_count, function_count};

@@ -110,7 +110,7 @@ module _ (k : ℕ) (e : Event) (s r : Server) (a : Apart k s r) where
   render_but (copy to kind) = ButAssigned.equal refl
   render_but (assign uniq to p) = elim (ℕ_discrete (job_at s.table p).row.serial k) [
     | yes q ↦ assigned uniq (join (drop 1 (assignment s.table uniq p))) refl (rw q) (like_render (alike_same e) s r a.table (assign uniq to p))
-    | no n ↦ ButAssigned.equal (rw (near_at a.workloads p n, a.table))
+    | no n ↦ ButAssigned.equal (rw (near_at a.workloads p n) (simp a.table))
   ]
 
   renders_but : (xs : List Send) → All2 (ButAssigned its_handle) (map (render e s) xs) (map (render e r) xs)
