@@ -1,5 +1,7 @@
 // Whether an event is admitted: refusals 1 to 4 in number order, of any lent bytes and any connection. An inner crate of the server's
 // calls; it asks nothing of its callers and writes nothing.
+#![tactic(auto)]
+
 ghost use Rattle.std.specs.Prelude.{◌≡◌, not, ◌||◌, ◌≤◌, ◌<◌, get_or, length};
 ghost use Rattle.server.specs.Sizes.{connection_count};
 ghost use Rattle.server.specs.Table.{closed};

@@ -1,6 +1,8 @@
 // Making a fresh table over lent bytes: the table's bytes and the workloads are set to zero, the hub's name is laid into the table, and no
 // byte beyond them is written. Format: docs/TABLE.md. Buffers that are too short, and what is no hub's name, are refused by document 01's
 // number 1, and nothing is changed then. No caller has to check anything first.
+#![tactic(auto)]
+
 ghost use Rattle.std.specs.Prelude.{◌≡◌, ◌≤◌, length};
 ghost use Rattle.octets.specs.Put.{put};
 ghost use Rattle.server.specs.Sizes.{connection_count};

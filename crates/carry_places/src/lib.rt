@@ -1,5 +1,7 @@
 // Places of the table's lent bytes written where they lie: a job, a function, a connection, one or all of them; and the end of an event
 // that settles all numbers. An inner crate: its callers lend a table's bytes and places inside it, and it refuses nothing.
+#![tactic(auto)]
+
 ghost use Rattle.std.specs.Prelude.{◌≡◌, [], ◌∷◌, ◌+◌, ◌*◌, ◌≤◌, ◌<◌, length};
 ghost use Rattle.octets.specs.Put.{put};
 ghost use Rattle.lists.specs.Lists.{fit};

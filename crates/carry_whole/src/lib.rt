@@ -1,5 +1,7 @@
 // A plan carried out on the table's lent bytes: the texts that it changes, one of carrying's functions for each kind of change, and
 // then the settled numbers. An inner crate: its callers lend a table that obeys the rules, and texts that fit their places.
+#![tactic(auto)]
+
 ghost use Rattle.std.specs.Prelude.{◌≡◌, true, ◌≤◌, length};
 ghost use Rattle.octets.specs.Put.{put};
 ghost use Rattle.server.specs.Sizes.{connection_count};

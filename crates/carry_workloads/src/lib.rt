@@ -1,6 +1,8 @@
 // The workloads after an event, on the lent bytes: 32 places of 1,024. A place keeps its bytes while it keeps its job, takes a new
 // job's workload and zeros after it, and is set to zero when its job is ended or dropped. An inner crate: its callers lend at least
 // 32,768 bytes and an opaque part of at most 1,024, and it refuses nothing.
+#![tactic(auto)]
+
 ghost use Rattle.std.specs.Prelude.{◌≡◌, cond, [], map, ◌+◌, ◌*◌, ◌≤◌, length, eqb};
 ghost use Rattle.octets.specs.Put.{put};
 ghost use Rattle.lists.specs.Lists.{concat, fit, numbers};

@@ -1,5 +1,7 @@
 // What the rest of the events come to, as plans: abilities, sleep and client id of a connection, open and close, worker packets, status
 // and options. An inner crate: it asks for all of the table's bytes, and refuses nothing; a plan carries the number of a refusal.
+#![tactic(auto)]
+
 ghost use Rattle.std.specs.Prelude.{◌≡◌, cond, true, ◌≤◌, ◌<◌, length};
 ghost use Rattle.sets.specs.Sets.{remove};
 ghost use Rattle.server.specs.Sizes.{connection_count};

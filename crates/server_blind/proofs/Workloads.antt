@@ -15,7 +15,7 @@ use Rattle.server_laws.proofs.Lengths.{hub_kept}
 use Rattle.packet.specs.Arguments.{join}
 use Rattle.lists.specs.Lists.{fit}
 use Rattle.server.specs.Sizes.{workload_size}
-use Rattle.server.specs.Table.{Job, no_job, job_at}
+use Rattle.server.specs.Table.{Job, Table, no_job, job_at}
 use Rattle.server.specs.Requests.{Event}
 use Rattle.server.specs.Events.{Send, plain, copy, assign, Decision}
 use Rattle.server.specs.Server.{Server, Sent, Answer, opaque_of, assignment, render, reworked, rework, decided, next, answer, answers}
@@ -104,13 +104,17 @@ module _ (k : ℕ) (e : Event) (s r : Server) (a : Apart k s r) where
   decided_both : decided e s ≡ decided e r
   decided_both = decided_alike (alike_same e) s r a.table
 
+  -- the packet that assigns the job at a place, whose stored workload is w
+  abbrev sent_of : Table → Bytes → Bool → ℕ → ℕ → Sent
+  sent_of t w uniq to p = record { to = to; kind = cond uniq 31 11; shown = join (assignment t uniq p); opaque_part = fit (job_at t p).row.size w }
+
   render_but : (x : Send) → ButAssigned its_handle (render e s x) (render e r x)
   unfolding render join
   render_but (plain to kind as') = ButAssigned.equal refl
   render_but (copy to kind) = ButAssigned.equal refl
   render_but (assign uniq to p) = elim (ℕ_discrete (job_at s.table p).row.serial k) [
     | yes q ↦ assigned uniq (join (drop 1 (assignment s.table uniq p))) refl (rw q) (like_render (alike_same e) s r a.table (assign uniq to p))
-    | no n ↦ ButAssigned.equal (rw (near_at a.workloads p n) (simp a.table))
+    | no n ↦ ButAssigned.equal (ap (λ (w : Bytes). sent_of s.table w uniq to p) (near_at a.workloads p n) ∙ ap (λ (t : Table). sent_of t (get_or r.workloads p []) uniq to p) a.table)
   ]
 
   renders_but : (xs : List Send) → All2 (ButAssigned its_handle) (map (render e s) xs) (map (render e r) xs)

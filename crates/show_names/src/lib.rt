@@ -1,5 +1,7 @@
 // The words of a line that shows a packet, laid over a lent text: the protocol's name of a type, the label of an argument, the reason of a
 // refusal. Each function returns the place after what it laid. An inner crate: its callers see to the room, and nothing is refused.
+#![tactic(auto)]
+
 ghost use Rattle.std.specs.Prelude.{◌≡◌, ◌+◌, ◌≤◌, [], ◌++◌, length, get_or};
 ghost use Rattle.octets.specs.Put.{put};
 ghost use Rattle.handle.specs.Handle.{decimal, padded};
