@@ -123,7 +123,7 @@ def turned(text, table):
 
 
 def outside_strings(text, table):
-    """Rust text and edits: what stands in a string literal stays."""
+    """What stands in a string literal stays."""
     parts = re.split(r'("(?:[^"\\\n]|\\.)*")', text)
     return "".join(p if i % 2 else turned(p, table) for i, p in enumerate(parts))
 
@@ -176,7 +176,7 @@ def main():
     crates = set(re.findall(r"^(\w+):", read("crates.txt"), re.M))
     for path in antt_files():
         own = {a: b for a, b in (table | lemmas[path]).items() if a not in foreign(read(path), crates)}
-        write(path, rename_crate(turned(read(path), own), "hex", "hexadecimal"), check)
+        write(path, rename_crate(outside_strings(read(path), own), "hex", "hexadecimal"), check)
     for path in sorted(glob.glob("crates/*/src/**/*.rt", recursive=True)):
         write(path, rename_crate(outside_strings(read(path), table), "hex", "hexadecimal"), check)
     for path in sorted(glob.glob("crates/*/must-fail/*.edit")):

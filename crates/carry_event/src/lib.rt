@@ -1,5 +1,7 @@
 // A plan carried out on the lent bytes: its packets in the output, its workloads and its table; or the ERROR packet of its
 // refusal. An inner crate: its callers lend a table that obeys the rules, and a plan that is ready for it; what is refused is the plan's.
+#![tactic(auto)]
+
 ghost use Rattle.std.specs.Prelude.{◌≡◌, true, false, [], ◌+◌, ◌≤◌, length};
 ghost use Rattle.octets.specs.Put.{put};
 ghost use Rattle.packet.specs.Answers.{argument_at};

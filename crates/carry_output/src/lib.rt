@@ -1,6 +1,8 @@
 // The packets that an event sends, laid over the lent output from its first byte on: those of its order, and then a NOOP for each
 // connection that wakes. An inner crate: its callers lend a table that obeys the rules, and an output with room for the packets;
 // nothing is refused.
+#![tactic(auto)]
+
 ghost use Rattle.std.specs.Prelude.{◌≡◌, true, ◌≤◌, ◌<◌, length, []};
 ghost use Rattle.octets.specs.Put.{put};
 ghost use Rattle.packet.specs.Layout as L;

@@ -1,6 +1,8 @@
 // A step and its ending written where they lie in the table's lent bytes: one row, one connection, one set, the last serial, one free
 // place; the flags of those that wake, and the place of a forgotten function. And the workloads after a step. An inner crate: its
 // callers lend a table's bytes and a step inside it, and it refuses nothing.
+#![tactic(auto)]
+
 ghost use Rattle.std.specs.Prelude.{◌≡◌, true, false, map, ◌+◌, ◌≤◌, ◌<◌, length, set};
 ghost use Rattle.octets.specs.Put.{put};
 ghost use Rattle.lists.specs.Lists.{concat, numbers};

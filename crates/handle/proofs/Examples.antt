@@ -76,6 +76,6 @@ pub names_good : is_hub_name lap && (is_hub_name (text "a") && (is_hub_name (tex
 unfolding is_hub_name every
 names_good = refl
 
-pub names_bad : is_hub_name [] || (is_hub_name (text "abcdefghijklmnop") || (is_hub_name (text "Lap") || (is_hub_name (text "la_p") || is_hub_name (97 ∷ 0 ∷ [])))) ≡ false
+pub names_bad : is_hub_name [] || (is_hub_name (text "abcdefghijklmnop") || (is_hub_name (text "Lap") || (is_hub_name (text "la-p") || is_hub_name (97 ∷ 0 ∷ [])))) ≡ false
 unfolding is_hub_name every
 names_bad = refl

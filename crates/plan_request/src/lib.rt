@@ -1,5 +1,7 @@
 // From a request that was read to its plan: what the server would do, from the table in the lent bytes and the request's arguments.
 // An inner crate: it asks for a table that obeys the rules and for a packet that was read; a plan carries the number of a refusal.
+#![tactic(auto)]
+
 ghost use Rattle.std.specs.Prelude.{◌≡◌, true, ◌≤◌, ◌<◌, length};
 ghost use Rattle.packet.specs.declared.Read.TheVariants as RV;
 ghost use Rattle.packet.specs.Packet.{read, requests};

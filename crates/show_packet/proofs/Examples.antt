@@ -63,7 +63,7 @@ unfolding compute
 unseen_bytes = refl
 
 set_client_id : request_line 2 (0 ∷ 82 ∷ 69 ∷ 81 ∷ 0 ∷ 0 ∷ 0 ∷ 22 ∷ 0 ∷ 0 ∷ 0 ∷ 7 ∷ 98 ∷ 111 ∷ 97 ∷ 114 ∷ 100 ∷ 45 ∷ 55 ∷ [])
-    ≡ text "2 -> SET_CLIENT_ID board_7"
+    ≡ text "2 -> SET_CLIENT_ID board-7"
 unfolding compute
 set_client_id = refl
 

@@ -23,27 +23,18 @@ use Rattle.show_packet.specs.Lines.{byte_word, bytes_word, label_before, quotes,
 
 -- ---- an argument by its rule
 
--- a rule's number is the tag by which a `match` tells it: its place in the order of src/
-abbrev number : Rule → ℕ
-number r = tag_of the_type r
-
-opaque_number : (r : Rule) → eqb (number r) 4 ≡ is_opaque r
-opaque_number (Text least most) = refl
-opaque_number (Digits least most) = refl
-opaque_number Flag = refl
-opaque_number AnyText = refl
-opaque_number Opaque = refl
-opaque_number Absent = refl
-
 pub value_opaque : (r : Rule) (a : Bytes) → r ≡ Opaque → sized (length a) ≡ value_of r a
 unfolding value_of
 value_opaque r a e = rw e
 
-pub value_visible : (r : Rule) (a : Bytes) → OneOf (0 ∷ 1 ∷ 2 ∷ 3 ∷ 5 ∷ []) (number r) → printed_or quotes a ≡ value_of r a
+pub value_visible : (r : Rule) (a : Bytes) → (r ≡ Opaque → ⊥) → printed_or quotes a ≡ value_of r a
 unfolding value_of
-value_visible r a o =
-    let q : false ≡ is_opaque r = key_arm bools (λ k. eqb k 4) (0 ∷ 1 ∷ 2 ∷ 3 ∷ 5 ∷ []) tt (number r) o ∙ opaque_number r in
-    rw (← q)
+value_visible (Text least most) a n = refl
+value_visible (Digits least most) a n = refl
+value_visible Flag a n = refl
+value_visible AnyText a n = refl
+value_visible Opaque a n = absurd (n refl)
+value_visible Absent a n = refl
 
 -- ---- a label, for the only argument and for one of several
 

@@ -1,5 +1,7 @@
 // Packets in words, laid over a lent text: a request or a response as one line in the protocol's names. An opaque argument is
 // shown by its length alone. Each function returns the place after what it laid. An inner crate: its callers see to the room.
+#![tactic(auto)]
+
 ghost use Rattle.std.specs.Prelude.{◌≡◌, ◌+◌, ◌≤◌, ◌<◌, ◌^◌, length};
 ghost use Rattle.octets.specs.Bytes.{number_at};
 ghost use Rattle.octets.specs.Put.{put};

@@ -1,6 +1,8 @@
 // How the table stands after an event, in words laid over a lent text: who is asleep, the jobs that are gone, and a job with its marks,
 // its holder and its listeners. A job is named by its handle at the hub, whose name the callers give. Each function returns the place after
 // what it laid. An inner crate: its callers see to the room, and no table is refused.
+#![tactic(auto)]
+
 ghost use Rattle.std.specs.Prelude.{◌≡◌, ◌+◌, ◌≤◌, ◌<◌, cond, true, [], ◌++◌, length, get_or};
 ghost use Rattle.octets.specs.Put.{put};
 ghost use Rattle.sets.specs.Sets.{has};
