@@ -1,6 +1,8 @@
 // The job server: opening and closing a connection, and one packet from a connection, over bytes that the caller lends. Format: the
 // table of docs/TABLE.md, 32 workloads of 1,024 bytes, and addressed packets in the output. Bad input is refused by document 01's
 // numbers: nothing is changed then, and by one that has a text the output holds one ERROR packet. No caller has to check anything first.
+#![tactic(auto)]
+
 ghost use Rattle.std.specs.Prelude.{◌≡◌, cond, false};
 ghost use Rattle.packet.specs.declared.Read.TheVariants as RV;
 ghost use Rattle.packet.specs.Packet.{read, requests};

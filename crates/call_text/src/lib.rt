@@ -1,6 +1,8 @@
 // The text entry: one line of a technician, answered from the lent table alone. Format: the table of docs/TABLE.md, a line of any bytes, and in
 // the output the connection's byte and one text. Bad input is refused by document 01's numbers 1 to 3, and nothing is written then; a line
 // that is no command is answered by a text too. No caller has to check anything first.
+#![tactic(auto)]
+
 ghost use Rattle.std.specs.Prelude.{◌≡◌};
 ghost use Rattle.server.specs.Sizes.{connection_count};
 ghost use Rattle.server.specs.Call.{left};
