@@ -20,7 +20,7 @@
  *  - RESTART. A fresh table of the same name gives its handles again, H:NAME:1 first, and a worker's late result from
  *    before the restart can then meet another job. Keep the last serial, bytes 0 to 3 of the table, before you send
  *    what a call has written, and write it into the fresh table when you start again. That this avoids it is a theorem
- *    (restart-unheard in crates/demands/proofs/Demands.antt); request 9 will bring a cure that keeps the jobs too.
+ *    (restart_unheard in crates/demands/proofs/Demands.antt); request 9 will bring a cure that keeps the jobs too.
  *  - CONNECTION NUMBERS ARE USED AGAIN. Drop the bytes that are still unsent to a closed connection before you open its
  *    number for another one, which would get them.
  */
