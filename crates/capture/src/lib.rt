@@ -1,5 +1,7 @@
 // Lines of a capture as frames, and their events called on a lent table and lent workloads. Format: document 01, "Replay program". A
 // line that is no frame is answered by 16, and the server does not see it. An inner crate, under the replay and under `show`.
+#![tactic(auto)]
+
 ghost use Rattle.std.specs.Prelude.{◌≡◌, ◌≤◌, length, take};
 ghost use Rattle.std.proofs.Math.Option.{some};
 ghost use Rattle.server.specs.Replay.{frame, framed};

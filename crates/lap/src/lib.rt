@@ -1,6 +1,8 @@
 // The job server for a host in C: include/lap.h has these functions with their promises in words. Format: the table of docs/TABLE.md,
 // 32 workloads of 1,024 bytes, and addressed packets in the output, or the connection's byte and one text. Each function answers document 01's number: 0 is done, any
 // other refuses, and then table and workloads are as they were. No caller has to check anything first but that the buffers do not overlap.
+#![tactic(auto)]
+
 ghost use Rattle.std.specs.Prelude.{◌≡◌};
 ghost use Rattle.server.specs.Sizes.{connection_count};
 ghost use Rattle.server.specs.Requests.{closes, opens, sends};

@@ -1,6 +1,8 @@
 // One line of the replay: the line read as a frame, the frame's event called on the lent table and workloads, and the answer laid as
 // lines of lowercase hexadecimal over a lent text. Format: document 01, "Replay program". A line that is no frame is answered by 16,
 // and a text with too little room by nothing at all. No caller has to check anything first.
+#![tactic(auto)]
+
 ghost use Rattle.std.specs.Prelude.{◌≡◌, ◌+◌, ◌*◌, ◌≤◌, length, take};
 ghost use Rattle.octets.specs.Put.{put};
 ghost use Rattle.server.specs.Replay.{answer_lines};

@@ -2,6 +2,8 @@
 // lent table and workloads; nothing is said of it. Then the answer is laid over a lent text, for no connection. Formats: document 01,
 // "Replay program", and document 02, ask 1. A line that is no frame changes nothing; a text with too little room, and a table that is none,
 // are answered by nothing at all. No caller has to check anything first.
+#![tactic(auto)]
+
 ghost use Rattle.std.specs.Prelude.{◌≡◌, ◌+◌, ◌<◌, length};
 ghost use Rattle.octets.specs.Put.{put};
 ghost use Rattle.report_line.specs.Reported.{command_line, command_size, is_unfit, keeping, kept, report, reported};

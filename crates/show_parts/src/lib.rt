@@ -1,6 +1,8 @@
 // The parts of what `show` prints for a line of a capture, laid over a lent text: the line's number, digits and words, what the server
 // answered, and how the table stands. docs/SHOW.md has the layout. Each function returns the place after what it laid. An inner crate:
 // its callers see to the room.
+#![tactic(auto)]
+
 ghost use Rattle.std.specs.Prelude.{◌≡◌, true, ◌++◌, ◌+◌, ◌*◌, ◌≤◌, length};
 ghost use Rattle.octets.specs.Put.{put};
 ghost use Rattle.handle.specs.Handle.{decimal, is_hub_name};
