@@ -1,5 +1,5 @@
-// Standard input line by line, in two buffers that the caller lends: one for the chunk that was read last, one for the line. No
-// contract can say what is read; the lines themselves are made by the crate `lines`.
+// A lent reader, standard input in the programs, line by line, in two buffers that the caller lends: one for the chunk that was read
+// last, one for the line. No contract can say what is read; the lines themselves are made by the crate `lines`.
 #![tactic(auto)]
 
 ghost use Rattle.std.specs.Prelude.{◌≡◌};

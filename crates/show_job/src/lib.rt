@@ -1,5 +1,7 @@
 // Which job of a hub a packet concerns, by its handle: the handle that stands in the packet itself, or else the one in the first packet
 // that the server sent. A packet that is refused, and a text that is no handle at the hub of this name, name no job. An inner crate.
+#![tactic(auto)]
+
 ghost use Rattle.std.specs.Prelude.{◌≡◌};
 ghost use Rattle.packet.specs.Packet.{responses};
 ghost use Rattle.packet.specs.Answers.{argument_at};

@@ -1,6 +1,8 @@
 // One line of a capture in words, laid over a lent text: its number, what it says, what the server answered, and how the table stands
 // after it. docs/SHOW.md has the layout. A line that is no frame is answered by 16, and a text with too little room by nothing at all.
 // No caller has to check anything first.
+#![tactic(auto)]
+
 ghost use Rattle.std.specs.Prelude.{◌≡◌, true, ◌+◌, ◌≤◌, length};
 ghost use Rattle.octets.specs.Put.{put};
 ghost use Rattle.server.specs.Sizes.{connection_count, output_size};

@@ -1,21 +1,14 @@
 -- What the tests of the code say of an argument, of its label and size, and of a packet that cannot be read. Assumes nothing.
 use Prim.Native.Nat.{ℕ, ◌<◌, ◌≤◌}
 use mathlib.Core.Path.{◌≡◌, refl, ◌∙◌, sym}
-use mathlib.Core.Bool.{false}
-use mathlib.Core.List.{[], ◌∷◌, ◌++◌}
+use mathlib.Core.List.{[], ◌++◌}
 use borrow.Author.Tests.{lt-ltb, le-ltb, eq-eqb, ne_eqb}
-use denote.Enum.Declared.{tag_of}
-use lib.Dec.{eqb}
 use lib.ListN.{length}
-use types.Run.{OneOf}
 use Rattle.octets.specs.Bytes.{Bytes}
 use Rattle.packet.specs.declared.Rule.{Rule}
 use Rattle.packet.specs.declared.Rule.TheVariants.{Text, Digits, Flag, AnyText, Opaque, Absent}
 use Rattle.packet.specs.declared.Shape.{Shape}
 use Rattle.packet.specs.Layout.{rules_of}
-use Rattle.packet.specs.Opaque.{is_opaque}
-use Rattle.packet.specs.contracts.Rule.{the_type}
-use Rattle.packet_kinds.proofs.Tests.{bools, key_arm}
 use Rattle.handle.specs.Handle.{decimal}
 use Rattle.show_names.specs.Names.{label_of, name_of, space}
 use Rattle.prints.specs.Printed.{printed_or}

@@ -26,4 +26,3 @@ pub returns-then-number-ne0 : goal.returns-then-number-ne0
 returns-then-number-ne0 c =
     rw c.refused.ensures
     (refused_call c.args.to_open _ _ _ _ (cond c.args.to_open (opens c.args.connection) (closes c.args.connection)) (event_asks c.args.to_open _) _ c.admission-number.ensures c.if-number-ne0.true)
-

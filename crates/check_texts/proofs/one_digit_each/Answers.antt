@@ -13,12 +13,11 @@ pub loop-i-init : goal.loop-i-init
 loop-i-init c = (omega arith, refl)
 
 pub loop-i-preserved : goal.loop-i-preserved
-loop-i-preserved c =
-    (
-      omega arith,
-      none_on (first_alone c.args.first.now c.args.table.now) c.loop-i.i c.loop-i.found c.after_end-found.result c.loop-i.invariant.1
-          (not_first (get_or c.args.first.now c.loop-i.i 0) (get_or c.args.table.now (numerators_at + c.loop-i.i) 0) (get_or c.args.table.now (denominators_at + c.loop-i.i) 0) c.after_end-found.result c.after_end-found.ensures),
-    )
+loop-i-preserved c = (
+  omega arith,
+  none_on (first_alone c.args.first.now c.args.table.now) c.loop-i.i c.loop-i.found c.after_end-found.result c.loop-i.invariant.1
+      (not_first (get_or c.args.first.now c.loop-i.i 0) (get_or c.args.table.now (numerators_at + c.loop-i.i) 0) (get_or c.args.table.now (denominators_at + c.loop-i.i) 0) c.after_end-found.result c.after_end-found.ensures),
+)
 
 pub returns : goal.returns
 returns c = search (rules, each_end)

@@ -81,4 +81,3 @@ pub submit-requires : goal.submit-requires
 submit-requires c =
     let submits = ⊎_elim (λ one. submits_one _ one.in-7-1.keys5) (λ run. submits_run _ run.if-kind-lt32-1.false run.if-kind-lt35-1.true) c.in-7-1.branch-raw in
     (c.requires.0, c.requires.1, c.requires.2, c.requires.3, submits)
-
