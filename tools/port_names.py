@@ -175,8 +175,12 @@ def main():
             lemmas[path][name] = snake(name) + "_lem"
     crates = set(re.findall(r"^(\w+):", read("crates.txt"), re.M))
     for path in antt_files():
-        own = {a: b for a, b in (table | lemmas[path]).items() if a not in foreign(read(path), crates)}
-        write(path, rename_crate(outside_strings(read(path), own), "hex", "hexadecimal"), check)
+        text = read(path)
+        own = {a: b for a, b in table.items() if a not in foreign(text, crates)}
+        if lemmas[path]:  # in its comments such a name is the definition's or the function's
+            text = "\n".join(line if line.lstrip().startswith("--") else turned(line, lemmas[path]) for line in text.split("\n"))
+        text = outside_strings(text, own)
+        write(path, rename_crate(text, "hex", "hexadecimal"), check)
     for path in sorted(glob.glob("crates/*/src/**/*.rt", recursive=True)):
         write(path, rename_crate(outside_strings(read(path), table), "hex", "hexadecimal"), check)
     for path in sorted(glob.glob("crates/*/must-fail/*.edit")):

@@ -1,4 +1,4 @@
--- Hexadecimal digits one at a time: what a byte stands for as a digit, at each return of `digit_value_lem`; the digit of a number; and
+-- Hexadecimal digits one at a time: what a byte stands for as a digit, at each return of `digit_value`; the digit of a number; and
 -- that each takes the other back. Assumes nothing.
 use Prim.Native.Nat.{ℕ, ◌+◌, ◌-◌, ◌<◌, ◌≤◌}
 use mathlib.Core.Path.{◌≡◌, sym}
