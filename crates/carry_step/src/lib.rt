@@ -43,6 +43,7 @@ fn put_new(table: &mut [u8], p: usize, row: JobRow)
 }
 
 // A lean step.
+#[tactic(auto, using(crate::proofs::Ends::ended_inside))]
 fn put_step(table: &mut [u8], step: Step)
     requires { (table_size connection_count ≤ length table.old) × Inside step }
     ensures { table.new ≡ laid_step step table.old }

@@ -7,9 +7,6 @@ use Rattle.carry_step.proofs.put_step.Goals as goal
 pub put_row-requires : goal.put_row-requires
 put_row-requires c = (c.requires.0, rw c.in-Row.is at c.requires.1)
 
-pub put_free-requires : goal.put_free-requires
-put_free-requires c = (c.requires.0, rw c.in-End.is at c.requires.1)
-
 pub put_grab-requires : goal.put_grab-requires
 put_grab-requires c =
     let f = rw c.in-Grab.is at c.requires.1 in
@@ -40,7 +37,7 @@ returns-in-Row c = rw c.in-Row.is c.put_row.ensures
 
 pub returns-in-End : goal.returns-in-End
 unfolding laid_step
-returns-in-End c = rw c.in-End.is c.put_free.ensures
+returns-in-End c = rw c.in-End.is (cc)
 
 pub returns-in-Grab : goal.returns-in-Grab
 unfolding laid_step

@@ -3,7 +3,7 @@ use mathlib.Core.Path.{◌∙◌}
 use Rattle.plan_rows.proofs.submitted.Goals as goal
 
 pub returns-then-background : goal.returns-then-background
-returns-then-background c = c.in_background.ensures ∙ rw c.if-background.true
+returns-then-background c = rw c.if-background.true (cc)
 
 pub returns : goal.returns
 returns c = c.with_listeners.ensures ∙ rw (c.insert.ensures, c.if-background.false)
