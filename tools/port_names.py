@@ -1,11 +1,14 @@
 #!/usr/bin/env python3
-"""Brings the repository's own definitions and lemmas to the spelling of today's Rattle: words in snake case, types in camel case.
+"""Brings the repository's own definitions and lemmas to the spelling of today's Rattle: words in snake case.
 
-usage: python3 tools/port_names.py [--check]     at the top, once, after /opt/rattle/port/port.py
+usage: python3 tools/port_names.py [--check]     at the top, once, after the kit's port.py
 
-Definitions that were in lower camel case and lemmas that were in kebab case are in snake case after it, in crates/, README.md, docs/ and
-host/. Functions, types, fields and constants of src/, strings, inputs and outputs keep their names. The crate `hex` becomes `hexadecimal`,
-since Rattle has a library of that name. Where two names fall together, RENAMED below has another name for one of them.
+What was in lower camel case (definitions, fields, constructors) or in kebab case (lemmas) is in snake case after it: in specs/, proofs/,
+clauses, must-fail edits, and between backquotes in README.md and docs/. All names of src/, types, and what stands in strings keep their
+spelling. The crate `hex` becomes `hexadecimal`, since Rattle has a library of that name. Where a lemma's new name is already that of
+something else, in its file or among the names that are turned, it ends in `_lem`.
+
+--check writes nothing, and prints each old name with its new one.
 """
 import collections
 import glob
@@ -13,10 +16,8 @@ import os
 import re
 import sys
 
-# Names that are given by hand: those that would fall together with another one.
-RENAMED = {}
-
-# A lemma whose name is a definition's in the same file gets `_lem`: the files below crates/ and the lemma.
+# Lemmas that port.py has put into snake case itself, and whose name is now a definition's in the same file: the files below crates/, and
+# the lemma as port.py left it.
 LEMMAS = [
     ("table_laws/proofs/*.antt", "text_at"),
     ("table_laws/proofs/*.antt", "flag_at"),
@@ -28,29 +29,19 @@ LEMMAS = [
     ("packet_laws/proofs/Values.antt", "values-of"),
 ]
 
-# Names of Rattle's own that stand in these spellings.
-KEPT = set()
-
 TOKEN = re.compile(r"[^\s(){}\[\].;,@\"«»`|]+")
 CAMEL = re.compile(r"[a-z][a-z0-9]*(?:[A-Z][A-Za-z0-9]*)+(?:[-_'₀-₉A-Za-z0-9]*)$")
-DECLARED = re.compile(r"^(?:(?:abbrev|unfoldable|pub|data|record|ruleset|deriving) )*([^\s:(){}]+)(?:\s+[({][^:]*:[^)}]*[)}])*\s*:(?:\s|$)")
+USE = re.compile(r"^(?:ghost |pub )*use ([^\s{;]+)\.\{([^}]*)\}", re.M)
+
+# Where a name is declared: at the left margin, indented, as a field or a constructor, or by a binder.
+TOP = re.compile(r"^(?:(?:abbrev|unfoldable|pub|data|record|ruleset) )*([^\s:(){}]+)(?:\s+[({][^:]*:[^)}]*[)}])*\s*:(?:\s|$)")
 NESTED = re.compile(r"(?<![\w.'-])([A-Za-z][^\s(){}\[\].;,@\"«»`|≡→]*-[^\s(){}\[\].;,@\"«»`|≡→]*) :(?= )")
+FIELD = re.compile(r"^\s+(?:pub )?([^\s:(){}]+(?: [^\s:(){}]+)*) :\s")
 BOUND = re.compile(r"(?<![.\w'-])([A-Za-z][\w']*(?:-[\w'₀-₉]+)+)(?![\w'-])")
-INNER = re.compile(r"^\s+(?:pub )?([^\s:(){}]+(?: [^\s:(){}]+)*) :\s")
 
 
 def snake(name):
-    name = re.sub(r"(?<=[a-z0-9])([A-Z])", lambda m: "_" + m[1].lower(), name)
-    return name.replace("-", "_")
-
-
-def upper(name):
-    return "".join(w[:1].upper() + w[1:] for w in re.split(r"[-_]", name))
-
-
-def antt_files():
-    for folder in ("specs", "proofs"):
-        yield from sorted(glob.glob(f"crates/*/{folder}/**/*.antt", recursive=True))
+    return re.sub(r"(?<=[a-z0-9])([A-Z])", lambda m: "_" + m[1].lower(), name).replace("-", "_")
 
 
 def read(path):
@@ -58,64 +49,83 @@ def read(path):
         return f.read()
 
 
-def declared_in(text, made):
-    """The names that a file declares, and those of them that are types."""
-    names, types, block = set(), set(), False
-    items = re.split(r"\n(?=\S)", text)
-    if not made:
-        names.update(NESTED.findall(re.sub(r"^\s*--.*$", "", text, flags=re.M)))
-    for item in items:
-        first = item.split("\n")[0]
-        if first.startswith(("use ", "--", "pub use", "pub mod", "mod ", "infix")):
-            continue
-        m = DECLARED.match(item)
-        if m and "tie.Need" not in item and "tie.invariant" not in item and "tie.decreases" not in item:
-            names.add(m[1])
-            signature = item.split("\n" + m[1] + " ")[0]
-            if re.search(r"Type 0\s*$", signature.strip()) and not re.match(r"^(pub |abbrev |unfoldable )*(data|record)", first):
-                types.add(m[1])
-        if re.match(r"^(?:abbrev |pub )*(data|record) ", first):
-            for line in item.split("\n")[1:]:
-                m = INNER.match(line)
-                if m:
-                    names.update(m[1].split())
-    return names, types
+def write(path, text):
+    with open(path, "w", encoding="utf-8") as f:
+        f.write(text)
 
 
-def plan():
-    names, types = set(), set()
-    for path in antt_files():
-        n, t = declared_in(read(path), path.endswith("Proof.antt"))
-        names |= n
-        types |= t
-    table = {}
-    for n in names:
-        if n in KEPT or not re.match(r"^[A-Za-z]", n):
+def antt_files():
+    for folder in ("specs", "proofs"):
+        yield from sorted(glob.glob(f"crates/*/{folder}/**/*.antt", recursive=True))
+
+
+def is_walk(path):
+    """A proof that walks the code by hand: most of its names are Rattle's own."""
+    return path.endswith("Proof.antt")
+
+
+def code_of(text):
+    return re.sub(r"^\s*--.*$", "", text, flags=re.M)
+
+
+# ---- which names are turned
+
+
+def declared_in(path):
+    text = read(path)
+    names = set() if is_walk(path) else set(NESTED.findall(code_of(text)))
+    for item in re.split(r"\n(?=\S)", text):
+        if item.startswith(("use ", "--", "pub use", "pub mod", "mod ", "infix")):
             continue
-        if n in RENAMED:
-            table[n] = RENAMED[n]
-        elif n in types and n[0].islower():
-            table[n] = upper(n)
-        elif "-" in n or CAMEL.match(n):
-            table[n] = snake(n)
-    for path in antt_files():
-        for t in TOKEN.findall(read(path)):
-            if t not in table and CAMEL.match(t) and t not in KEPT:
-                table[t] = snake(t)
-        if not path.endswith("Proof.antt"):
-            text = re.sub(r"^\s*--.*$", "", read(path), flags=re.M)
-            imported = {n for m in re.finditer(r"^(?:ghost |pub )*use [^{\n]*\{([^}]*)\}", text, re.M) for n in re.split(r"[ ,]+", m[1])}
-            for t in BOUND.findall(text):
-                if t not in imported and t not in table:
-                    table[t] = snake(t)
+        top = TOP.match(item)
+        if top and not re.search(r"tie\.(?:Need|invariant|decreases)", item):
+            names.add(top[1])
+        if re.match(r"^(?:abbrev |pub )*(?:data|record) ", item):
+            for field in map(FIELD.match, item.split("\n")[1:]):
+                names.update(field[1].split() if field else [])
+    return names
+
+
+def bound_in(path):
+    """Other names of today's old spelling in a file: variables, in camel case anywhere and in kebab case where nothing imports them."""
+    names = {it for it in TOKEN.findall(read(path)) if CAMEL.match(it)}
+    if not is_walk(path):
+        code = code_of(read(path))
+        imported = {n for m in re.finditer(r"^(?:ghost |pub )*use [^{\n]*\{([^}]*)\}", code, re.M) for n in re.split(r"[ ,]+", m[1])}
+        names |= set(BOUND.findall(code)) - imported
+    return names
+
+
+def new_names():
+    """Each old name with its new one."""
+    files = list(antt_files())
+    names = {n for path in files for n in declared_in(path) if re.match(r"[A-Za-z]", n) and ("-" in n or CAMEL.match(n))}
+    names |= {n for path in files for n in bound_in(path)}
+    table = {n: snake(n) for n in names}
+    together = collections.defaultdict(set)
     taken = set()
-    for path in antt_files():
-        here = set(TOKEN.findall(re.sub(r"^\s*--.*$", "", read(path), flags=re.M)))
-        taken |= {n for n in here if "-" in n and n in table and not path.endswith("Proof.antt") and table[n] in here}
-    for n in list(table):
-        if n in taken or "-" in n and any(m != n and "-" not in m and table[m] == table[n] for m in TOGETHER.get(table[n], [])):
+    for path in files:
+        text = read(path)
+        for token in TOKEN.findall(text):
+            if CAMEL.match(token) or "-" in token:
+                together[snake(token)].add(token)
+        if not is_walk(path):
+            # A module's path names no thing of the file.
+            here = set(TOKEN.findall(re.sub(r"(?m)^((?:pub )?use )[^\s{]+", r"\1", code_of(text))))
+            taken |= {n for n in here if "-" in n and table.get(n) in here}
+    for n in names:
+        if n in taken or "-" in n and any("-" not in other and other in table for other in together[snake(n)]):
             table[n] += "_lem"
     return {a: b for a, b in table.items() if a != b}
+
+
+def foreign(text, crates):
+    """The names that a file imports from another place than this repository's crates."""
+    places = ((m[1].split("."), m[2]) for m in USE.finditer(text))
+    return {n.split(" as ")[0].strip() for path, items in places if path[0] != "Rattle" or path[1] not in crates for n in items.split(",")}
+
+
+# ---- turning them
 
 
 def turned(text, table):
@@ -123,52 +133,34 @@ def turned(text, table):
 
 
 def outside_strings(text, table):
-    """What stands in a string literal stays."""
     parts = re.split(r'("(?:[^"\\\n]|\\.)*")', text)
     return "".join(p if i % 2 else turned(p, table) for i, p in enumerate(parts))
 
 
-def foreign(text, crates):
-    """The names that a file imports from another place than this repository's crates."""
-    names = set()
-    for m in re.finditer(r"^(?:ghost |pub )*use ([^\s{;]+)\.\{([^}]*)\}", text, re.M):
-        path = m[1].split(".")
-        if path[0] != "Rattle" or path[1] not in crates:
-            names.update(n.split(" as ")[0].strip() for n in m[2].split(","))
-    return names
-
-
-def in_spans(text, table):
-    """A page: what stands between backquotes on one line, and no block of code."""
+def in_backquotes(text, table):
+    """A page: what stands between backquotes on one line, and in no block of code."""
     blocks = re.split(r"(^```.*?^```$)", text, flags=re.M | re.S)
     for i in range(0, len(blocks), 2):
         blocks[i] = re.sub(r"`[^`\n]+`", lambda m: "`" + turned(m[0][1:-1], table) + "`", blocks[i])
     return "".join(blocks)
 
 
-def write(path, text, check):
-    if text != read(path):
-        print(("to turn: " if check else "turned: ") + path)
-        if not check:
-            with open(path, "w", encoding="utf-8") as f:
-                f.write(text)
+def with_lemmas(text, table):
+    """In a comment such a name is the definition's or the function's."""
+    return "\n".join(line if line.lstrip().startswith("--") else turned(line, table) for line in text.split("\n"))
 
 
-def rename_crate(text, old, new):
-    text = re.sub(rf"\bRattle\.{old}\.", f"Rattle.{new}.", text)
-    text = re.sub(rf"(?<![\w:.]){old}::", f"{new}::", text)
-    return re.sub(rf"\bcrates/{old}\b", f"crates/{new}", text)
+def with_crate(text):
+    text = re.sub(r"\bRattle\.hex\.", "Rattle.hexadecimal.", text)
+    text = re.sub(r"(?<![\w:.])hex::", "hexadecimal::", text)
+    return re.sub(r"\bcrates/hex\b", "crates/hexadecimal", text)
 
 
 def main():
-    check = "--check" in sys.argv[1:]
-    by_new = collections.defaultdict(set)
-    for path in antt_files():
-        for t in TOKEN.findall(read(path)):
-            if CAMEL.match(t) or "-" in t:
-                by_new[snake(t)].add(t)
-    TOGETHER.update(by_new)
-    table = plan()
+    table = new_names()
+    if "--check" in sys.argv[1:]:
+        print("\n".join(f"{a}\t{b}" for a, b in sorted(table.items())))
+        return
     lemmas = collections.defaultdict(dict)
     for files, name in LEMMAS:
         for path in glob.glob("crates/" + files):
@@ -177,24 +169,14 @@ def main():
     for path in antt_files():
         text = read(path)
         own = {a: b for a, b in table.items() if a not in foreign(text, crates)}
-        if lemmas[path]:  # in its comments such a name is the definition's or the function's
-            text = "\n".join(line if line.lstrip().startswith("--") else turned(line, lemmas[path]) for line in text.split("\n"))
-        text = outside_strings(text, own)
-        write(path, rename_crate(text, "hex", "hexadecimal"), check)
-    for path in sorted(glob.glob("crates/*/src/**/*.rt", recursive=True)):
-        write(path, rename_crate(outside_strings(read(path), table), "hex", "hexadecimal"), check)
-    for path in sorted(glob.glob("crates/*/must-fail/*.edit")):
-        write(path, rename_crate(outside_strings(read(path), table), "hex", "hexadecimal"), check)
-    for path in ["README.md"] + sorted(glob.glob("docs/*.md")):
-        write(path, re.sub(r"`hex`", "`hexadecimal`", rename_crate(in_spans(read(path), table), "hex", "hexadecimal")), check)
-    write("crates.txt", re.sub(r"(?<=[ \n])hex(?=[ :\n])", "hexadecimal", read("crates.txt")), check)
-    if not check and os.path.isdir("crates/hex"):
-        os.rename("crates/hex", "crates/hexadecimal")
-    with open("/tmp/port-names.tsv", "w", encoding="utf-8") as f:
-        f.writelines(f"{a}\t{b}\n" for a, b in sorted(table.items()))
+        write(path, with_crate(outside_strings(with_lemmas(text, lemmas[path]), own)))
+    for path in glob.glob("crates/*/src/**/*.rt", recursive=True) + glob.glob("crates/*/must-fail/*.edit"):
+        write(path, with_crate(outside_strings(read(path), table)))
+    for path in ["README.md"] + glob.glob("docs/*.md"):
+        write(path, with_crate(in_backquotes(read(path), table)).replace("`hex`", "`hexadecimal`"))
+    write("crates.txt", re.sub(r"(?<=[ \n])hex(?=[ :\n])", "hexadecimal", read("crates.txt")))
+    os.rename("crates/hex", "crates/hexadecimal")
 
-
-TOGETHER = {}
 
 if __name__ == "__main__":
     main()

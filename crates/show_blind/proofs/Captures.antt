@@ -61,8 +61,8 @@ captures_alike (All2.more {a = l} {b = m} a rest) k s r p =
     ap₂ {C = Bytes} (λ (x y : Bytes). x ++ y) (spoken_alike s r p a k) (captures_alike rest (suc k) (server_after (frame l) s) (server_after (frame m) r) (pair_after s r p a))
 
 -- by the definitions
-pub show_blind_lem : (hub : Bytes) → is_hub_name hub ≡ true → (ls ms : List Bytes) → All2 AlikeLines ls ms → answered_text ls (start connection_count hub) ≡ answered_text ms (start connection_count hub)
-show_blind_lem hub good ls ms a =
+pub show_blind : (hub : Bytes) → is_hub_name hub ≡ true → (ls ms : List Bytes) → All2 AlikeLines ls ms → answered_text ls (start connection_count hub) ≡ answered_text ms (start connection_count hub)
+show_blind hub good ls ms a =
     let s = start connection_count hub in
     let h = running_start connection_count hub good in
     captures_alike a 1 s s (record { first = h; second = h; tables = refl })
@@ -81,5 +81,5 @@ pub shown_blind : (hub : Bytes) → is_hub_name hub ≡ true → (ls ms : List B
     → shown_text ls (make connection_count hub t w).table (make connection_count hub t w).workloads o x ≡ shown_text ms (make connection_count hub u v).table (make connection_count hub u v).workloads p y
 shown_blind hub good ls ms a t w o x h u v p y g =
     show_text hub good t w h.table h.workloads ls o x h.output h.text
-    ∙ show_blind_lem hub good ls ms a
+    ∙ show_blind hub good ls ms a
     ∙ sym (show_text hub good u v g.table g.workloads ms p y g.output g.text)

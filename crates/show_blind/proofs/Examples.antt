@@ -18,7 +18,7 @@ use Rattle.server.specs.Replay.{frame}
 use Rattle.lists.proofs.Cases.{All2}
 use Rattle.server_blind.proofs.Alike.{opening, sending}
 use Rattle.show_line.specs.Shown.{answered_text}
-use Rattle.show_blind.proofs.Captures.{nothing, alike, AlikeLines, show_blind_lem}
+use Rattle.show_blind.proofs.Captures.{nothing, alike, AlikeLines, show_blind}
 
 -- one name that opens all that is computed
 unfoldable compute : Bytes → Bytes
@@ -51,4 +51,4 @@ captures_alike = All2.more (alike opening) (All2.more (alike (sending refl refl)
 
 -- they are shown by the same bytes
 captures_shown : (hub : Bytes) → is_hub_name hub ≡ true → answered_text (capture test) (start connection_count hub) ≡ answered_text (capture zeros) (start connection_count hub)
-captures_shown hub good = show_blind_lem hub good (capture test) (capture zeros) captures_alike
+captures_shown hub good = show_blind hub good (capture test) (capture zeros) captures_alike
