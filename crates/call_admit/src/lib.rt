@@ -7,33 +7,42 @@ ghost use Rattle.server.specs.Sizes.{connection_count};
 ghost use Rattle.server.specs.Table.{closed};
 ghost use Rattle.server.specs.Layout.{table_of, table_size};
 ghost use Rattle.server.specs.Call.{is_sound, too_short};
-ghost use Rattle.call_admit.specs.Admission.{admission, state_refusal};
+ghost use Rattle.call_admit.specs.Admission.{admission, answer_number, refusal_number, state_refusal};
 
 use server::{CONNECTIONS, OPENED_AT, OUTPUT_SIZE, TABLE_SIZE, WORKLOADS_SIZE};
 
-// The refusals.
-const LENT: u8 = 1; // a lent buffer is too short, or the table breaks a table rule
+// Why an event is refused before it is looked at.
+#[derive(Clone, Copy)]
+pub enum Refusal {
+    Lent, // a lent buffer is too short, or the table breaks a table rule
+    Connection, // no connection of this number
+    NotOpen, // a connection that is not open
+    Open, // an open of an open connection
+}
 
-const CONNECTION: u8 = 2; // no connection of this number
-
-const NOT_OPEN: u8 = 3; // a connection that is not open
-
-const OPEN: u8 = 4; // an open of an open connection
+impl Refusal {
+    // Document 01's number of it.
+    pub fn number(self) -> u8
+        ensures { result ≡ refusal_number self }
+    {
+        match self {
+            Refusal::Lent => 1,
+            Refusal::Connection => 2,
+            Refusal::NotOpen => 3,
+            Refusal::Open => 4,
+        }
+    }
+}
 
 // Whether the lent bytes are long enough, and hold a table that obeys the rules.
+#[tactic(auto, unfolding(server::specs::Call::too_short))]
 fn is_usable(table: &[u8], workloads: &[u8], output: &[u8]) -> bool
     ensures { result ≡ not (too_short connection_count table.now workloads.now output.now || not (is_sound connection_count table.now)) }
 {
-    if table.len() < TABLE_SIZE {
-        return false;
-    }
-    if workloads.len() < WORKLOADS_SIZE {
-        return false;
-    }
-    if output.len() < OUTPUT_SIZE {
-        return false;
-    }
-    check_table::is_sound(table)
+    TABLE_SIZE <= table.len()
+        && WORKLOADS_SIZE <= workloads.len()
+        && OUTPUT_SIZE <= output.len()
+        && check_table::is_sound(table)
 }
 
 // Whether the connection is open.
@@ -45,36 +54,36 @@ fn is_open(table: &[u8], c: usize) -> bool
 }
 
 // Refusal 3 or 4.
-fn state_refusal(is_open: bool, to_open: bool) -> u8
-    ensures { result ≡ state_refusal is_open to_open }
+#[tactic(auto, unfolding(crate::specs::Admission::state_refusal))]
+fn state_refusal(is_open: bool, to_open: bool) -> Result<(), Refusal>
+    ensures { answer_number result ≡ state_refusal is_open to_open }
 {
-    if is_open & to_open {
-        return OPEN;
+    match (is_open, to_open) {
+        (true, true) => Err(Refusal::Open),
+        (false, false) => Err(Refusal::NotOpen),
+        _ => Ok(()),
     }
-    if is_open | to_open {
-        return 0;
-    }
-    NOT_OPEN
 }
 
 // The first number that is no connection's.
 const BEYOND: u32 = CONNECTIONS as u32;
 
-// The refusal that an event of this connection meets at once, or 0; `to_open` tells an open from a close or a packet.
+// The refusal that an event of this connection meets at once, if any; `to_open` tells an open from a close or a packet, as in the
+// definition `admission`, of which the theorems speak: a bool there, so one here.
 pub fn admission(
     table: &[u8],
     workloads: &[u8],
     output: &[u8],
     connection: u32,
     to_open: bool,
-) -> u8
-    ensures { result ≡ admission to_open connection table.now workloads.now output.now }
+) -> Result<(), Refusal>
+    ensures { answer_number result ≡ admission to_open connection table.now workloads.now output.now }
 {
     if !is_usable(table, workloads, output) {
-        return LENT;
+        return Err(Refusal::Lent);
     }
     if BEYOND <= connection {
-        return CONNECTION;
+        return Err(Refusal::Connection);
     }
     state_refusal(is_open(table, connection as usize), to_open)
 }

@@ -1,12 +1,13 @@
 -- A fresh table's bytes are zeros, column by column, but for the hub's name. Assumes nothing.
-use Prim.Native.Nat.{ℕ, zero, suc, ◌+◌, ◌-◌, ◌*◌}
+use Prim.Native.Nat.{ℕ, zero, suc, ◌+◌, ◌-◌, ◌*◌, ◌≤◌}
 use mathlib.Core.Path.{◌≡◌, refl, ap, ap₂, sym, ◌∙◌}
 use mathlib.Core.List.{[], ◌∷◌, ◌++◌}
 use native.Mathlib.Nat.{mul-suc, mul-zero}
 use native.Mathlib.Omega.{arith}
-use lib.ListN.{length, replicate, replicate-append-replicate, length-replicate}
+use lib.ListN.{length, drop, replicate, replicate-append-replicate, length-replicate}
 use Rattle.octets.specs.Bytes.{Bytes}
 use Rattle.octets.specs.Put.{put}
+use Rattle.octets.proofs.Laying.{put_start}
 use Rattle.server.specs.declared.Connection.{Connection}
 use Rattle.lists.specs.Lists.{fit}
 use Rattle.server.specs.Sizes.{function_count, job_count, name_size, unique_size, number_size, id_size, hub_size}
@@ -15,6 +16,17 @@ use Rattle.server.specs.Layout.{little, flag_byte, column, set_size, table_size,
 use Rattle.table_laws.proofs.Puts.{put_hub}
 use Rattle.lists.proofs.Lists.{fit_none}
 use Rattle.table_texts.specs.Places.{zeros}
+
+-- ---- zeros over the start of a buffer
+
+pub filled : (k : ℕ) (x b : Bytes) → k ≤ length b → x ≡ replicate k 0 → x ++ drop k b ≡ put 0 (zeros k) b
+unfolding zeros
+filled k x b h e =
+    let l : length {A = ℕ} (replicate k 0) ≡ k = length-replicate k 0 in
+    e' ∙ sym (rw l at (put_start (replicate k 0) b (omega arith)))
+  where
+    e' : x ++ drop k b ≡ replicate k 0 ++ drop k b
+    e' = ap (λ (s : Bytes). s ++ drop k b) e
 
 -- ---- one field
 
@@ -27,9 +39,6 @@ little_zeros (suc k) = ap (λ (l : Bytes). 0 ∷ l) (little_zeros k)
 text_zeros : (k : ℕ) → fit k [] ≡ zeros k
 unfolding zeros
 text_zeros k = fit_none k
-
-pub text_laid : (x b : Bytes) (k : ℕ) → x ≡ put 0 (fit k []) b → x ≡ put 0 (zeros k) b
-text_laid x b k e = e ∙ ap (λ (s : Bytes). put 0 s b) (text_zeros k)
 
 flag_zeros : 0 ∷ [] ≡ zeros 1
 unfolding zeros

@@ -18,20 +18,14 @@ fn clear(b: &mut [u8], n: usize)
     requires { n ≤ length b.old }
     ensures { b.new ≡ put 0 (zeros n) b.old }
 {
-    table_texts::put_text(b, 0, n, b"");
+    b[..n].fill(0);
 }
 
-// Makes a fresh table for the hub of this name.
+// Makes a fresh table for the hub of this name. Answers the number that C is answered: 0, or the one refusal.
 pub fn fresh(table: &mut [u8], workloads: &mut [u8], name: &[u8]) -> u8
     ensures { made result table.new workloads.new ≡ make connection_count name.now table.old workloads.old }
 {
-    if table.len() < TABLE_SIZE {
-        return LENT;
-    }
-    if workloads.len() < WORKLOADS_SIZE {
-        return LENT;
-    }
-    if !handle::is_hub_name(name) {
+    if table.len() < TABLE_SIZE || workloads.len() < WORKLOADS_SIZE || !handle::is_hub_name(name) {
         return LENT;
     }
     clear(table, TABLE_SIZE);

@@ -9,14 +9,16 @@ use lib.ListN.{length, drop, length-append, length-drop}
 use Rattle.octets.specs.Bytes.{Bytes}
 use Rattle.octets.specs.Put.{put}
 use Rattle.packet.specs.declared.Ends.{Ends}
-use Rattle.packet.specs.declared.Read.TheVariants as RV
+use Rattle.packet.specs.declared.Refusal.{Refusal}
+use Rattle.packet.specs.Refusals.{number_of}
+use Rattle.std.specs.Prelude.{Err}
 use Rattle.packet.specs.Layout.{request_shape, rules_of, separators_of}
 use Rattle.packet.specs.Arguments.{ends_of}
 use Rattle.packet.specs.Packet.{Reading, got, read, requests}
 use Rattle.packet.specs.Packet as P
 use Rattle.packet.specs.Opaque.{ends_opaque, masked, opaque, visible}
-use Rattle.packet.specs.Answers.{answer_of, argument_at, between}
-use Rattle.packet_laws.proofs.Answers.{read_answer}
+use Rattle.packet.specs.Answers.{answer_of, argument_at, between, found}
+use Rattle.packet_laws.proofs.Answers.{read_answer, refused_answer}
 use Rattle.packet_laws.proofs.Packets.{Headed, header_good, read_got, requests_well}
 use Rattle.packet_laws.proofs.Blindness.{opaque_at, opaque_none, answer_masked}
 use Rattle.packet_laws.proofs.Places.{argument_read}
@@ -61,7 +63,7 @@ beyond : (p : Bytes) (ends : Ends) → argument_at p ends 5 ≡ []
 unfolding argument_at between
 beyond p ends = rw (le-ltb ends.fifth 0 zero-le)
 
-module _ (p : Bytes) (ends : Ends) (kind : ℕ) (came : answer_of (read requests p) ≡ RV.Packet kind ends) where
+module _ (p : Bytes) (ends : Ends) (kind : ℕ) (came : answer_of (read requests p) ≡ found kind ends) where
   abbrev read_as : (as' : List Bytes) × (read requests p ≡ got kind as') × (ends ≡ ends_of 12 as')
   read_as = read_answer (read requests p) kind ends came
 
@@ -85,7 +87,7 @@ module _ (p : Bytes) (ends : Ends) (kind : ℕ) (came : answer_of (read requests
 
 -- ---- a request
 
-module _ (c : ℕ) (p : Bytes) (ends : Ends) (kind : ℕ) (t w o : Bytes) (h : Admitted false c t w o) (came : answer_of (read requests p) ≡ RV.Packet kind ends)
+module _ (c : ℕ) (p : Bytes) (ends : Ends) (kind : ℕ) (t w o : Bytes) (h : Admitted false c t w o) (came : answer_of (read requests p) ≡ found kind ends)
     (plan : Plan) (is : plan ≡ plan_served c (request_in p) (table_of connection_count t)) where
   abbrev what : Request
   what = requested kind (argument_at p ends 0) (argument_at p ends 1) (argument_at p ends 2)
@@ -122,18 +124,10 @@ module _ (c : ℕ) (p : Bytes) (ends : Ends) (kind : ℕ) (t w o : Bytes) (h : A
 
 -- ---- a packet that is no request
 
-module _ (c n : ℕ) (p t w o : Bytes) (h : Admitted false c t w o) (came : answer_of (read requests p) ≡ RV.Refused n) where
-  bad_reading : (r : Reading) → answer_of r ≡ RV.Refused n → from_reading r ≡ bad n
-  unfolding answer_of
-  bad_reading (P.refused m) e = ap bad (refused_same m n e)
-    where
-      refused_same : (m k : ℕ) → RV.Refused m ≡ RV.Refused k → m ≡ k
-      refused_same m k q = cc
-  bad_reading (got kind as') e = let z : ◌≡◌ {A = ℕ} 0 1 = cc in absurd (omega arith)
-
+module _ (c : ℕ) (r : Refusal) (n : ℕ) (en : n ≡ number_of r) (p t w o : Bytes) (h : Admitted false c t w o) (came : answer_of (read requests p) ≡ Err r) where
   asks_nothing : request_in p ≡ bad n
   unfolding request_in
-  asks_nothing = bad_reading (read requests (masked requests p)) (sym (answer_masked requests requests_well p) ∙ came)
+  asks_nothing = rw (refused_answer requests (masked requests p) r (sym (answer_masked requests requests_well p) ∙ came), ← en)
 
   pub unread_small : n ≤ last_number
   unread_small = omega (arith, (bad_within_lem p n asks_nothing).1)

@@ -3,10 +3,9 @@
 // numbers: nothing is changed then, and by one that has a text the output holds one ERROR packet. No caller has to check anything first.
 #![tactic(auto)]
 
-ghost use Rattle.std.specs.Prelude.{◌≡◌, cond, false};
-ghost use Rattle.packet.specs.declared.Read.TheVariants as RV;
+ghost use Rattle.std.specs.Prelude.{◌≡◌, cond, false, []};
 ghost use Rattle.packet.specs.Packet.{read, requests};
-ghost use Rattle.packet.specs.Answers.{answer_of};
+ghost use Rattle.packet.specs.Answers.{answer_of, found};
 ghost use Rattle.server.specs.Sizes.{connection_count};
 ghost use Rattle.server.specs.Requests.{closes, opens, sends};
 ghost use Rattle.server.specs.Call.{call, left};
@@ -14,19 +13,25 @@ ghost use Rattle.plan.specs.Plans.{plan_closing, plan_opening};
 ghost use Rattle.call_admit.specs.Admission.{admission};
 
 use carry_event::Answer;
-use packet::{Ends, Read};
+use carry_packet::Request;
+use packet::{Ends, Packet};
 use plan::Plan;
 
-// The ends of no arguments.
-fn no_ends() -> Ends
-    ensures { result ≡ record { first = 0; second = 0; third = 0; fourth = 0; fifth = 0 } }
+// The request of an event that brings none.
+fn no_request() -> Request<'static>
+    ensures { (result.kind ≡ 0) × (result.bytes.now ≡ []) × (result.ends ≡ record { first = 0; second = 0; third = 0; fourth = 0; fifth = 0 }) }
 {
-    Ends {
+    let ends = Ends {
         first: 0,
         second: 0,
         third: 0,
         fourth: 0,
         fifth: 0,
+    };
+    Request {
+        kind: 0,
+        bytes: b"",
+        ends,
     }
 }
 
@@ -42,9 +47,10 @@ fn plan_open_or_close(c: usize, to_open: bool) -> Plan
     ensures { result ≡ cond to_open (plan_opening c) (plan_closing c) }
 {
     if to_open {
-        return plan_events::open(c);
+        plan_events::open(c)
+    } else {
+        plan_events::close(c)
     }
-    plan_events::close(c)
 }
 
 // Opens a connection, or closes it.
@@ -58,14 +64,12 @@ fn open_or_close(
     ensures { left result.number result.length output.new table.new workloads.new
         ≡ call connection_count (cond to_open (opens connection) (closes connection)) table.old workloads.old output.old }
 {
-    let number = call_admit::admission(table, workloads, output, connection, to_open);
-    if number != 0 {
-        return refused(number);
+    if let Err(refusal) = call_admit::admission(table, workloads, output, connection, to_open) {
+        return refused(refusal.number());
     }
     let plan = plan_open_or_close(connection as usize, to_open);
     let c = connection as u8;
-    let ends = no_ends();
-    carry_event::conclude(table, workloads, output, plan, c, 0, b"", ends)
+    carry_event::conclude(table, workloads, output, plan, c, no_request())
 }
 
 // Opens a connection.
@@ -94,13 +98,18 @@ fn serve(
     kind: u32,
     ends: Ends,
 ) -> Answer
-    requires { (0 ≡ admission false connection table.old workloads.old output.old) × (answer_of (read requests packet.now) ≡ RV.Packet kind ends) }
+    requires { (0 ≡ admission false connection table.old workloads.old output.old) × (answer_of (read requests packet.now) ≡ found kind ends) }
     ensures { left result.number result.length output.new table.new workloads.new
         ≡ call connection_count (sends connection packet.now) table.old workloads.old output.old }
 {
     let plan = plan_request::plan_request(table, connection as usize, kind, packet, ends);
     let c = connection as u8;
-    carry_event::conclude(table, workloads, output, plan, c, kind, packet, ends)
+    let request = Request {
+        kind,
+        bytes: packet,
+        ends,
+    };
+    carry_event::conclude(table, workloads, output, plan, c, request)
 }
 
 // Takes one packet from a connection.
@@ -114,17 +123,16 @@ pub fn packet(
     ensures { left result.number result.length output.new table.new workloads.new
         ≡ call connection_count (sends connection packet.now) table.old workloads.old output.old }
 {
-    let no_packet = call_admit::admission(table, workloads, output, connection, false);
-    if no_packet != 0 {
-        return refused(no_packet);
+    if let Err(no_packet) = call_admit::admission(table, workloads, output, connection, false) {
+        return refused(no_packet.number());
     }
-    let read = packet_read::read_request(packet);
-    match read {
-        Read::Refused(number) => {
+    match packet_read::read_request(packet) {
+        Err(refusal) => {
+            let number = refusal.number();
             let length = carry_event::refuse(output, connection as u8, number);
             Answer { number, length }
         }
-        Read::Packet { kind, ends } => serve(
+        Ok(Packet { kind, ends }) => serve(
             table, workloads, output, connection, packet, kind, ends,
         ),
     }

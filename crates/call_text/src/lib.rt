@@ -21,11 +21,13 @@ pub fn text(
     ensures { left result.number result.length output.new table.now workloads.now
         ≡ say connection_count connection line.now table.now workloads.now output.old }
 {
-    let number = call_admit::admission(table, workloads, output, connection, false);
-    if number != 0 {
-        return Answer { number, length: 0 };
+    if let Err(refusal) = call_admit::admission(table, workloads, output, connection, false) {
+        return Answer {
+            number: refusal.number(),
+            length: 0,
+        };
     }
     output[0] = connection as u8;
     let length = command_text::put_text(output, 1, table, line);
-    Answer { number, length }
+    Answer { number: 0, length }
 }

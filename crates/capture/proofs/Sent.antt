@@ -1,8 +1,8 @@
 -- What answering a frame leaves in the output is addressed packets, one after the other: those that are sent. Assumes nothing.
-use Prim.Native.Nat.{ℕ, ◌+◌, ◌^◌, ◌<◌, ◌≤◌}
+use Prim.Native.Nat.{ℕ, ◌^◌, ◌<◌, ◌≤◌}
 use mathlib.Core.Path.{◌≡◌, refl, ap, ◌∙◌}
 use mathlib.Core.Bool.{Bool, true, false, not, cond, ◌||◌}
-use mathlib.Core.Option.{Option, none, some}
+use Rattle.std.specs.Prelude.{Option, Some, None}
 use mathlib.Core.List.{List, [], ◌∷◌, ◌++◌, map}
 use native.Mathlib.Omega.{arith}
 use lib.ListN.{length, take, length-append}
@@ -67,8 +67,8 @@ module _ (t w o : Bytes) where
 
   answered : (f : Option Event) → Answered (answered_to f t w o) (packets_to f t w o)
   unfolding answered_to packets_to call
-  answered none = answered_refused 16
-  answered (some e) = go (too_short connection_count t w o || not (is_sound connection_count t)) refl
+  answered None = answered_refused 16
+  answered (Some e) = go (too_short connection_count t w o || not (is_sound connection_count t)) refl
     where
       go : (b : Bool) → too_short connection_count t w o || not (is_sound connection_count t) ≡ b
           → Answered (cond b (refused_by 1 t w o) (performed e (server_in connection_count t w) t w o)) (cond b [] (map addressed (answer e (server_in connection_count t w)).sent))

@@ -1,9 +1,9 @@
 -- Lines told one after the other, from a fresh table of any hub: what is said is what the server says to the frames among them, whatever
 -- the words. Assumes nothing.
-use Prim.Native.Nat.{ℕ, suc, ◌+◌, ◌≤◌}
+use Prim.Native.Nat.{ℕ, suc, ◌≤◌}
 use mathlib.Core.Path.{◌≡◌, refl, sym, ap, ap₂, ◌∙◌}
 use mathlib.Core.Bool.{true}
-use mathlib.Core.Option.{Option, none, some}
+use Rattle.std.specs.Prelude.{Option, Some, None}
 use mathlib.Core.List.{List, [], ◌∷◌, ◌++◌, map}
 use native.Mathlib.Omega.{arith}
 use borrow.Author.Tests.{le-ltb}
@@ -59,31 +59,31 @@ module _ (s : Server) (h : Running connection_count s) where
 
   spoken_short : (room : ℕ) (say : Speech) → Fits room say → (f : Option Event) → length (spoken_to say f s) ≤ room
   unfolding sent_bytes
-  spoken_short room say k none = k none [] 16 s.table s.table (running_named s h) tt (omega arith)
-  spoken_short room say k (some e) = k (some e) _ _ _ _ (running_named (next e s) (running_next connection_count e s h)) (sent_addressed e) (sent_few e)
+  spoken_short room say k None = k None [] 16 s.table s.table (running_named s h) tt (omega arith)
+  spoken_short room say k (Some e) = k (Some e) _ _ _ _ (running_named (next e s) (running_next connection_count e s h)) (sent_addressed e) (sent_few e)
 
   pub running_after : (f : Option Event) → Running connection_count (server_after f s)
-  running_after none = h
-  running_after (some e) = running_next connection_count e s h
+  running_after None = h
+  running_after (Some e) = running_next connection_count e s h
 
   module _ (t w : Bytes) (lt : table_size connection_count ≤ length t) (lw : workloads_size ≤ length w) (o : Bytes) (lo : output_size connection_count ≤ length o) where
     -- answering sends the server's packets
-    packets_sent_lem : (e : Event) → packets_to (some e) (table_with s t) (workloads_with s w) o ≡ map addressed (answer e s).sent
+    packets_sent_lem : (e : Event) → packets_to (Some e) (table_with s t) (workloads_with s w) o ≡ map addressed (answer e s).sent
     unfolding sent_bytes performed answered_to
     packets_sent_lem e =
         let q = call_follows connection_count (omega arith) s h t w lt lw e o lo in
         let b = sent_bytes (answer e s).sent in
-        sym (output_packets (table_with s t) (workloads_with s w) o (some e) (performed e s t w o) (sym q))
+        sym (output_packets (table_with s t) (workloads_with s w) o (Some e) (performed e s t w o) (sym q))
         ∙ packets_in_lem _ (map addressed (answer e s).sent) (sent_addressed e) (laid_start b o (omega (arith, sent_few e)))
 
     output_after : Option Event → Bytes
-    output_after none = o
-    output_after (some e) = put 0 (sent_bytes (answer e s).sent) o
+    output_after None = o
+    output_after (Some e) = put 0 (sent_bytes (answer e s).sent) o
 
     long_after : (f : Option Event) → output_size connection_count ≤ length (output_after f)
     unfolding output_after
-    long_after none = lo
-    long_after (some e) = rw length_put lo
+    long_after None = lo
+    long_after (Some e) = rw length_put lo
 
     -- the bytes hold the table
     table_back : (f : Option Event) → table_of connection_count (table_with (server_after f s) t) ≡ (server_after f s).table
@@ -97,16 +97,16 @@ module _ (s : Server) (h : Running connection_count s) where
         → told_of say f (table_with s t) (workloads_with s w) o x
         ≡ saying (spoken_to say f s) x (output_after f) (table_with (server_after f s) t) (workloads_with (server_after f s) w)
     unfolding told_of output_after performed answered_to packets_to refused_by
-    frame_follows say none x = ap (λ (u : Table). saying (say none [] 16 u u) x o (table_with s t) (workloads_with s w)) (table_back none)
-    frame_follows say (some e) x =
-        let r = answered_to (some e) (table_with s t) (workloads_with s w) o in
+    frame_follows say None x = ap (λ (u : Table). saying (say None [] 16 u u) x o (table_with s t) (workloads_with s w)) (table_back None)
+    frame_follows say (Some e) x =
+        let r = answered_to (Some e) (table_with s t) (workloads_with s w) o in
         let n = (answer e s).number in
         let b = table_of connection_count (table_with s t) in
-        ap (λ (ps : List Bytes). saying (say (some e) ps r.number b (table_of connection_count r.table)) x r.output r.table r.workloads) (packets_sent_lem e)
-        ∙ ap (λ (z : Result). saying (say (some e) (map addressed (answer e s).sent) z.number b (table_of connection_count z.table)) x z.output z.table z.workloads)
+        ap (λ (ps : List Bytes). saying (say (Some e) ps r.number b (table_of connection_count r.table)) x r.output r.table r.workloads) (packets_sent_lem e)
+        ∙ ap (λ (z : Result). saying (say (Some e) (map addressed (answer e s).sent) z.number b (table_of connection_count z.table)) x z.output z.table z.workloads)
         (call_follows connection_count (omega arith) s h t w lt lw e o lo)
-        ∙ ap₂ {C = Told} (λ (v u : Table). saying (say (some e) (map addressed (answer e s).sent) n v u) x (output_after (some e)) (table_with (next e s) t) (workloads_with (next e s) w))
-        (table_back none) (table_back (some e))
+        ∙ ap₂ {C = Told} (λ (v u : Table). saying (say (Some e) (map addressed (answer e s).sent) n v u) x (output_after (Some e)) (table_with (next e s) t) (workloads_with (next e s) w))
+        (table_back None) (table_back (Some e))
 
     line_follows : (room : ℕ) (say : Speech) (line x : Bytes) → room ≤ length x
         → told room say line (table_with s t) (workloads_with s w) o x

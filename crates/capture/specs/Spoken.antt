@@ -1,7 +1,6 @@
 -- What is said of a capture's lines, whatever the words: the replay program says it in digits, the program `show` in words. One line
 -- on the lent bytes, a whole text on them, and the same by the server itself. Assumes nothing.
-use Rattle.std.specs.Prelude.{ℕ, suc, not, cond, ◌||◌, List, [], ◌∷◌, ◌++◌, map, length, take, ltb}
-use Rattle.std.proofs.Math.Option.{Option, none, some}
+use Rattle.std.specs.Prelude.{ℕ, suc, not, cond, ◌||◌, List, [], ◌∷◌, ◌++◌, map, length, take, ltb, Option, Some, None}
 use Rattle.octets.specs.Bytes.{Bytes}
 use Rattle.octets.specs.Put.{put}
 use Rattle.server.specs.Sizes.{connection_count}
@@ -17,13 +16,13 @@ use Rattle.lines.specs.Text.{Seen, lines_of}
 
 -- a frame's event is called; what isn't a frame the server does not see, and 01 gives it the number 16
 unfoldable pub answered_to : Option Event → Bytes → Bytes → Bytes → Result
-answered_to none t w o = refused_by 16 t w o
-answered_to (some e) t w o = call connection_count e t w o
+answered_to None t w o = refused_by 16 t w o
+answered_to (Some e) t w o = call connection_count e t w o
 
 -- the packets that are sent; none, where the call is refused by 1
 unfoldable pub packets_to : Option Event → Bytes → Bytes → Bytes → List Bytes
-packets_to none t w o = []
-packets_to (some e) t w o = cond (too_short connection_count t w o || not (is_sound connection_count t)) [] (map addressed (answer e (server_in connection_count t w)).sent)
+packets_to None t w o = []
+packets_to (Some e) t w o = cond (too_short connection_count t w o || not (is_sound connection_count t)) [] (map addressed (answer e (server_in connection_count t w)).sent)
 
 -- ---- what is said
 
@@ -66,8 +65,8 @@ said room says k (line ∷ lines) t w o x =
 
 -- by the server itself
 abbrev pub spoken_to : Speech → Option Event → Server → Bytes
-spoken_to say none s = say none [] 16 s.table s.table
-spoken_to say (some e) s = say (some e) (map addressed (answer e s).sent) (answer e s).number s.table (next e s).table
+spoken_to say None s = say None [] 16 s.table s.table
+spoken_to say (Some e) s = say (Some e) (map addressed (answer e s).sent) (answer e s).number s.table (next e s).table
 
 unfoldable pub spoken : (ℕ → Speech) → ℕ → List Bytes → Server → Bytes
 spoken says k [] s = []

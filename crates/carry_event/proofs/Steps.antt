@@ -1,11 +1,11 @@
 -- What the steps of a plan lay, by the names of the call: the opaque argument, and the ERROR packet of a refusal. Assumes nothing.
-use Prim.Native.Nat.{ℕ, ◌+◌, ◌≤◌}
+use Prim.Native.Nat.{ℕ, ◌+◌, ◌≤◌, zero-le}
 use mathlib.Core.Path.{◌≡◌, refl, ap, sym, ◌∙◌}
-use mathlib.Core.Bool.{Bool, true, false, not}
+use mathlib.Core.Bool.{true, false}
 use mathlib.Core.List.{List, [], map}
 use native.Mathlib.Nat.{add-zero}
 use native.Mathlib.Omega.{arith}
-use borrow.Author.Tests.{eq-eqb, ne_eqb}
+use borrow.Author.Tests.{eq-eqb, le-ltb, ne_eqb}
 use lib.ListN.{length, length-append}
 use Rattle.octets.specs.Bytes.{Bytes}
 use Rattle.octets.specs.Put.{put}
@@ -14,7 +14,7 @@ use Rattle.packet.specs.declared.Ends.{Ends}
 use Rattle.packet.specs.declared.Shape.{Shape}
 use Rattle.packet.specs.Layout.{request_shape}
 use Rattle.packet.specs.Arguments.{join}
-use Rattle.packet.specs.Answers.{argument_at}
+use Rattle.packet.specs.Answers.{argument_at, between}
 use Rattle.packet.specs.Packet.{packet}
 use Rattle.sets.specs.Sets.{has, members}
 use Rattle.server.specs.declared.JobRow.{JobRow}
@@ -43,12 +43,16 @@ pub opaque_taken : (p : Bytes) (kind : ℕ) (ends : Ends) (shape : Shape) (n : �
 unfolding opaque_in
 opaque_taken p kind ends shape n o s e a = a ∙ ap (argument_at p ends) (e ∙ ap opaque_place s)
 
--- ---- refusals
+-- there is no argument 5
+no_argument : (p : Bytes) (ends : Ends) → [] ≡ argument_at p ends 5
+unfolding argument_at between
+no_argument p ends = rw (le-ltb ends.fifth 0 zero-le)
 
--- the code asks for the opposite
-pub told_not : (n : ℕ) (t b : Bool) → t ≡ is_told n → not t ≡ b → is_told n ≡ not b
-told_not n true b e f = sym e ∙ ap not f
-told_not n false b e f = sym e ∙ ap not f
+pub opaque_none : (p : Bytes) (kind : ℕ) (ends : Ends) (shape : Shape) → shape ≡ request_shape kind → opaque_place shape ≡ 5 → [] ≡ opaque_in p kind ends
+unfolding opaque_in
+opaque_none p kind ends shape s n = no_argument p ends ∙ ap (argument_at p ends) (sym n ∙ ap opaque_place s)
+
+-- ---- refusals
 
 module _ (c n : ℕ) where
   silent : is_told n ≡ false → refusal_bytes c n ≡ []

@@ -1,5 +1,5 @@
 -- What carrying out a plan comes to, on the lent bytes, and what the plan must be. Assumes nothing.
-use Rattle.std.specs.Prelude.{ℕ, ◌≤◌, ◌≡◌, cond, List, [], map, length, eqb}
+use Rattle.std.specs.Prelude.{ℕ, ◌≤◌, cond, List, [], map, length, eqb}
 use Rattle.octets.specs.Bytes.{Bytes}
 use Rattle.octets.specs.Put.{put}
 use Rattle.packet.specs.declared.Ends.{Ends}
@@ -18,7 +18,7 @@ use Rattle.plan.specs.declared.Plan.{Plan}
 use Rattle.plan.specs.declared.Values.{Values}
 use Rattle.plan.specs.Steps.{stepped}
 use Rattle.plan.specs.Values.{values_of}
-use Rattle.plan.specs.Settling.{dropped_rows, settled_values}
+use Rattle.plan.specs.Settling.{dropped_rows}
 use Rattle.plan.specs.Parts.{changed, final_table}
 use Rattle.carry_packet.specs.Messages.{error_arguments, message}
 use Rattle.carry_workloads.specs.Reworked.{reworked_rows}

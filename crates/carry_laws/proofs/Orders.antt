@@ -3,14 +3,13 @@
 use Prim.Native.Nat.{ℕ, ◌<◌, zero-le}
 use mathlib.Core.Path.{◌≡◌, refl, sym, ap, ◌∙◌, subst}
 use mathlib.Core.Bool.{Bool, true}
-use mathlib.Core.Option.{Option, none, some}
+use Rattle.std.specs.Prelude.{Option, Some, None}
 use mathlib.Core.List.{List, [], ◌∷◌}
 use native.Mathlib.Omega.{arith}
 use lib.Dec.{T}
 use Rattle.octets.specs.Bytes.{Bytes}
 use Rattle.octets.proofs.Strings.{and_left}
 use Rattle.packet.specs.declared.Ends.{Ends}
-use Rattle.packet.specs.declared.Read.TheVariants as RV
 use Rattle.packet.specs.declared.Shape.{Shape}
 use Rattle.packet.specs.declared.Shape.TheVariants.{Handle, Echo}
 use Rattle.packet.specs.Layout as L
@@ -18,6 +17,7 @@ use Rattle.packet.specs.Layout.{request_shape, response_shape, rules_of}
 use Rattle.packet.specs.Arguments.{fits, fit_all}
 use Rattle.packet.specs.Packet.{given, read, requests}
 use Rattle.packet.specs.Answers.{answer_of, argument_at}
+use Rattle.packet.specs.Answers as PA
 use Rattle.packet_kinds.proofs.Tests.{bools, range_arm}
 use Rattle.packet_kinds.proofs.Shapes.{shapes}
 use Rattle.lists.proofs.Searches.{found}
@@ -68,7 +68,7 @@ module _ (x y z : Bytes) (k : ℕ) (low : k < 37) where
 
 -- ---- each order
 
-module _ (c : ℕ) (t : Table) (whole : Whole t) (p : Bytes) (places : Ends) (kind : ℕ) (came : answer_of (read requests p) ≡ RV.Packet kind places) where
+module _ (c : ℕ) (t : Table) (whole : Whole t) (p : Bytes) (places : Ends) (kind : ℕ) (came : answer_of (read requests p) ≡ PA.found kind places) where
   abbrev x : Bytes
   x = argument_at p places 0
 
@@ -84,7 +84,7 @@ module _ (c : ℕ) (t : Table) (whole : Whole t) (p : Bytes) (places : Ends) (ki
   abbrev Orders : Plan → Type 0
   Orders q = Orderly q.order t p places kind x
 
-  work_orders : (how : Work) (q : ℕ) → Forwards p places kind → Orders (plan_work (some q) how (values_of t))
+  work_orders : (how : Work) (q : ℕ) → Forwards p places kind → Orders (plan_work (Some q) how (values_of t))
   unfolding plan_work
   work_orders tells q f = f
   work_orders reports q f = f
@@ -101,9 +101,9 @@ module _ (c : ℕ) (t : Table) (whole : Whole t) (p : Bytes) (places : Ends) (ki
 
   status_orders : (o : Option ℕ) → job_of t x ≡ o → fits L.handle x ≡ true → Orders (plan_status o)
   unfolding has_handle
-  status_orders none e h = h
-  status_orders (some q) e h =
-      let w = found (λ j. has_handle t.hub x j.row) no_job t.jobs (some q) e in
+  status_orders None e h = h
+  status_orders (Some q) e h =
+      let w = found (λ j. has_handle t.hub x j.row) no_job t.jobs (Some q) e in
       (omega (arith, w.inside, whole.jobs), and_left (live (job_at t q).row) _ w.passes, h)
 
   -- ---- every order

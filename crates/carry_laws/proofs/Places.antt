@@ -3,7 +3,7 @@
 use Prim.Native.Nat.{ℕ, ◌≤◌, ◌<◌, zero-le}
 use mathlib.Core.Path.{◌≡◌}
 use mathlib.Core.Bool.{Bool, true, not, ◌&&◌}
-use mathlib.Core.Option.{Option, none, some}
+use Rattle.std.specs.Prelude.{Option, Some, None}
 use mathlib.Core.List.{List}
 use native.Mathlib.Omega.{arith}
 use borrow.Author.Tests.{leb-true}
@@ -48,26 +48,26 @@ digits_most least most x e = within_most least most (length x) (digits x) e
 -- ---- the places that the searches found
 
 module _ (c : ℕ) (t : Table) (whole : Whole t) where
-  room_place : (f : Bytes) (q : ℕ) → room_for t.functions f ≡ some q → q < function_count
+  room_place : (f : Bytes) (q : ℕ) → room_for t.functions f ≡ Some q → q < function_count
   room_place f q e = omega (arith, (room t f q e).inside, whole.functions)
 
-  known_place : (f : Bytes) (q : ℕ) → known t.functions f ≡ some q → q < function_count
-  known_place f q e = omega (arith, (found (λ x. same x.name f) no_function t.functions (some q) e).inside, whole.functions)
+  known_place : (f : Bytes) (q : ℕ) → known t.functions f ≡ Some q → q < function_count
+  known_place f q e = omega (arith, (found (λ x. same x.name f) no_function t.functions (Some q) e).inside, whole.functions)
 
-  free_place_lem : (p : ℕ) → free_place t ≡ some p → p < job_count
+  free_place_lem : (p : ℕ) → free_place t ≡ Some p → p < job_count
   unfolding free_row
-  free_place_lem p e = omega (arith, (found (λ r. not (live r)) no_row (rows_of t) (some p) e).inside, rows_long t, whole.jobs)
+  free_place_lem p e = omega (arith, (found (λ r. not (live r)) no_row (rows_of t) (Some p) e).inside, rows_long t, whole.jobs)
 
-  joined_place : (f u : Bytes) (p : ℕ) → joined t f u ≡ some p → p < job_count
+  joined_place : (f u : Bytes) (p : ℕ) → joined t f u ≡ Some p → p < job_count
   unfolding joined
-  joined_place f u p e = omega (arith, (found _ no_job t.jobs (some p) e).inside, whole.jobs)
+  joined_place f u p e = omega (arith, (found _ no_job t.jobs (Some p) e).inside, whole.jobs)
 
-  held_place : (h : Bytes) (p : ℕ) → held_job_of t c h ≡ some p → p < job_count
-  held_place h p e = omega (arith, (found (λ j. holds_handle t.hub c h j.row) no_job t.jobs (some p) e).inside, whole.jobs)
+  held_place : (h : Bytes) (p : ℕ) → held_job_of t c h ≡ Some p → p < job_count
+  held_place h p e = omega (arith, (found (λ j. holds_handle t.hub c h j.row) no_job t.jobs (Some p) e).inside, whole.jobs)
 
   -- ---- the step
 
-  work_inside : (how : Work) (h : Bytes) (p : ℕ) → held_job_of t c h ≡ some p → Inside (plan_work (some p) how (values_of t)).step
+  work_inside : (how : Work) (h : Bytes) (p : ℕ) → held_job_of t c h ≡ Some p → Inside (plan_work (Some p) how (values_of t)).step
   unfolding plan_work
   work_inside tells h p e = zero-le
   work_inside reports h p e = zero-le
@@ -75,8 +75,8 @@ module _ (c : ℕ) (t : Table) (whole : Whole t) where
   work_inside throws h p e = held_place h p e
 
   status_inside : (o : Option ℕ) → Inside (plan_status o).step
-  status_inside none = zero-le
-  status_inside (some p) = zero-le
+  status_inside None = zero-le
+  status_inside (Some p) = zero-le
 
   change_inside : c < connection_count → {a : Request} {ss : List Send} {u : Table} (m : Change c t a ss u) → Inside (plan_of c t m).step
   unfolding plan_can_do plan_cant_do plan_grab plan_join
@@ -108,7 +108,7 @@ module _ (w : Words) (c : ℕ) (t : Table) (whole : Whole t) (inside : c < conne
   abbrev Fits : Plan → Type 0
   Fits p = Fitting p.change w.first w.second w.third
 
-  work_fits : {how : Work} {n d : Bytes} (h : Bytes) → Says w how n d → Told how n d → (p : ℕ) → held_job_of t c h ≡ some p → Fits (plan_work (some p) how (values_of t))
+  work_fits : {how : Work} {n d : Bytes} (h : Bytes) → Says w how n d → Told how n d → (p : ℕ) → held_job_of t c h ≡ Some p → Fits (plan_work (Some p) how (values_of t))
   unfolding plan_work
   work_fits h (that_tells n d) g p e = zero-le
   work_fits h that_reports g p e = (held_place c t whole h p e, digits_most 1 10 w.second g.numerator, digits_most 1 10 w.third g.denominator)
@@ -116,8 +116,8 @@ module _ (w : Words) (c : ℕ) (t : Table) (whole : Whole t) (inside : c < conne
   work_fits h (that_throws n d) g p e = zero-le
 
   status_fits : (o : Option ℕ) → Fits (plan_status o)
-  status_fits none = zero-le
-  status_fits (some p) = zero-le
+  status_fits None = zero-le
+  status_fits (Some p) = zero-le
 
   change_fits : {a : Request} {ss : List Send} {u : Table} (m : Change c t a ss u) → Suits w a → Good a → Fits (plan_of c t m)
   unfolding plan_can_do plan_cant_do plan_grab plan_join

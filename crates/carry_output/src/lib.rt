@@ -18,7 +18,7 @@ ghost use Rattle.server.specs.Events.{to_wake_in};
 ghost use Rattle.carry_output.specs.Orderly.{Orderly};
 ghost use Rattle.carry_output.specs.Ordered.{answer_bytes, order_bytes};
 
-use packet::Ends;
+use carry_packet::Request;
 use plan::{Order, Values};
 use server::{
     CONNECTIONS, Connection, DENOMINATORS_AT, FUNCTIONS, JOBS, JobRow, NAME_SIZE, NAMES_AT,
@@ -83,16 +83,14 @@ pub fn send_order(
     c: u8,
     table: &[u8],
     workloads: &[u8],
-    kind: u32,
-    packet: &[u8],
-    ends: Ends,
+    request: Request,
     job: &[u8],
 ) -> usize
     requires { (is_sound connection_count table.now ≡ true) × (table_size connection_count ≤ length table.now) × (workloads_size ≤ length workloads.now)
-        × Orderly order (table_of connection_count table.now) packet.now ends kind job.now
-        × (length (order_bytes order c kind job.now packet.now table.now workloads.now) ≤ length output.old) }
-    ensures { (result ≡ length (order_bytes order c kind job.now packet.now table.now workloads.now))
-        × (output.new ≡ put 0 (order_bytes order c kind job.now packet.now table.now workloads.now) output.old) }
+        × Orderly order (table_of connection_count table.now) request.bytes.now request.ends request.kind job.now
+        × (length (order_bytes order c request.kind job.now request.bytes.now table.now workloads.now) ≤ length output.old) }
+    ensures { (result ≡ length (order_bytes order c request.entry.kind job.now request.entry.bytes.now table.now workloads.now))
+        × (output.new ≡ put 0 (order_bytes order c request.entry.kind job.now request.entry.bytes.now table.now workloads.now) output.old) }
 {
     match order {
         Order::Nothing => 0,
@@ -101,12 +99,27 @@ pub fn send_order(
         }
         Order::NoJob => carry_packet::send_empty(output, 0, c, 10),
         Order::Assign { uniq, place } => send_job(output, c, uniq, place, table, workloads),
-        Order::Copies { to } => carry_several::forward_all(output, 0, to, kind, packet, ends),
+        Order::Copies { to } => carry_several::forward_all(
+            output,
+            0,
+            to,
+            request.kind,
+            request.data(),
+        ),
         Order::Told { to, heard, serial } => {
             let hub = table_texts::hub_of(table);
-            carry_several::tell_all(output, 0, to, heard, kind, packet, ends, hub, serial)
+            carry_several::tell_all(
+                output,
+                0,
+                to,
+                heard,
+                request.kind,
+                request.data(),
+                hub,
+                serial,
+            )
         }
-        Order::Echo => carry_packet::forward(output, 0, c, 17, packet, ends),
+        Order::Echo => carry_packet::forward(output, 0, c, 17, request),
         Order::Status { place } => send_progress(output, c, place, table, job),
         Order::Unknown => carry_packet::send_status(output, 0, c, job, false, false, b"0", b"0"),
         Order::Optioned => carry_packet::send_option(output, 0, c),
@@ -133,20 +146,15 @@ pub fn answer(
     c: u8,
     table: &[u8],
     workloads: &[u8],
-    kind: u32,
-    packet: &[u8],
-    ends: Ends,
+    request: Request,
     job: &[u8],
 ) -> usize
     requires { (is_sound connection_count table.now ≡ true) × (table_size connection_count ≤ length table.now) × (workloads_size ≤ length workloads.now)
-        × Orderly order (table_of connection_count table.now) packet.now ends kind job.now
-        × (length (answer_bytes order v c kind job.now packet.now table.now workloads.now) ≤ length output.old) }
-    ensures { (result ≡ length (answer_bytes order v c kind job.now packet.now table.now workloads.now))
-        × (output.new ≡ put 0 (answer_bytes order v c kind job.now packet.now table.now workloads.now) output.old) }
+        × Orderly order (table_of connection_count table.now) request.bytes.now request.ends request.kind job.now
+        × (length (answer_bytes order v c request.kind job.now request.bytes.now table.now workloads.now) ≤ length output.old) }
+    ensures { (result ≡ length (answer_bytes order v c request.entry.kind job.now request.entry.bytes.now table.now workloads.now))
+        × (output.new ≡ put 0 (answer_bytes order v c request.entry.kind job.now request.entry.bytes.now table.now workloads.now) output.old) }
 {
-    let at = send_order(output, order, c, table, workloads, kind, packet, ends, job);
-    let connections = v.connections;
-    let able = v.able;
-    let after = v.rows;
-    carry_several::wake_all(output, at, waking(connections, able, after))
+    let at = send_order(output, order, c, table, workloads, request, job);
+    carry_several::wake_all(output, at, waking(v.connections, v.able, v.rows))
 }

@@ -14,10 +14,9 @@ use Rattle.packet.specs.declared.Shape.{Shape}
 use Rattle.packet.specs.declared.Shape.TheVariants.{Foreign}
 use Rattle.packet.specs.Layout.{is_own, request_shape, response_shape, rules_of, served}
 use Rattle.octets.proofs.Strings.{and_left, and_right}
-use Rattle.packet.specs.declared.Read.TheVariants as RV
 use Rattle.packet.specs.Arguments.{fit_all, join}
 use Rattle.packet.specs.Packet.{given, read, requests}
-use Rattle.packet.specs.Answers.{answer_of, argument_at}
+use Rattle.packet.specs.Answers.{answer_of, argument_at, found}
 use Rattle.packet_laws.proofs.Splitting.{split_join, fit_length}
 use Rattle.packet_laws.proofs.Packets.{Headed, header_good, Got, read_got}
 use Rattle.packet_laws.proofs.Answers.{read_answer}
@@ -29,7 +28,7 @@ use Rattle.carry_packet.specs.Messages.{Sendable, Forwards}
 
 -- ---- which packets may be forwarded
 
-pub read_forwards : (p : Bytes) (ends : Ends) (k kind : ℕ) → answer_of (read requests p) ≡ RV.Packet k ends → response_shape kind ≡ request_shape k → Forwards p ends kind
+pub read_forwards : (p : Bytes) (ends : Ends) (k kind : ℕ) → answer_of (read requests p) ≡ found k ends → response_shape kind ≡ request_shape k → Forwards p ends kind
 read_forwards p ends k kind e a =
     let r = read_answer (read requests p) k ends e in
     record { from = k; arguments = r.0; reads = r.1; marked = r.2; alike = a }
@@ -40,7 +39,7 @@ unfolding request_shape
 below_served k true e o = ltb-true k 37 e
 below_served k false e o = let z : ◌≡◌ {A = ℕ} 0 1 = cc (get_or-eq_default served Foreign (ltb-false k 37 e)) in absurd (omega arith)
 
-pub served_below : (p : Bytes) (ends : Ends) (k : ℕ) → answer_of (read requests p) ≡ RV.Packet k ends → k < 37
+pub served_below : (p : Bytes) (ends : Ends) (k : ℕ) → answer_of (read requests p) ≡ found k ends → k < 37
 served_below p ends k e =
     let r = read_answer (read requests p) k ends e in
     below_served k (ltb k 37) refl (read_got requests p k r.0 r.1).own
@@ -68,7 +67,7 @@ module _ (a b c : Bytes) where
   unfolding told told_row requested response_shape request_shape
   told_all k h = sym (range_arm bools told_row [] 0 37 tt k tt zero-le h)
 
-  pub work_forwards : (p : Bytes) (ends : Ends) (k kind : ℕ) (how : Work) (h n d : Bytes) → answer_of (read requests p) ≡ RV.Packet k ends
+  pub work_forwards : (p : Bytes) (ends : Ends) (k kind : ℕ) (how : Work) (h n d : Bytes) → answer_of (read requests p) ≡ found k ends
       → requested k a b c ≡ work how kind h n d → Forwards p ends kind
   unfolding told told_row
   work_forwards p ends k kind how h n d e w =
@@ -110,6 +109,10 @@ module _ (p : Bytes) (ends : Ends) (kind : ℕ) (f : Forwards p ends kind) where
   forward_short =
       let h : Headed requests.magic requests.most p = header_good _ _ p got_it.headed in
       rw length-drop (omega (arith, h.limited, h.whole))
+
+  -- its length can be said in a header
+  pub forward_limited : length (drop 12 p) < 4294967296
+  forward_limited = omega (arith, forward_short)
 
   pub forward_sendable : Sendable kind f.arguments
   forward_sendable = record { own = rw f.alike got_it.own; fit = forward_fit; limited = rw forward_data forward_short }

@@ -5,6 +5,7 @@
 ghost use Rattle.std.specs.Prelude.{◌≡◌, [], ◌∷◌, cond, true, ◌+◌, ◌^◌, ◌≤◌, ◌<◌, drop, length};
 ghost use Rattle.octets.specs.Put.{put};
 ghost use Rattle.packet.specs.Layout as L;
+ghost use Rattle.packet.specs.Answers.{argument_at};
 ghost use Rattle.packet.specs.Arguments.{fits, join};
 ghost use Rattle.handle.specs.Handle.{is_hub_name, padded};
 ghost use Rattle.server.specs.Refusals.{error_text, is_told, last_number};
@@ -12,7 +13,33 @@ ghost use Rattle.carry_packet.specs.Messages.{Forwards, Sendable, assign_argumen
 
 use packet::Ends;
 
-// The texts of the refusals by number, each followed by zeros; nothing but zeros where nothing is written.
+// A packet that was read: its type, its bytes, and where its arguments end.
+#[derive(Clone, Copy)]
+pub struct Request<'a> {
+    pub kind: u32,
+    pub bytes: &'a [u8],
+    pub ends: Ends,
+}
+
+impl<'a> Request<'a> {
+    // Argument `i`, counted from 0; empty, where there is none.
+    pub fn argument(self, i: usize) -> &'a [u8]
+        ensures { result.now ≡ argument_at self.entry.bytes.now self.entry.ends i }
+    {
+        packet_read::argument(self.bytes, self.ends, i)
+    }
+
+    // Its data: what lies behind the header.
+    pub fn data(self) -> &'a [u8]
+        requires { 12 ≤ length self.bytes.now }
+        ensures { result.now ≡ drop 12 self.entry.bytes.now }
+    {
+        &self.bytes[12..]
+    }
+}
+
+// The texts of the refusals by number, one table as the definition `refusal_texts` is: each followed by zeros, and nothing but zeros where
+// nothing is written.
 const TEXTS: [[u8; 9]; 16] = [
     [0; 9],
     [0; 9],
@@ -81,8 +108,7 @@ pub fn is_told(number: u8) -> bool
     requires { number ≤ last_number }
     ensures { result ≡ is_told number }
 {
-    let text = error_text(number);
-    text[0] != 0
+    error_text(number)[0] != 0
 }
 
 // Lays ERROR: the number of a refusal in two digits, and its text.
@@ -90,7 +116,7 @@ pub fn send_error(out: &mut [u8], at: usize, to: u8, number: u8) -> usize
     requires { (number ≤ last_number) × (at + length (message to 19 (join (error_arguments number))) ≤ length out.old) }
     ensures { (result ≡ at + length (message to 19 (join (error_arguments number)))) × (out.new ≡ put at (message to 19 (join (error_arguments number))) out.old) }
 {
-    let digits = [number / 10 + 48, number % 10 + 48];
+    let digits = [number / 10 + b'0', number % 10 + b'0'];
     let text = error_text(number);
     let size = octets::first_zero(&text);
     let start = put_heading(out, at, to, 19, 3 + size);
@@ -121,10 +147,7 @@ pub fn send_option(out: &mut [u8], at: usize, to: u8) -> usize
 fn flag(yes: bool) -> u8
     ensures { result ≡ cond yes 49 48 }
 {
-    if yes {
-        return 49;
-    }
-    48
+    if yes { b'1' } else { b'0' }
 }
 
 // Lays STATUS_RES: the handle as asked, whether the job is known and running, and two numbers.
@@ -213,15 +236,16 @@ pub fn send_assign(
     let text = handle.text;
     let job = &text[..handle.length];
     if uniq {
-        return assign_uniq(out, at, to, job, function, unique, workload);
+        assign_uniq(out, at, to, job, function, unique, workload)
+    } else {
+        assign(out, at, to, job, function, workload)
     }
-    assign(out, at, to, job, function, workload)
 }
 
-// Lays the data of a packet that was read, as it came, in a response of this type.
-pub fn forward(out: &mut [u8], at: usize, to: u8, kind: u32, packet: &[u8], ends: Ends) -> usize
-    requires { Forwards packet.now ends kind × (at + length (message to kind (drop 12 packet.now)) ≤ length out.old) }
-    ensures { (result ≡ at + length (message to kind (drop 12 packet.now))) × (out.new ≡ put at (message to kind (drop 12 packet.now)) out.old) }
+// Lays the data of a request that was read, as it came, in a response of this type.
+pub fn forward(out: &mut [u8], at: usize, to: u8, kind: u32, request: Request) -> usize
+    requires { Forwards request.bytes.now request.ends kind × (at + length (message to kind (drop 12 request.bytes.now)) ≤ length out.old) }
+    ensures { (result ≡ at + length (message to kind (drop 12 request.entry.bytes.now))) × (out.new ≡ put at (message to kind (drop 12 request.entry.bytes.now)) out.old) }
 {
-    send(out, at, to, kind, &packet[12..])
+    send(out, at, to, kind, request.data())
 }

@@ -6,6 +6,7 @@ use mathlib.Core.Bool.{Bool, true, false, cond}
 use mathlib.Core.List.{List, [], ◌∷◌}
 use lib.ListN.{length, set}
 use mir.Val.{bool_byte}
+use native.Mathlib.Omega.{arith}
 use Rattle.octets.specs.Bytes.{Bytes}
 use Rattle.octets.specs.Put.{put}
 use Rattle.octets.proofs.Laying.{put_one}
@@ -45,9 +46,9 @@ module _ (t : Table) (w : Whole t) where
 
 -- ---- one byte
 
-pub byte_put : (b : Bytes) (at x w : ℕ) → w ≡ x → set b at (w % 256) ≡ put at (little 1 x) b
+pub byte_put : (b : Bytes) (at x : ℕ) → x < 256 → set b at x ≡ put at (little 1 x) b
 unfolding little
-byte_put b at x w e = put_one at (w % 256) b ∙ ap (λ (y : ℕ). put at ((y % 256) ∷ []) b) e
+byte_put b at x h = let e : x ≡ x % 256 = omega arith in put_one at x b ∙ ap (λ (y : ℕ). put at (y ∷ []) b) e
 
 pub flag_put : (b : Bytes) (at : ℕ) (x : Bool) → set b at (bool_byte x) ≡ put at (flag_byte x) b
 flag_put b at true = put_one at 1 b

@@ -27,7 +27,7 @@ fn put_byte(table: &mut [u8], at: usize, x: u8)
     requires { at < length table.old }
     ensures { table.new ≡ put at (little 1 x) table.old }
 {
-    table[at] = (octets::wide(x) % 256) as u8;
+    table[at] = x;
 }
 
 // One flag.
@@ -104,9 +104,9 @@ fn put_job(table: &mut [u8], p: usize, row: JobRow)
 {
     if row.serial == 0 {
         put_free(table, p);
-        return;
+    } else {
+        put_row(table, p, row);
     }
-    put_row(table, p, row);
 }
 
 // All jobs.
@@ -114,11 +114,8 @@ fn put_jobs(table: &mut [u8], rows: [JobRow; JOBS])
     requires { table_size connection_count ≤ length table.old }
     ensures { table.new ≡ laid_jobs rows table.old }
 {
-    let mut p = 0;
-    while p < JOBS {
-        let row = rows[p];
-        put_job(table, p, row);
-        p += 1;
+    for p in 0..JOBS {
+        put_job(table, p, rows[p]);
     }
 }
 
@@ -148,9 +145,9 @@ fn put_function(table: &mut [u8], q: usize, wanted: bool, set: u32)
 {
     if wanted {
         table_little::put4(table, ABLE_AT + 4 * q, set);
-        return;
+    } else {
+        put_forgotten(table, q);
     }
-    put_forgotten(table, q);
 }
 
 // All functions.
@@ -158,12 +155,8 @@ fn put_functions(table: &mut [u8], wanted: [bool; FUNCTIONS], able: [u32; FUNCTI
     requires { table_size connection_count ≤ length table.old }
     ensures { table.new ≡ laid_functions wanted able table.old }
 {
-    let mut q = 0;
-    while q < FUNCTIONS {
-        let mark = wanted[q];
-        let set = able[q];
-        put_function(table, q, mark, set);
-        q += 1;
+    for q in 0..FUNCTIONS {
+        put_function(table, q, wanted[q], able[q]);
     }
 }
 
@@ -192,11 +185,8 @@ fn put_connections(table: &mut [u8], connections: [Connection; CONNECTIONS])
     requires { table_size connection_count ≤ length table.old }
     ensures { table.new ≡ laid_connections connections table.old }
 {
-    let mut c = 0;
-    while c < CONNECTIONS {
-        let x = connections[c];
-        put_flags(table, c, x);
-        c += 1;
+    for c in 0..CONNECTIONS {
+        put_flags(table, c, connections[c]);
     }
 }
 
@@ -230,11 +220,8 @@ fn reset_held(table: &mut [u8], c: usize)
     ensures { table.new ≡ laid_returned c (rows_of (table_of connection_count table.old)) table.old }
 {
     let rows = table_rows::read_rows(table);
-    let mut p = 0;
-    while p < JOBS {
-        let row = rows[p];
-        put_zeros(table, p, row, c);
-        p += 1;
+    for p in 0..JOBS {
+        put_zeros(table, p, rows[p], c);
     }
 }
 

@@ -1,18 +1,16 @@
 -- One packet to each member of a set, in rising order: what one turn of the loop over the connections adds. Assumes nothing.
 use Prim.Native.Nat.{ℕ, zero, suc, ◌+◌, ◌-◌, ◌/◌, ◌^◌, ◌<◌, ◌≤◌}
 use mathlib.Core.Path.{◌≡◌, refl, ap, ◌∙◌, sym}
-use mathlib.Core.Bool.{Bool, true, false, not, cond, ◌&&◌}
+use mathlib.Core.Bool.{Bool, true, false, not, cond}
 use mathlib.Core.List.{List, [], ◌∷◌, ◌++◌, append-nil, append_assoc}
 use native.Mathlib.Nat.{add-zero, zero-div}
 use native.Mathlib.Numerals.{add-one}
 use native.Mathlib.Omega.{arith}
-use borrow.Author.Tests.{ltb-true, ltb-false, not-true, not-false}
-use lib.Dec.{ltb}
+use borrow.Author.Tests.{not-true, not-false}
 use lib.Pow.{shr-shr}
 use lib.ListN.{length, length-append}
 use Rattle.octets.specs.Bytes.{Bytes}
 use Rattle.octets.specs.Put.{put}
-use Rattle.octets.proofs.Strings.{and_left}
 use Rattle.octets.proofs.Laying.{put_none, put_put}
 use Rattle.sets.specs.Sets.{has, members}
 use Rattle.sets.proofs.Members.{map_members}
@@ -20,10 +18,6 @@ use Rattle.lists.specs.Lists.{concat}
 use Rattle.server.specs.Sizes.{connection_count}
 use Rattle.carry_packet.specs.Messages.{message}
 use Rattle.carry_several.specs.Several.{messages, message_if, told_message, told_messages}
-
--- the loop's test finds more only below the number of connections
-pub turn_below : (s c : ℕ) (b : Bool) → b ≡ ltb c connection_count && ltb 0 (s / 2 ^ c) → b ≡ true → c < connection_count
-turn_below s c b e t = ltb-true c connection_count (and_left (ltb c connection_count) (ltb 0 (s / 2 ^ c)) (sym e ∙ t))
 
 module _ (s heard kind : ℕ) (d failed : Bytes) where
   abbrev one : ℕ → Bytes
@@ -70,16 +64,9 @@ module _ (s heard kind : ℕ) (d failed : Bytes) where
       let r : one (c + k) ≡ [] = rw (lacks c k e) in
       below_same c k e ∙ rw (q, below_more (c + k), r) (sym (append-nil (below (c + k))))
 
-  -- where it finds no more, all are behind
-  all_below : (c : ℕ) → c ≤ connection_count → (b : Bool) → b ≡ ltb c connection_count && ltb 0 (s / 2 ^ c) → b ≡ false → below c ≡ below connection_count
-  all_below c h b e n = by_test (ltb c connection_count) refl
-    where
-      by_test : (t : Bool) → ltb c connection_count ≡ t → below c ≡ below connection_count
-      by_test true t =
-          let z : ltb 0 (s / 2 ^ c) ≡ false = ap (λ (x : Bool). x && ltb 0 (s / 2 ^ c)) (sym t) ∙ sym e ∙ n in
-          let q : c + (connection_count - c) ≡ connection_count = omega arith in
-          rw q at (below_same c (connection_count - c) (omega (arith, ltb-false 0 (s / 2 ^ c) z)))
-      by_test false t = let q : c ≡ connection_count = omega (arith, ltb-false c connection_count t) in rw q
+  -- then all of it are behind
+  pub all_below : (c : ℕ) → c ≤ connection_count → s / 2 ^ c ≡ 0 → below c ≡ below connection_count
+  all_below c h e = let q : c + (connection_count - c) ≡ connection_count = omega arith in rw q at (below_same c (connection_count - c) e)
 
   -- ---- one connection, in or not in the set
 
@@ -123,13 +110,6 @@ module _ (s heard kind : ℕ) (d failed : Bytes) where
 
       pub turn_laid : (o p : Bytes) → o ≡ put at (below c) out → p ≡ put place (one c) o → p ≡ put at (below (c + 1)) out
       turn_laid o p eo e = rw (e, eo, ep, add-one c, below_more c) (put_put at (below c) (one c) out)
-
-    module _ (c : ℕ) (h : c ≤ connection_count) (b : Bool) (e : b ≡ ltb c connection_count && ltb 0 (s / 2 ^ c)) (n : b ≡ false) where
-      pub end_place : (r : ℕ) → r ≡ at + length (below c) → r ≡ at + length (below connection_count)
-      end_place r p = p ∙ ap (λ (x : Bytes). at + length x) (all_below c h b e n)
-
-      pub end_laid : (o : Bytes) → o ≡ put at (below c) out → o ≡ put at (below connection_count) out
-      end_laid o p = p ∙ ap (λ (x : Bytes). put at x out) (all_below c h b e n)
 
 -- ---- all hear it
 

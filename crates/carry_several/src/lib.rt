@@ -3,16 +3,15 @@
 // callers see to the arguments and to the room, and nothing is refused.
 #![tactic(auto)]
 
-ghost use Rattle.std.specs.Prelude.{◌≡◌, [], true, ◌&&◌, ◌+◌, ◌/◌, ◌^◌, ◌≤◌, ◌<◌, ltb, drop, length};
+ghost use Rattle.std.specs.Prelude.{◌≡◌, [], true, ◌+◌, ◌^◌, ◌≤◌, ◌<◌, length};
 ghost use Rattle.octets.specs.Put.{put};
 ghost use Rattle.packet.specs.Arguments.{join};
 ghost use Rattle.sets.specs.Sets.{members};
 ghost use Rattle.handle.specs.Handle.{is_hub_name};
 ghost use Rattle.server.specs.Sizes.{connection_count};
-ghost use Rattle.carry_packet.specs.Messages.{Forwards, handle_arguments};
+ghost use Rattle.carry_packet.specs.Messages.{handle_arguments};
 ghost use Rattle.carry_several.specs.Several.{message_if, messages, told_messages};
 
-use packet::Ends;
 use server::CONNECTIONS;
 
 // Lays a response with this data for a connection that hears it, and WORK_FAIL for one that does not; nothing, if it is not in the set.
@@ -30,22 +29,12 @@ fn send_if(
     ensures { (result ≡ at + length (message_if set heard kind d.now failed.now c)) × (out.new ≡ put at (message_if set heard kind d.now failed.now c) out.old) }
 {
     if !sets::has(set, c) {
-        return at;
+        at
+    } else if sets::has(heard, c) {
+        carry_packet::send(out, at, c as u8, kind, d)
+    } else {
+        carry_packet::send(out, at, c as u8, 14, failed)
     }
-    if sets::has(heard, c) {
-        return carry_packet::send(out, at, c as u8, kind, d);
-    }
-    carry_packet::send(out, at, c as u8, 14, failed)
-}
-
-// Whether there is more to look at: there is a connection `c`, and the set is not empty from it on.
-fn has_more(set: u32, c: usize) -> bool
-    ensures { result ≡ ltb c connection_count && ltb 0 (set / 2 ^ c) }
-{
-    if CONNECTIONS <= c {
-        return false;
-    }
-    0 < set >> c
 }
 
 // Lays one packet for each connection of the set, in rising order; none is looked for behind the last. Where all of the set hear, heard
@@ -64,27 +53,21 @@ fn send_all(
         × (out.new ≡ put at (told_messages (members connection_count to) heard kind d.now failed.now) out.old) }
 {
     let mut place = at;
-    let mut listener: usize = 0;
-    while has_more(to, listener) {
+    for listener in 0..CONNECTIONS {
+        if to >> listener == 0 {
+            break;
+        }
         place = send_if(out, place, to, heard, listener, kind, d, failed);
-        listener += 1;
     }
     place
 }
 
 // Lays a copy of a packet's data for each connection of the set, in rising order.
-pub fn forward_all(
-    out: &mut [u8],
-    at: usize,
-    to: u32,
-    kind: u32,
-    packet: &[u8],
-    ends: Ends,
-) -> usize
-    requires { Forwards packet.now ends kind × (at + length (messages (members connection_count to) kind (drop 12 packet.now)) ≤ length out.old) }
-    ensures { (result ≡ at + length (messages (members connection_count to) kind (drop 12 packet.now))) × (out.new ≡ put at (messages (members connection_count to) kind (drop 12 packet.now)) out.old) }
+pub fn forward_all(out: &mut [u8], at: usize, to: u32, kind: u32, d: &[u8]) -> usize
+    requires { (length d.now < 2 ^ 32) × (at + length (messages (members connection_count to) kind d.now) ≤ length out.old) }
+    ensures { (result ≡ at + length (messages (members connection_count to) kind d.now)) × (out.new ≡ put at (messages (members connection_count to) kind d.now) out.old) }
 {
-    send_all(out, at, to, to, kind, &packet[12..], b"")
+    send_all(out, at, to, to, kind, d, b"")
 }
 
 // Lays a copy of a packet's data for each connection of the set that hears it, and WORK_FAIL with the handle of a serial at the hub of this
@@ -95,27 +78,18 @@ pub fn tell_all(
     to: u32,
     heard: u32,
     kind: u32,
-    packet: &[u8],
-    ends: Ends,
+    d: &[u8],
     hub: &[u8],
     serial: u32,
 ) -> usize
-    requires { (is_hub_name hub.now ≡ true) × Forwards packet.now ends kind
-        × (at + length (told_messages (members connection_count to) heard kind (drop 12 packet.now) (join (handle_arguments hub.now serial))) ≤ length out.old) }
-    ensures { (result ≡ at + length (told_messages (members connection_count to) heard kind (drop 12 packet.now) (join (handle_arguments hub.now serial))))
-        × (out.new ≡ put at (told_messages (members connection_count to) heard kind (drop 12 packet.now) (join (handle_arguments hub.now serial))) out.old) }
+    requires { (is_hub_name hub.now ≡ true) × (length d.now < 2 ^ 32)
+        × (at + length (told_messages (members connection_count to) heard kind d.now (join (handle_arguments hub.now serial))) ≤ length out.old) }
+    ensures { (result ≡ at + length (told_messages (members connection_count to) heard kind d.now (join (handle_arguments hub.now serial))))
+        × (out.new ≡ put at (told_messages (members connection_count to) heard kind d.now (join (handle_arguments hub.now serial))) out.old) }
 {
     let failed = handle::handle_of(hub, serial);
     let text = failed.text;
-    send_all(
-        out,
-        at,
-        to,
-        heard,
-        kind,
-        &packet[12..],
-        &text[..failed.length],
-    )
+    send_all(out, at, to, heard, kind, d, &text[..failed.length])
 }
 
 // Lays a NOOP for each connection of the set, in rising order.

@@ -1,5 +1,6 @@
 -- A lean step and its ending laid over the bytes of a table: the bytes of the table that both leave. Assumes nothing.
 use Prim.Native.Nat.{ℕ, ◌+◌, ◌<◌}
+use Rattle.std.specs.Prelude.{Option, Some, None}
 use mathlib.Core.Path.{◌≡◌, refl, sym, ap, ◌∙◌, subst}
 use mathlib.Core.Bool.{Bool, true, false, cond}
 use mathlib.Core.List.{List}
@@ -19,8 +20,6 @@ use Rattle.server.specs.Table.{Table, closed, no_job, connection_at, job_at, set
 use Rattle.lists.proofs.Rows.{length_map_from, set_own}
 use Rattle.table_laws.proofs.Puts.{put_able, put_asleep, put_last}
 use Rattle.plan.specs.declared.Change as C'
-use Rattle.lists.specs.declared.Place.{Place}
-use Rattle.lists.specs.declared.Place.TheVariants.{At, Nowhere}
 use Rattle.plan.specs.Values.{values_of}
 use Rattle.plan.specs.Parts.{changed, final_table}
 use Rattle.carry_places.specs.Laying.{laid_row, laid_each}
@@ -83,10 +82,10 @@ module _ (s : ℕ) where
       each_laid (laid_if_woken s) (each_connection roused) connection_count b (λ c u v h. woken_laid u v b c h) (connection_whole roused) 0 connection_count t w (omega arith)
       ∙ ap (λ (u : Table). put 0 (bytes_of u) b) (all_connections roused connection_count t w.connections)
 
-without_laid : (o : Place) (t : Table) → Whole t → (b : Bytes) → Within function_count o → laid_without o (put 0 (bytes_of t) b)
+without_laid : (o : Option ℕ) (t : Table) → Whole t → (b : Bytes) → Within function_count o → laid_without o (put 0 (bytes_of t) b)
     ≡ put 0 (bytes_of (with_functions (without o t.functions) t)) b
-without_laid Nowhere t w b i = refl
-without_laid (At q) t w b i = forgotten_laid t w b q i
+without_laid None t w b i = refl
+without_laid (Some q) t w b i = forgotten_laid t w b q i
 
 -- an ending laid is the ending on the table
 ending_laid : (e : Ending) (t : Table) → Whole t → (b : Bytes) → Within function_count e.forgotten → laid_ending e (put 0 (bytes_of t) b) ≡ put 0 (bytes_of (ended e t)) b

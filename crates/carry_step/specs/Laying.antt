@@ -1,16 +1,10 @@
 -- The fields of one row, one connection, of a step and of an ending, laid over the bytes of the product's table. Assumes nothing.
-use Rattle.std.specs.Prelude.{ℕ, zero, suc, ◌+◌, ◌*◌, false, cond, []}
+use Rattle.std.specs.Prelude.{ℕ, ◌+◌, ◌*◌, false, cond, Option, Some, None}
 use Rattle.octets.specs.Bytes.{Bytes}
 use Rattle.octets.specs.Put.{put}
 use Rattle.sets.specs.Sets.{has}
-use Rattle.server.specs.declared.Connection.{Connection}
-use Rattle.server.specs.declared.JobRow.{JobRow}
-use Rattle.lists.specs.Lists.{fit}
 use Rattle.server.specs.Sizes.{connection_count}
 use Rattle.server.specs.Layout.{little, flag_byte, last_at, able_at, asleep_at}
-use Rattle.server.specs.Table.{no_row}
-use Rattle.lists.specs.declared.Place.{Place}
-use Rattle.lists.specs.declared.Place.TheVariants.{At, Nowhere}
 use Rattle.carry_places.specs.Laying.{laid_row, laid_free, laid_flags, laid_forgotten, laid_each}
 use Rattle.plan.specs.declared.Step as S'
 use Rattle.plan.specs.declared.Step.TheVariants as SV
@@ -36,9 +30,9 @@ laid_step (SV.Leave c) b = b
 abbrev pub laid_if_woken : ℕ → ℕ → Bytes → Bytes
 laid_if_woken s c b = cond (has s c) (put (asleep_at connection_count + c) (flag_byte false) b) b
 
-abbrev pub laid_without : Place → Bytes → Bytes
-laid_without Nowhere b = b
-laid_without (At q) b = laid_forgotten q b
+abbrev pub laid_without : Option ℕ → Bytes → Bytes
+laid_without None b = b
+laid_without (Some q) b = laid_forgotten q b
 
 unfoldable pub laid_ending : Ending → Bytes → Bytes
 laid_ending e b = laid_without e.forgotten (laid_each (laid_if_woken e.woken) 0 connection_count b)

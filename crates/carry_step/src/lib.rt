@@ -18,7 +18,6 @@ ghost use Rattle.plan.specs.Steps as S;
 ghost use Rattle.carry_places.specs.Laying.{laid_each, laid_flags, laid_row};
 ghost use Rattle.carry_step.specs.Laying.{laid_ending, laid_if_woken, laid_step};
 
-use lists::Place;
 use plan::{Change, Ending, Step};
 use server::{ABLE_AT, ASLEEP_AT, CONNECTIONS, Connection, JobRow, LAST_AT};
 
@@ -43,13 +42,13 @@ fn put_new(table: &mut [u8], p: usize, row: JobRow)
 }
 
 // A lean step.
-#[tactic(auto, using(crate::proofs::Ends::ended_inside))]
+#[tactic(auto, using(crate::proofs::Ends::ended_inside), unfolding(crate::specs::Laying::laid_step))]
 fn put_step(table: &mut [u8], step: Step)
     requires { (table_size connection_count ≤ length table.old) × Inside step }
     ensures { table.new ≡ laid_step step table.old }
 {
     match step {
-        Step::Nothing => {}
+        Step::Nothing | Step::Reset { .. } | Step::Leave { .. } => {}
         Step::Row { place, row } => carry_places::put_row(table, place, row),
         Step::End { place } => carry_places::put_free(table, place),
         Step::Grab {
@@ -61,8 +60,6 @@ fn put_step(table: &mut [u8], step: Step)
         Step::New { place, row } => put_new(table, place, row),
         Step::Flags { connection, flags } => carry_places::put_flags(table, connection, flags),
         Step::Able { function, set } => table_little::put4(table, ABLE_AT + 4 * function, set),
-        Step::Reset { connection } => {}
-        Step::Leave { connection } => {}
     }
 }
 
@@ -83,13 +80,10 @@ fn put_awake(table: &mut [u8], woken: u32)
     requires { table_size connection_count ≤ length table.old }
     ensures { table.new ≡ laid_each (laid_if_woken woken) 0 connection_count table.old }
 {
-    if woken == 0 {
-        return;
-    }
-    let mut c = 0;
-    while c < CONNECTIONS {
-        put_if_woken(table, woken, c);
-        c += 1;
+    if woken != 0 {
+        for c in 0..CONNECTIONS {
+            put_if_woken(table, woken, c);
+        }
     }
 }
 
@@ -99,10 +93,8 @@ fn put_ending(table: &mut [u8], ending: Ending)
     ensures { table.new ≡ laid_ending ending table.old }
 {
     put_awake(table, ending.woken);
-    let place = ending.forgotten;
-    match place {
-        Place::Nowhere => {}
-        Place::At(q) => carry_places::put_forgotten(table, q),
+    if let Some(q) = ending.forgotten {
+        carry_places::put_forgotten(table, q);
     }
 }
 
@@ -146,19 +138,14 @@ pub fn rework(workloads: &mut [u8], table: &[u8], step: Step, opaque: &[u8])
         opaque.now (map (place_of workloads.old) (numbers 0 job_count)))) workloads.old }
 {
     match step {
-        Step::Nothing => {}
-        Step::Row { place, row } => rework_row(workloads, table, place, row, opaque),
+        Step::Row { place, row } | Step::Grab { place, row, .. } | Step::New { place, row } => {
+            rework_row(workloads, table, place, row, opaque)
+        }
         Step::End { place } => rework_row(workloads, table, place, server::no_row(), opaque),
-        Step::Grab {
-            place,
-            row,
-            connection,
-            flags,
-        } => rework_row(workloads, table, place, row, opaque),
-        Step::New { place, row } => rework_row(workloads, table, place, row, opaque),
-        Step::Flags { connection, flags } => {}
-        Step::Able { function, set } => {}
-        Step::Reset { connection } => {}
-        Step::Leave { connection } => {}
+        Step::Nothing
+        | Step::Flags { .. }
+        | Step::Able { .. }
+        | Step::Reset { .. }
+        | Step::Leave { .. } => {}
     }
 }

@@ -19,14 +19,10 @@ pub fn rework_place(workloads: &mut [u8], place: usize, before: u32, after: u32,
     ensures { workloads.new ≡ cond (eqb before after) workloads.old
         (put (workload_size * place) (fit workload_size (cond (eqb after 0) [] opaque.now)) workloads.old) }
 {
-    if before == after {
-        return;
+    if before != after {
+        let workload: &[u8] = if after == 0 { b"" } else { opaque };
+        table_texts::put_text(workloads, WORKLOAD_SIZE * place, WORKLOAD_SIZE, workload);
     }
-    if after == 0 {
-        table_texts::put_text(workloads, WORKLOAD_SIZE * place, WORKLOAD_SIZE, b"");
-        return;
-    }
-    table_texts::put_text(workloads, WORKLOAD_SIZE * place, WORKLOAD_SIZE, opaque);
 }
 
 // All places, from the jobs' rows before the event and after it.
@@ -35,11 +31,7 @@ pub fn rework(workloads: &mut [u8], before: [JobRow; JOBS], after: [JobRow; JOBS
     ensures { workloads.new ≡ put 0 (concat (reworked_rows before after opaque.now
         (map (place_of workloads.old) (numbers 0 job_count)))) workloads.old }
 {
-    let mut i = 0;
-    while i < JOBS {
-        let job = before[i];
-        let next = after[i];
-        rework_place(workloads, i, job.serial, next.serial, opaque);
-        i += 1;
+    for i in 0..JOBS {
+        rework_place(workloads, i, before[i].serial, after[i].serial, opaque);
     }
 }

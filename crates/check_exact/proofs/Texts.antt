@@ -54,14 +54,6 @@ apart_texts r s t x y e i j k q = rw (empty_text r x i, q, j, k) (twice_not (sam
 
 -- ---- uniques
 
--- jobs of which one is free, or whose functions differ, are apart
-skip : (a b c d e : Bool) → a || (b || not d) ≡ true → true ≡ not (not a && (not b && (c && (d && e))))
-skip true b c d e h = refl
-skip false true c d e h = refl
-skip false false true false e h = refl
-skip false false true true e h = absurd (true≢false (sym h))
-skip false false false d e h = refl
-
 compare : (a b c d e : Bool) → a || (b || not d) ≡ false → not (not c) || not e ≡ not (not a && (not b && (not c && (d && e))))
 compare true b c d e h = absurd (true≢false h)
 compare false true c d e h = absurd (true≢false h)
@@ -70,11 +62,6 @@ compare false false true true e h = refl
 compare false false false true e h = refl
 
 module _ (j k : Job) (s t : ℕ) (i : s ≡ j.row.serial) (l : t ≡ k.row.serial) where
-  pub uniques_skip : eqb s 0 || (eqb t 0 || not (eqb j.row.function k.row.function)) ≡ true → true ≡ uniques_apart j k
-  uniques_skip h =
-      skip (eqb j.row.serial 0) (eqb k.row.serial 0) (not (same j.unique [])) (eqb j.row.function k.row.function) (same j.unique k.unique)
-      (rw (i, l) at h)
-
   pub uniques_compared : eqb s 0 || (eqb t 0 || not (eqb j.row.function k.row.function)) ≡ false
       → (u v w : Bytes) (e : Bool) → u ≡ j.unique → v ≡ j.unique → w ≡ k.unique → e ≡ same v w → eqb (length u) 0 || not e ≡ uniques_apart j k
   uniques_compared h u v w e f g m q =

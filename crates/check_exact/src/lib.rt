@@ -2,8 +2,8 @@
 // decide. Whatever the bytes are, each rule answers `true` or `false`; it asks only that all of the table's bytes are there.
 #![tactic(auto)]
 
-ghost use Rattle.std.specs.Prelude.{◌≡◌, ◌+◌, ◌-◌, ◌<◌, ◌≤◌, length, leb};
-ghost use Rattle.lists.specs.Lists.{all, numbers};
+ghost use Rattle.std.specs.Prelude.{◌≡◌, ℕ, Bool, ◌<◌, ◌≤◌, length, leb};
+ghost use Rattle.lists.specs.Lists.{numbers, pairwise};
 ghost use Rattle.server.specs.Sizes.{connection_count, function_count, job_count, name_size, unique_size};
 ghost use Rattle.server.specs.Table.{function_at};
 ghost use Rattle.server.specs.Rules.{functions_distinct, names_apart, sizes_within, together, uniques_apart, uniques_distinct};
@@ -36,11 +36,12 @@ fn name_length(table: &[u8], function: u8) -> usize
     requires { table_size connection_count ≤ length table.now }
     ensures { (result ≡ length (function_at (table_of connection_count table.now) function).name) × (result ≤ name_size) }
 {
-    let q = function as usize;
+    let q = usize::from(function);
     if q < FUNCTIONS {
-        return name(table, q).len();
+        name(table, q).len()
+    } else {
+        0
     }
-    0
 }
 
 // How long the unique of the job at place `p` is.
@@ -58,7 +59,7 @@ fn size_within(table: &[u8], p: usize) -> bool
 {
     name_length(table, table[FUNCTIONS_AT + p])
         + unique_length(table, p)
-        + table_fields::size(table, p) as usize
+        + usize::from(table_fields::size(table, p))
         <= 1022
 }
 
@@ -68,10 +69,24 @@ pub fn sizes_within(table: &[u8]) -> bool
     ensures { result ≡ sizes_within (table_of connection_count table.now) }
 {
     let mut ok = true;
-    let mut p = 0;
-    while p < JOBS {
+    for p in 0..JOBS {
         ok = ok & size_within(table, p);
-        p += 1;
+    }
+    ok
+}
+
+// ---- each two
+
+// Whether the test holds of each two of the first `n` places. The clause speaks of each test `t` that the calls agree with.
+fn each_two<F: Fn(usize, usize) -> bool>(n: usize, holds: F) -> bool
+    requires { (i k : ℕ) → i < n → k < n → F.pre holds i k }
+    ensures { (t : ℕ → ℕ → Bool) → ((i k : ℕ) (r : Bool) → i < n → k < n → F.post holds i k r → r ≡ t i k) → result ≡ pairwise t (numbers 0 n) }
+{
+    let mut ok = true;
+    for i in 0..n {
+        for k in i + 1..n {
+            ok = ok & holds(i, k);
+        }
     }
     ok
 }
@@ -83,21 +98,7 @@ fn names_apart(table: &[u8], q: usize, k: usize) -> bool
     requires { (table_size connection_count ≤ length table.now) × ((q < function_count) × (k < function_count)) }
     ensures { result ≡ names_apart (function_in connection_count table.now q) (function_in connection_count table.now k) }
 {
-    (name(table, q).len() == 0) | !octets::equal(name(table, q), name(table, k))
-}
-
-// The same of the function at place `q` and each later one.
-fn name_apart_from(table: &[u8], q: usize) -> bool
-    requires { (table_size connection_count ≤ length table.now) × (q < function_count) }
-    ensures { result ≡ all (λ k. names_apart (function_in connection_count table.now q) (function_in connection_count table.now k)) (numbers (q + 1) (function_count - (q + 1))) }
-{
-    let mut ok = true;
-    let mut k = q + 1;
-    while k < FUNCTIONS {
-        ok = ok & names_apart(table, q, k);
-        k += 1;
-    }
-    ok
+    name(table, q).is_empty() | !octets::equal(name(table, q), name(table, k))
 }
 
 // Whether no two functions have one name.
@@ -105,13 +106,7 @@ pub fn functions_distinct(table: &[u8]) -> bool
     requires { table_size connection_count ≤ length table.now }
     ensures { result ≡ functions_distinct (table_of connection_count table.now) }
 {
-    let mut ok = true;
-    let mut q = 0;
-    while q < FUNCTIONS {
-        ok = ok & name_apart_from(table, q);
-        q += 1;
-    }
-    ok
+    each_two(FUNCTIONS, |q, k| names_apart(table, q, k))
 }
 
 // ---- uniques
@@ -126,21 +121,7 @@ fn uniques_apart(table: &[u8], p: usize, k: usize) -> bool
     if (s == 0) | ((t == 0) | (table[FUNCTIONS_AT + p] != table[FUNCTIONS_AT + k])) {
         return true;
     }
-    (unique(table, p).len() == 0) | !octets::equal(unique(table, p), unique(table, k))
-}
-
-// The same of the job at place `p` and each later one.
-fn unique_apart_from(table: &[u8], p: usize) -> bool
-    requires { (table_size connection_count ≤ length table.now) × (p < job_count) }
-    ensures { result ≡ all (λ k. uniques_apart (job_in connection_count table.now p) (job_in connection_count table.now k)) (numbers (p + 1) (job_count - (p + 1))) }
-{
-    let mut ok = true;
-    let mut k = p + 1;
-    while k < JOBS {
-        ok = ok & uniques_apart(table, p, k);
-        k += 1;
-    }
-    ok
+    unique(table, p).is_empty() | !octets::equal(unique(table, p), unique(table, k))
 }
 
 // Whether no two jobs share function and non-empty unique.
@@ -148,11 +129,5 @@ pub fn uniques_distinct(table: &[u8]) -> bool
     requires { table_size connection_count ≤ length table.now }
     ensures { result ≡ uniques_distinct (table_of connection_count table.now) }
 {
-    let mut ok = true;
-    let mut p = 0;
-    while p < JOBS {
-        ok = ok & unique_apart_from(table, p);
-        p += 1;
-    }
-    ok
+    each_two(JOBS, |p, k| uniques_apart(table, p, k))
 }

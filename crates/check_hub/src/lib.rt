@@ -15,8 +15,6 @@ pub fn hub_holds(table: &[u8]) -> bool
     ensures { result ≡ hub_rules table.now }
 {
     let name = table_texts::hub_of(table);
-    if check_image::zeros(table, HUB_AT + name.len(), HUB_SIZE - name.len()) {
-        return handle::is_hub_name(name);
-    }
-    false
+    check_image::zeros(table, HUB_AT + name.len(), HUB_SIZE - name.len())
+        && handle::is_hub_name(name)
 }

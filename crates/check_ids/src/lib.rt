@@ -7,7 +7,7 @@ ghost use Rattle.std.specs.Prelude.{◌≡◌, ◌+◌, ◌<◌, ◌≤◌, leng
 ghost use Rattle.lists.specs.Lists.{all, numbers};
 ghost use Rattle.server.specs.Sizes.{connection_count};
 ghost use Rattle.server.specs.Layout.{table_size};
-ghost use Rattle.check_ids.specs.Ids.{id_holds, id_rules, last_before, open_or_none};
+ghost use Rattle.check_ids.specs.Ids.{id_holds, id_rules, open_or_none};
 
 use server::{CONNECTIONS, ID_SIZE, IDS_AT, OPENED_AT};
 
@@ -32,24 +32,22 @@ fn only_open(table: &[u8], c: usize) -> bool
     ensures { result ≡ all (λ i. open_or_none table.now (c + i)) (numbers 0 8) }
 {
     let mut ok = true;
-    let mut i = 0;
-    while i < 8 {
+    for i in 0..8 {
         ok = ok & open_or_none(table, c + i);
-        i += 1;
     }
     ok
 }
 
 // Whether zeros follow the ids of the eight connections from `c` on, and only open ones have one.
-fn eight_hold(table: &[u8], c: usize, last: &[u8; ID_SIZE]) -> bool
-    requires { (table_size connection_count ≤ length table.now) × (c + 8 ≤ connection_count) × (last.now ≡ last_before) }
+fn eight_hold(table: &[u8], c: usize) -> bool
+    requires { (table_size connection_count ≤ length table.now) × (c + 8 ≤ connection_count) }
     ensures { result ≡ all (λ i. id_holds table.now (c + i)) (numbers 0 8) }
 {
     let at = IDS_AT + ID_SIZE * c;
     if check_image::zeros(table, at, EIGHT_IDS) {
         return true;
     }
-    check_image::all_followed(table, at - 1, 8, last) & only_open(table, c)
+    check_image::all_followed(table, at - 1, 8, &LAST_BEFORE) & only_open(table, c)
 }
 
 // The same of all ids.
@@ -57,12 +55,9 @@ pub fn ids_hold(table: &[u8]) -> bool
     requires { table_size connection_count ≤ length table.now }
     ensures { result ≡ id_rules table.now }
 {
-    let last = LAST_BEFORE;
     let mut ok = true;
-    let mut c = 0;
-    while c < CONNECTIONS {
-        ok = ok & eight_hold(table, c, &last);
-        c += 8;
+    for group in 0..CONNECTIONS / 8 {
+        ok = ok & eight_hold(table, 8 * group);
     }
     ok
 }

@@ -1,10 +1,11 @@
 -- The padded rule byte by byte is the rule place by place: a place is padded exactly if each of its bytes but the last is not zero or is
 -- followed by a zero; and a place that begins with a zero exactly if all its bytes are zero. Assumes nothing.
-use Prim.Native.Nat.{ℕ, zero, suc, ◌+◌, ◌*◌, ◌<◌, ◌≤◌}
+use Prim.Native.Nat.{ℕ, zero, suc, ◌+◌, ◌-◌, ◌*◌, ◌/◌, ◌%◌, ◌<◌, ◌≤◌}
 use mathlib.Core.Path.{◌≡◌, refl, sym, ap, ◌∙◌}
 use mathlib.Core.Bool.{Bool, true, false, not, cond, ◌&&◌, ◌||◌}
 use mathlib.Core.List.{List, [], ◌∷◌, ◌++◌}
-use native.Mathlib.Nat.{add-zero, add-suc, suc-add, add_assoc, mul-add, mul_assoc}
+use native.Mathlib.Nat.{add-zero, zero-add, add-suc, suc-add, add_assoc, zero-mul, mul-add, mul_assoc}
+use Rattle.std.proofs.Math.Nat.{mul-add-mod_self_left, mod-eq_of_lt}
 use native.Mathlib.Omega.{arith}
 use borrow.Author.Tests.{leb-true, eqb-true, eqb-false, eq-eqb, ne_eqb}
 use lib.Bits.{bit_or}
@@ -13,13 +14,13 @@ use lib.Seq.{drop-cons}
 use lib.Dec.{eqb, leb}
 use Rattle.octets.specs.Bytes.{Bytes, same, first_zero, every}
 use Rattle.lists.specs.Lists.{all, numbers}
-use Rattle.server.specs.Sizes.{unique_size}
 use Rattle.server.specs.Layout.{text_at}
 use Rattle.table_laws.specs.Tests.{part, is_zero, is_flag, is_padded, are_flags, are_padded}
 use Rattle.table_laws.proofs.Same.{field_inside}
 use Rattle.lists.proofs.Rows.{below_at}
-use Rattle.table_passes.proofs.Tests.{or_none_lem, and_same, same_below, all_append, all_shift, runs}
-use Rattle.check_image.specs.Padded.{zero_at, empty_at, after_end, is_followed, last_or_followed, last_of64, last_of32}
+use Rattle.table_laws.proofs.Columns.{places_at}
+use Rattle.table_passes.proofs.Tests.{or_none_lem, and_same, and_true, same_below, all_append, all_more, all_shift, runs}
+use Rattle.check_image.specs.Padded.{zero_at, empty_at, after_end, is_followed, last_or_followed, last_of}
 
 -- ---- single bytes
 
@@ -162,22 +163,80 @@ insides_padded n b at i (suc m) h =
     ∙ sym (padded_each n b (at + suc n * i) (omega (arith, field_inside (suc n) (i + suc m) at i (length b) h (omega arith)))))
     (insides_padded n b at (suc i) m e)
 
-module _ (last b : Bytes) (at : ℕ) where
-  pub one_of_64 : last ≡ last_of64 → at + 64 ≤ length b → all (last_or_followed last b at) (numbers 0 64) ≡ is_padded unique_size b at
-  one_of_64 e h = ap (λ (m : Bytes). all (last_or_followed m b at) (numbers 0 64)) e ∙ sym (padded_each 63 b at (omega arith))
+-- a place of suc n bytes by its mask: only the last byte may be followed by anything
+masked : (n : ℕ) (b : Bytes) (at : ℕ) → at + n < length b → all (λ j. eqb j n || is_followed b (at + j)) (numbers 0 (suc n)) ≡ is_padded (suc n) b at
+masked n b at h =
+    all_more (λ j. eqb j n || is_followed b (at + j)) 0 n
+    ∙ and_same
+    (same_below (λ j. eqb j n || is_followed b (at + j)) (λ j. is_followed b (at + j)) n (λ j g. ap (λ (t : Bool). t || is_followed b (at + j)) (ne_eqb j n (λ e. omega arith))))
+    (ap (λ (k : ℕ). eqb k n || is_followed b (at + k)) (zero-add n) ∙ ap (λ (t : Bool). t || is_followed b (at + n)) (eq-eqb n n refl))
+    ∙ and_true (all (λ j. is_followed b (at + j)) (numbers 0 n)) ∙ sym (padded_each n b at h)
 
-  pub two_of_32 : last ≡ last_of32 → at + 64 ≤ length b → all (last_or_followed last b at) (numbers 0 64) ≡ are_padded 32 2 b at
+-- m places of suc n bytes are t bytes, whose mask is `last`
+module _ (n m t : ℕ) (block : suc n * m ≡ t) (last : Bytes) (mask : (i : ℕ) → i < t → get_or last i 0 ≡ cond (eqb (i % suc n) n) 1 0) where
+  mask_at : (b : Bytes) (at k j : ℕ) → k < m → j < suc n → last_or_followed last b at (suc n * k + j) ≡ eqb j n || is_followed b (at + suc n * k + j)
+  mask_at b at k j g h =
+      let inside : suc n * k + j < t = rw (← block) (omega (arith, field_inside (suc n) m 0 k (suc n * m) (omega arith) g)) in
+      let remains : (suc n * k + j) % suc n ≡ j = mul-add-mod_self_left (suc n) k j ∙ mod-eq_of_lt h in
+      rw (mask (suc n * k + j) inside, remains, add_assoc at (suc n * k) j) (go (eqb j n))
+    where
+      go : (x : Bool) → not (eqb (cond x 1 0) 0) || is_followed b (at + (suc n * k + j)) ≡ x || is_followed b (at + (suc n * k + j))
+      go true = refl
+      go false = refl
+
+  block_padded : (b : Bytes) (at : ℕ) → at + t ≤ length b → all (last_or_followed last b at) (numbers 0 t) ≡ are_padded (suc n) m b at
   unfolding are_padded
-  two_of_32 e h = ap (λ (m : Bytes). all (last_or_followed m b at) (numbers 0 64)) e ∙ insides_padded 31 b at 0 2 (omega arith)
+  block_padded b at h =
+      ap (λ (x : ℕ). all (last_or_followed last b at) (numbers 0 x)) (sym block) ∙ runs (last_or_followed last b at) (suc n) m
+      ∙ same_below (λ k. all (λ j. last_or_followed last b at (suc n * k + j)) (numbers 0 (suc n))) (λ k. is_padded (suc n) b (at + suc n * k)) m
+      (λ k g. same_below (λ j. last_or_followed last b at (suc n * k + j)) (λ j. eqb j n || is_followed b (at + suc n * k + j)) (suc n) (λ j l. mask_at b at k j g l)
+      ∙ masked n b (at + suc n * k) (omega (arith, field_inside (suc n) m at k (length b) (rw block h) g)))
 
-pub eight_of_64 : (last b : Bytes) (at : ℕ) → last ≡ last_of64 → at + 512 ≤ length b
-    → all (λ i. all (last_or_followed last b (at + 64 * i)) (numbers 0 64)) (numbers 0 8) ≡ are_padded 64 8 b at
-unfolding are_padded
-eight_of_64 last b at e h =
-    same_below (λ i. all (last_or_followed last b (at + 64 * i)) (numbers 0 64)) (λ i. is_padded unique_size b (at + 64 * i)) 8 (λ i g. one_of_64 last b (at + 64 * i) e (omega arith))
+  pub blocks_padded : (r : ℕ) (b : Bytes) (at : ℕ) → at + t * r ≤ length b → all (λ i. all (last_or_followed last b (at + t * i)) (numbers 0 t)) (numbers 0 r) ≡ are_padded (suc n) (m * r) b at
+  blocks_padded r b at h =
+      same_below (λ i. all (last_or_followed last b (at + t * i)) (numbers 0 t)) (λ i. are_padded (suc n) m b (at + t * i)) r
+      (λ i g. block_padded b (at + t * i) (field_inside t r at i (length b) h g))
+      ∙ ap (λ (x : ℕ). all (λ i. are_padded (suc n) m b (at + x * i)) (numbers 0 r)) (sym block) ∙ padded_runs (suc n) m r b at
 
-pub four_of_32 : (last b : Bytes) (at : ℕ) → last ≡ last_of32 → at + 128 ≤ length b
-    → all (λ i. all (last_or_followed last b (at + 64 * i)) (numbers 0 64)) (numbers 0 2) ≡ are_padded 32 4 b at
-four_of_32 last b at e h =
-    same_below (λ i. all (last_or_followed last b (at + 64 * i)) (numbers 0 64)) (λ i. are_padded 32 2 b (at + 64 * i)) 2 (λ i g. two_of_32 last b (at + 64 * i) e (omega arith))
-    ∙ padded_runs 32 2 2 b at
+-- the mask of 64 bytes
+last_at : (n i : ℕ) → i < 64 → get_or (last_of (suc n)) i 0 ≡ cond (eqb (i % suc n) n) 1 0
+unfolding last_of
+last_at n i h = let e : suc n - 1 ≡ n = omega arith in rw e at (places_at {A = ℕ} (λ k. cond (eqb (k % suc n) (suc n - 1)) 1 0) 0 64 i h)
+
+-- ---- as the code passes places of w bytes: m of them are a block of 64, and a run has r blocks
+
+all_of_empty : (w m k : ℕ) (b : Bytes) (at : ℕ) → 0 < w → w * m ≡ k → at + k ≤ length b → all (empty_at b at w) (numbers 0 m) ≡ true → all (zero_at b at) (numbers 0 k) ≡ are_padded w m b at
+all_of_empty zero m k b at p e h t = absurd (omega arith)
+all_of_empty (suc n) m k b at p e h t = ap (λ (x : ℕ). all (zero_at b at) (numbers 0 x)) (sym e) ∙ empty_run n m b at (rw e h) t
+
+all_of_blocks : (w m r : ℕ) (last b : Bytes) (at : ℕ) → 0 < w → w * m ≡ 64 → last ≡ last_of w → at + 64 * r ≤ length b
+    → all (λ i. all (last_or_followed last b (at + 64 * i)) (numbers 0 64)) (numbers 0 r) ≡ are_padded w (m * r) b at
+all_of_blocks zero m r last b at p e q h = absurd (omega arith)
+all_of_blocks (suc n) m r last b at p e q h = blocks_padded n m 64 e last (λ i g. rw q (last_at n i g)) r b at h
+
+module _ (w r : ℕ) (e : w * (64 / w) ≡ 64) where
+  run_long : w * (64 / w * r) ≡ 64 * r
+  run_long = sym (mul_assoc w (64 / w) r) ∙ ap (λ (x : ℕ). x * r) e
+
+  a_byte : 0 < w
+  a_byte = go w e
+    where
+      go : (w : ℕ) → w * (64 / w) ≡ 64 → 0 < w
+      go zero e = absurd (omega (arith, e, zero-mul (64 / 0)))
+      go (suc n) e = omega arith
+
+  -- all places of a run are there, and a place has a byte
+  pub run_inside : (at n : ℕ) → at + 64 * r + 1 ≤ n → (at + w * (64 / w * r) ≤ n) × (0 < w)
+  run_inside at n h = (rw run_long (omega arith), a_byte)
+
+  module _ (b : Bytes) (at : ℕ) where
+    pub run_empty : at + 64 * r + 1 ≤ length b → all (empty_at b at w) (numbers 0 (64 / w * r)) ≡ true → all (zero_at b at) (numbers 0 (64 * r)) ≡ are_padded w (64 / w * r) b at
+    run_empty h t = all_of_empty w (64 / w * r) (64 * r) b at a_byte run_long (omega arith) t
+
+    pub run_followed : (last : Bytes) → at + 64 * r + 1 ≤ length b → last ≡ last_of w
+        → all (λ i. all (last_or_followed last b (at + 64 * i)) (numbers 0 64)) (numbers 0 r) ≡ are_padded w (64 / w * r) b at
+    run_followed last h m = all_of_blocks w (64 / w) r last b at a_byte e m (omega arith)
+
+    pub run_after_run : (n : ℕ) → all (λ k. are_padded w (64 / w * r) b (at + 64 * r * k)) (numbers 0 n) ≡ are_padded w (64 / w * r * n) b at
+    run_after_run n =
+        ap (λ (x : ℕ). all (λ k. are_padded w (64 / w * r) b (at + x * k)) (numbers 0 n)) (sym run_long) ∙ padded_runs w (64 / w * r) n b at

@@ -1,6 +1,8 @@
 -- The padded rule byte by byte: a byte that is not the last of its place is not zero, or a zero follows. Assumes nothing.
-use Rattle.std.specs.Prelude.{ℕ, ◌+◌, ◌*◌, Bool, not, cond, ◌||◌, [], ◌∷◌, get_or, eqb}
+use Rattle.std.specs.Prelude.{ℕ, ◌+◌, ◌-◌, ◌*◌, ◌%◌, Bool, not, cond, ◌||◌, map, get_or, eqb}
 use Rattle.octets.specs.Bytes.{Bytes}
+use Rattle.lists.specs.Lists.{numbers}
+use Rattle.server.specs.Sizes.{unique_size}
 
 abbrev pub zero_at : Bytes → ℕ → ℕ → Bool
 zero_at b at k = eqb (get_or b (at + k) 0) 0
@@ -21,9 +23,6 @@ is_followed b i = not (eqb (get_or b i 0) 0) || eqb (get_or b (i + 1) 0) 0
 abbrev pub last_or_followed : Bytes → Bytes → ℕ → ℕ → Bool
 last_or_followed last b at k = not (eqb (get_or last k 0) 0) || is_followed b (at + k)
 
--- the masks of last bytes: one place of 64 bytes, two of 32
-abbrev pub last_of64 : Bytes
-last_of64 = 0 ∷ 0 ∷ 0 ∷ 0 ∷ 0 ∷ 0 ∷ 0 ∷ 0 ∷ 0 ∷ 0 ∷ 0 ∷ 0 ∷ 0 ∷ 0 ∷ 0 ∷ 0 ∷ 0 ∷ 0 ∷ 0 ∷ 0 ∷ 0 ∷ 0 ∷ 0 ∷ 0 ∷ 0 ∷ 0 ∷ 0 ∷ 0 ∷ 0 ∷ 0 ∷ 0 ∷ 0 ∷ 0 ∷ 0 ∷ 0 ∷ 0 ∷ 0 ∷ 0 ∷ 0 ∷ 0 ∷ 0 ∷ 0 ∷ 0 ∷ 0 ∷ 0 ∷ 0 ∷ 0 ∷ 0 ∷ 0 ∷ 0 ∷ 0 ∷ 0 ∷ 0 ∷ 0 ∷ 0 ∷ 0 ∷ 0 ∷ 0 ∷ 0 ∷ 0 ∷ 0 ∷ 0 ∷ 0 ∷ 1 ∷ []
-
-abbrev pub last_of32 : Bytes
-last_of32 = 0 ∷ 0 ∷ 0 ∷ 0 ∷ 0 ∷ 0 ∷ 0 ∷ 0 ∷ 0 ∷ 0 ∷ 0 ∷ 0 ∷ 0 ∷ 0 ∷ 0 ∷ 0 ∷ 0 ∷ 0 ∷ 0 ∷ 0 ∷ 0 ∷ 0 ∷ 0 ∷ 0 ∷ 0 ∷ 0 ∷ 0 ∷ 0 ∷ 0 ∷ 0 ∷ 0 ∷ 1 ∷ 0 ∷ 0 ∷ 0 ∷ 0 ∷ 0 ∷ 0 ∷ 0 ∷ 0 ∷ 0 ∷ 0 ∷ 0 ∷ 0 ∷ 0 ∷ 0 ∷ 0 ∷ 0 ∷ 0 ∷ 0 ∷ 0 ∷ 0 ∷ 0 ∷ 0 ∷ 0 ∷ 0 ∷ 0 ∷ 0 ∷ 0 ∷ 0 ∷ 0 ∷ 0 ∷ 0 ∷ 1 ∷ []
+-- the mask of the last bytes of places of w bytes, in 64; shut, so that no goal writes it out
+unfoldable pub last_of : ℕ → Bytes
+last_of w = map (λ k. cond (eqb (k % w) (w - 1)) 1 0) (numbers 0 unique_size)

@@ -22,7 +22,8 @@ use Rattle.table_passes.proofs.Rows.{functions_pairs, jobs_pairs}
 use Rattle.table_passes.proofs.Pairs.{pairs_by, apart_all}
 use Rattle.check_image.specs.Padded.{empty_at}
 use Rattle.check_image.proofs.Places.{empty_text}
-use Rattle.check_keys.specs.Keys.{differs, folded, folded_unique, name_key, unique_key, words_at}
+use Rattle.check_rings.specs.Rings.{apart_at}
+use Rattle.check_keys.specs.Keys.{folded, folded_unique, name_key, unique_key, words_at}
 use Rattle.table_passes.specs.Arrays.{Twice}
 use Rattle.check_keys.proofs.Places.{words_same, texts_differ}
 
@@ -53,7 +54,7 @@ module _ (b : Bytes) (long : table_size connection_count ≤ length b) where
       let text : text_at name_size b (names_at + name_size * i) ≡ text_at name_size b (names_at + name_size * k) = same_is (text_at name_size b (names_at + name_size * i)) (text_at name_size b (names_at + name_size * k)) equal in
       true≢false (sym empty ∙ ap (λ (x : Bytes). same x []) (sym text) ∙ full))
 
-  pub name_keys_hold : are_padded name_size function_count b names_at ≡ true → (w : List ℕ) → Twice 16 (name_key b) w → all (λ d. all (differs w (d + 1)) (numbers 0 16)) (numbers 0 8) ≡ true
+  pub name_keys_hold : are_padded name_size function_count b names_at ≡ true → (w : List ℕ) → Twice 16 (name_key b) w → all (λ d. all (apart_at (λ x. false) w (d + 1)) (numbers 0 16)) (numbers 0 8) ≡ true
       → functions_distinct (table_of connection_count b) ≡ true
   unfolding name_key
   name_keys_hold padded w t e =
@@ -97,7 +98,7 @@ module _ (b : Bytes) (long : table_size connection_count ≤ length b) where
       let text : text_at unique_size b (uniques_at + unique_size * i) ≡ text_at unique_size b (uniques_at + unique_size * k) = same_is (text_at unique_size b (uniques_at + unique_size * i)) (text_at unique_size b (uniques_at + unique_size * k)) equal in
       true≢false (sym empty ∙ ap (λ (x : Bytes). same x []) (sym text) ∙ full))
 
-  pub unique_keys_hold : are_padded unique_size job_count b uniques_at ≡ true → (w : List ℕ) → Twice 32 (unique_key b) w → all (λ d. all (differs w (d + 1)) (numbers 0 job_count)) (numbers 0 16) ≡ true
+  pub unique_keys_hold : are_padded unique_size job_count b uniques_at ≡ true → (w : List ℕ) → Twice 32 (unique_key b) w → all (λ d. all (apart_at (λ x. false) w (d + 1)) (numbers 0 job_count)) (numbers 0 16) ≡ true
       → uniques_distinct (table_of connection_count b) ≡ true
   unfolding unique_key folded_unique
   unique_keys_hold padded w t e =

@@ -1,5 +1,5 @@
--- A key for each place of a text, so that equal texts have equal keys, and when keys that stand twice in a row differ. Assumes nothing.
-use Rattle.std.specs.Prelude.{ℕ, ◌+◌, ◌*◌, ◌/◌, ◌%◌, Bool, not, cond, List, get_or, eqb}
+-- A key for each place of a text, so that equal texts have equal keys. Assumes nothing.
+use Rattle.std.specs.Prelude.{ℕ, ◌+◌, ◌*◌, ◌/◌, ◌%◌, cond, get_or}
 use Rattle.std.specs.Int.Bits.{bit_xor}
 use Rattle.octets.specs.Bytes.{Bytes}
 use Rattle.server.specs.Sizes.{name_size, unique_size}
@@ -33,9 +33,3 @@ name_key b = place_key b names_at name_size (λ k. folded (words_at b (names_at 
 
 unfoldable pub unique_key : Bytes → ℕ → ℕ
 unique_key b = place_key b uniques_at unique_size (folded_unique b)
-
--- ---- keys at a distance
-
--- what stands at place k does not stand d places further on
-abbrev pub differs : List ℕ → ℕ → ℕ → Bool
-differs w d k = not (eqb (get_or w k 0) (get_or w (k + d) 0))

@@ -4,13 +4,11 @@
 #![tactic(auto)]
 
 ghost use Rattle.std.specs.Prelude.{◌≡◌, true, ◌+◌, ◌<◌, ◌≤◌, length};
-ghost use Rattle.lists.specs.Lists.{all, numbers};
 ghost use Rattle.server.specs.Sizes.{connection_count, function_count, job_count, name_size, unique_size};
 ghost use Rattle.server.specs.Rules.{functions_distinct, uniques_distinct};
 ghost use Rattle.server.specs.Layout.{names_at, table_of, table_size, uniques_at};
 ghost use Rattle.table_laws.specs.Tests.{are_padded};
-ghost use Rattle.check_keys.specs.Keys.{differs, folded, name_key, unique_key, word_at, words_at};
-ghost use Rattle.table_passes.specs.Arrays.{Twice};
+ghost use Rattle.check_keys.specs.Keys.{folded, name_key, unique_key, word_at, words_at};
 
 use server::{FUNCTIONS, FUNCTIONS_AT, JOBS, NAME_SIZE, NAMES_AT, UNIQUE_SIZE, UNIQUES_AT};
 
@@ -33,8 +31,8 @@ fn word(table: &[u8], at: usize) -> u64
     requires { at + 8 ≤ length table.now }
     ensures { result ≡ word_at table.now at }
 {
-    table_little::number4(table, at) as u64
-        + 4294967296 * table_little::number4(table, at + 4) as u64
+    u64::from(table_little::number4(table, at))
+        + 4294967296 * u64::from(table_little::number4(table, at + 4))
 }
 
 // The four words of 32 bytes, in one number.
@@ -65,50 +63,8 @@ fn name_key(table: &[u8], q: usize) -> u32
     folded(words(table, NAMES_AT + NAME_SIZE * q))
 }
 
-// The key of each name, and once more.
-fn name_keys(table: &[u8]) -> [u32; 2 * FUNCTIONS]
-    requires { table_size connection_count ≤ length table.now }
-    ensures { Twice function_count (name_key table.now) result }
-{
-    let mut w = [0u32; 2 * FUNCTIONS];
-    let mut q = 0;
-    while q < FUNCTIONS {
-        let key = name_key(table, q);
-        w[q] = key;
-        w[FUNCTIONS + q] = key;
-        q += 1;
-    }
-    w
-}
-
-// Whether no name's key stands `d` places further on.
-fn names_apart_by(w: &[u32; 2 * FUNCTIONS], d: usize) -> bool
-    requires { d ≤ function_count }
-    ensures { result ≡ all (differs w.now d) (numbers 0 function_count) }
-{
-    let mut ok = true;
-    let mut i = 0;
-    while i < FUNCTIONS {
-        ok = ok & (w[i] != w[i + d]);
-        i += 1;
-    }
-    ok
-}
-
-// Whether the names' keys are distinct: of two places around, one is at most 8 after the other.
-fn names_apart(w: &[u32; 2 * FUNCTIONS]) -> bool
-    ensures { result ≡ all (λ d. all (differs w.now (d + 1)) (numbers 0 function_count)) (numbers 0 8) }
-{
-    let mut ok = true;
-    let mut d = 0;
-    while d < 8 {
-        ok = ok & names_apart_by(w, d + 1);
-        d += 1;
-    }
-    ok
-}
-
-// Whether no two functions have one name. Where no place after the first has a name, there are no two.
+// Whether no two functions have one name. Where no place after the first has a name, there are no two. Of two places around, one is at most
+// 8 after the other.
 pub fn names_hold(table: &[u8]) -> bool
     requires { (table_size connection_count ≤ length table.now) × (are_padded name_size function_count table.now names_at ≡ true) }
     ensures { result ≡ functions_distinct (table_of connection_count table.now) }
@@ -116,11 +72,8 @@ pub fn names_hold(table: &[u8]) -> bool
     if check_image::all_empty(table, SECOND_NAME, NAME_SIZE, OTHER_FUNCTIONS) {
         return true;
     }
-    let w = name_keys(table);
-    if names_apart(&w) {
-        return true;
-    }
-    check_exact::functions_distinct(table)
+    let keys: [u32; 2 * FUNCTIONS] = check_rings::twice(|q| name_key(table, q));
+    check_rings::apart(&keys, 8, |_| false) || check_exact::functions_distinct(table)
 }
 
 // ---- uniques
@@ -136,53 +89,11 @@ fn unique_key(table: &[u8], p: usize) -> u32
     let text = folded(
         words(table, UNIQUES_AT + UNIQUE_SIZE * p) ^ words(table, SECOND_HALVES + UNIQUE_SIZE * p),
     );
-    text ^ (octets::wide(table[FUNCTIONS_AT + p]) % 16 * 268435456)
+    text ^ (u32::from(table[FUNCTIONS_AT + p]) % 16 * 268435456)
 }
 
-// The key of each unique, and once more.
-fn unique_keys(table: &[u8]) -> [u32; 2 * JOBS]
-    requires { table_size connection_count ≤ length table.now }
-    ensures { Twice job_count (unique_key table.now) result }
-{
-    let mut w = [0u32; 2 * JOBS];
-    let mut p = 0;
-    while p < JOBS {
-        let key = unique_key(table, p);
-        w[p] = key;
-        w[JOBS + p] = key;
-        p += 1;
-    }
-    w
-}
-
-// Whether no unique's key stands `d` places further on.
-fn uniques_apart_by(w: &[u32; 2 * JOBS], d: usize) -> bool
-    requires { d ≤ job_count }
-    ensures { result ≡ all (differs w.now d) (numbers 0 job_count) }
-{
-    let mut ok = true;
-    let mut i = 0;
-    while i < JOBS {
-        ok = ok & (w[i] != w[i + d]);
-        i += 1;
-    }
-    ok
-}
-
-// Whether the uniques' keys are distinct: of two places around, one is at most 16 after the other.
-fn uniques_apart(w: &[u32; 2 * JOBS]) -> bool
-    ensures { result ≡ all (λ d. all (differs w.now (d + 1)) (numbers 0 job_count)) (numbers 0 16) }
-{
-    let mut ok = true;
-    let mut d = 0;
-    while d < 16 {
-        ok = ok & uniques_apart_by(w, d + 1);
-        d += 1;
-    }
-    ok
-}
-
-// Whether no two jobs share function and non-empty unique. Where no place after the first has a unique, there are no two.
+// Whether no two jobs share function and non-empty unique. Where no place after the first has a unique, there are no two. Of two places
+// around, one is at most 16 after the other.
 pub fn uniques_hold(table: &[u8]) -> bool
     requires { (table_size connection_count ≤ length table.now) × (are_padded unique_size job_count table.now uniques_at ≡ true) }
     ensures { result ≡ uniques_distinct (table_of connection_count table.now) }
@@ -190,9 +101,6 @@ pub fn uniques_hold(table: &[u8]) -> bool
     if check_image::all_empty(table, SECOND_UNIQUE, UNIQUE_SIZE, OTHER_JOBS) {
         return true;
     }
-    let w = unique_keys(table);
-    if uniques_apart(&w) {
-        return true;
-    }
-    check_exact::uniques_distinct(table)
+    let keys: [u32; 2 * JOBS] = check_rings::twice(|p| unique_key(table, p));
+    check_rings::apart(&keys, 16, |_| false) || check_exact::uniques_distinct(table)
 }

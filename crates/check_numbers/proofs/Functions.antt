@@ -1,7 +1,7 @@
 -- Functions in a survey: those that jobs name, and the connections able to do what is queued. Assumes nothing.
 use Prim.Native.Nat.{ℕ, ◌+◌, ◌*◌, ◌%◌, ◌<◌, ◌≤◌}
 use mathlib.Core.Path.{◌≡◌, refl, sym, ap, ap₂, ◌∙◌}
-use mathlib.Core.Bool.{Bool, true, false, not, cond, ◌&&◌, ◌||◌}
+use mathlib.Core.Bool.{beq, Bool, true, false, not, cond, ◌&&◌, ◌||◌}
 use native.Mathlib.Omega.{arith}
 use borrow.Author.Tests.{eqb-true, eq-eqb}
 use lib.ListN.{length}
@@ -27,6 +27,13 @@ use Rattle.check_survey.specs.declared.Survey as S
 use Rattle.check_survey.specs.Surveyed.{queued_for, grabbed_for, Surveyed}
 use Rattle.table_passes.specs.Unions.{Joined}
 use Rattle.check_numbers.specs.Numbers.{able_if, agrees, is_defined}
+
+-- both hold or neither
+pub equal_agree : (x y : Bool) → beq x y ≡ agrees x y
+equal_agree true true = refl
+equal_agree true false = refl
+equal_agree false true = refl
+equal_agree false false = refl
 
 module _ (b : Bytes) (rows : rows_mean b ≡ true) where
   -- ---- what each row says by itself

@@ -17,7 +17,8 @@ use Rattle.table_passes.proofs.Pairs.{pairs_at, pairs_by, apart_all, apart_by}
 use Rattle.table_passes.specs.Arrays.{Twice}
 use Rattle.check_survey.specs.declared.Survey as S
 use Rattle.check_survey.specs.Surveyed.{Surveyed}
-use Rattle.check_numbers.specs.Numbers.{serial_in, serial_below, apart_at}
+use Rattle.check_rings.specs.Rings.{apart_at}
+use Rattle.check_numbers.specs.Numbers.{serial_in, serial_below}
 
 module _ (b : Bytes) where
   last_is : (table_of connection_count b).last ≡ little_at 4 b 0
@@ -41,17 +42,17 @@ module _ (b : Bytes) where
   residues_distinct v s e =
       sym (jobs_pairs connection_count b serials_apart ∙ pairs_by (λ i k. serials_apart (job_in connection_count b i) (job_in connection_count b k)) 32 (λ x y h g. two_apart x y (λ l q. s.distinct e x y h g l q)))
 
-  pub apart_is : (w : List ℕ) → Twice 32 (serial_in b) w → all (λ d. all (apart_at w (d + 1)) (numbers 0 job_count)) (numbers 0 16) ≡ serials_distinct (table_of connection_count b)
+  pub apart_is : (w : List ℕ) → Twice 32 (serial_in b) w → all (λ d. all (apart_at (λ x. eqb x 0) w (d + 1)) (numbers 0 job_count)) (numbers 0 16) ≡ serials_distinct (table_of connection_count b)
   apart_is w t =
-      iff (all (λ d. all (apart_at w (d + 1)) (numbers 0 job_count)) (numbers 0 16)) (pairwise (λ i k. serials_apart (job_in connection_count b i) (job_in connection_count b k)) (numbers 0 job_count)) to from
+      iff (all (λ d. all (apart_at (λ x. eqb x 0) w (d + 1)) (numbers 0 job_count)) (numbers 0 16)) (pairwise (λ i k. serials_apart (job_in connection_count b i) (job_in connection_count b k)) (numbers 0 job_count)) to from
       ∙ sym (jobs_pairs connection_count b serials_apart)
     where
-      to : all (λ d. all (apart_at w (d + 1)) (numbers 0 job_count)) (numbers 0 16) ≡ true → pairwise (λ i k. serials_apart (job_in connection_count b i) (job_in connection_count b k)) (numbers 0 job_count) ≡ true
+      to : all (λ d. all (apart_at (λ x. eqb x 0) w (d + 1)) (numbers 0 job_count)) (numbers 0 16) ≡ true → pairwise (λ i k. serials_apart (job_in connection_count b i) (job_in connection_count b k)) (numbers 0 job_count) ≡ true
       to e =
           pairs_by (λ i k. serials_apart (job_in connection_count b i) (job_in connection_count b k)) 32
           (λ x y h g. two_apart x y (λ l q. apart_all (λ x. eqb x 0) 16 32 w (λ k. (row_in connection_count b k).serial) refl t.0 t.1 e x y h g (not-true (eqb (row_in connection_count b x).serial 0) l) q))
 
-      from : pairwise (λ i k. serials_apart (job_in connection_count b i) (job_in connection_count b k)) (numbers 0 job_count) ≡ true → all (λ d. all (apart_at w (d + 1)) (numbers 0 job_count)) (numbers 0 16) ≡ true
+      from : pairwise (λ i k. serials_apart (job_in connection_count b i) (job_in connection_count b k)) (numbers 0 job_count) ≡ true → all (λ d. all (apart_at (λ x. eqb x 0) w (d + 1)) (numbers 0 job_count)) (numbers 0 16) ≡ true
       from e =
           apart_by (λ x. eqb x 0) 16 32 w (λ k. (row_in connection_count b k).serial) refl t.0 t.1
           (λ x y h g o q. clash x y o q (pairs_at (λ i k. serials_apart (job_in connection_count b i) (job_in connection_count b k)) 32 x y e h g))

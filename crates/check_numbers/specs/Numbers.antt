@@ -1,5 +1,5 @@
 -- The rules of numbers that belong together, and the tests that show them. Assumes nothing.
-use Rattle.std.specs.Prelude.{ℕ, ◌+◌, ◌*◌, Bool, not, cond, ◌&&◌, ◌||◌, List, get_or, eqb, leb}
+use Rattle.std.specs.Prelude.{ℕ, ◌+◌, ◌*◌, Bool, not, cond, ◌&&◌, ◌||◌, get_or, eqb, leb}
 use Rattle.octets.specs.Bytes.{Bytes}
 use Rattle.sets.specs.Sets.{has}
 use Rattle.lists.specs.Lists.{all, numbers}
@@ -28,10 +28,6 @@ serial_in b k = (row_in connection_count b k).serial
 
 abbrev pub serial_below : Bytes → ℕ → ℕ → Bool
 serial_below b last k = leb (serial_in b k) last
-
--- entry k is no serial, or not the one d places further on
-abbrev pub apart_at : List ℕ → ℕ → ℕ → Bool
-apart_at w d k = eqb (get_or w k 0) 0 || not (eqb (get_or w k 0) (get_or w (k + d) 0))
 
 -- ---- sets
 

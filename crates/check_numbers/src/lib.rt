@@ -9,11 +9,10 @@ ghost use Rattle.server.specs.Sizes.{connection_count, function_count, job_count
 ghost use Rattle.server.specs.Rules.{functions_as_defined, serials_below, serials_distinct};
 ghost use Rattle.server.specs.Layout.{opened_at, table_of, table_size};
 ghost use Rattle.table_laws.specs.Tests.{are_flags};
-ghost use Rattle.table_passes.specs.Arrays.{Twice};
 ghost use Rattle.table_passes.specs.Unions.{Joined};
 ghost use Rattle.check_rows.specs.Rows.{rows_mean};
 ghost use Rattle.check_survey.specs.Surveyed.{Surveyed};
-ghost use Rattle.check_numbers.specs.Numbers.{able_if, agrees, apart_at, connection_holds, connection_rules, is_defined, number_rules, serial_below, serial_in};
+ghost use Rattle.check_numbers.specs.Numbers.{able_if, connection_holds, connection_rules, is_defined, number_rules, serial_below, serial_in};
 
 use check_survey::Survey;
 use server::{
@@ -29,53 +28,8 @@ fn serials_below(table: &[u8], last: u32) -> bool
     ensures { result ≡ all (serial_below table.now last) (numbers 0 job_count) }
 {
     let mut ok = true;
-    let mut i = 0;
-    while i < JOBS {
+    for i in 0..JOBS {
         ok = ok & (table_fields::serial(table, i) <= last);
-        i += 1;
-    }
-    ok
-}
-
-// The serials twice, one after the other.
-fn serials_twice(table: &[u8]) -> [u32; 2 * JOBS]
-    requires { table_size connection_count ≤ length table.now }
-    ensures { Twice job_count (serial_in table.now) result }
-{
-    let mut w = [0u32; 2 * JOBS];
-    let mut i = 0;
-    while i < JOBS {
-        let serial = table_fields::serial(table, i);
-        w[i] = serial;
-        w[JOBS + i] = serial;
-        i += 1;
-    }
-    w
-}
-
-// Whether no serial stands `d` places further on once more.
-fn apart_by(w: &[u32; 2 * JOBS], d: usize) -> bool
-    requires { d ≤ job_count }
-    ensures { result ≡ all (apart_at w.now d) (numbers 0 job_count) }
-{
-    let mut ok = true;
-    let mut i = 0;
-    while i < JOBS {
-        ok = ok & ((w[i] == 0) | (w[i] != w[i + d]));
-        i += 1;
-    }
-    ok
-}
-
-// The same at each distance up to 16, around.
-fn all_apart(w: &[u32; 2 * JOBS]) -> bool
-    ensures { result ≡ all (λ d. all (apart_at w.now (d + 1)) (numbers 0 job_count)) (numbers 0 16) }
-{
-    let mut ok = true;
-    let mut d = 0;
-    while d < 16 {
-        ok = ok & apart_by(w, d + 1);
-        d += 1;
     }
     ok
 }
@@ -85,11 +39,11 @@ fn serials_distinct(table: &[u8], v: Survey) -> bool
     requires { (table_size connection_count ≤ length table.now) × Surveyed table.now job_count v }
     ensures { result ≡ serials_distinct (table_of connection_count table.now) }
 {
-    if v.residues as u64 == v.sum {
+    if u64::from(v.residues) == v.sum {
         return true;
     }
-    let w = serials_twice(table);
-    all_apart(&w)
+    let w: [u32; 2 * JOBS] = check_rings::twice(|p| table_fields::serial(table, p));
+    check_rings::apart(&w, 16, |serial| serial == 0)
 }
 
 // Whether the serials are at most the last one, and distinct.
@@ -97,10 +51,7 @@ fn serials_hold(table: &[u8], v: Survey) -> bool
     requires { (table_size connection_count ≤ length table.now) × Surveyed table.now job_count v }
     ensures { result ≡ serials_below (table_of connection_count table.now) && serials_distinct (table_of connection_count table.now) }
 {
-    if serials_below(table, table_little::number4(table, 0)) {
-        return serials_distinct(table, v);
-    }
-    false
+    serials_below(table, table_little::number4(table, 0)) && serials_distinct(table, v)
 }
 
 // ---- connections and functions
@@ -109,10 +60,7 @@ fn serials_hold(table: &[u8], v: Survey) -> bool
 fn able_if(queued: bool, able: u32) -> u32
     ensures { result ≡ cond queued able 0 }
 {
-    if queued {
-        return able;
-    }
-    0
+    if queued { able } else { 0 }
 }
 
 // The connections able to do the function of a queued job.
@@ -121,13 +69,11 @@ fn busy(table: &[u8], queued: u32) -> u32
     ensures { Joined (able_if table.now queued) function_count result }
 {
     let mut s = 0;
-    let mut q = 0;
-    while q < FUNCTIONS {
+    for q in 0..FUNCTIONS {
         s = sets::union(
             s,
             able_if(sets::has(queued, q), table_fields::able(table, q)),
         );
-        q += 1;
     }
     s
 }
@@ -141,21 +87,12 @@ fn connections_hold(table: &[u8], used: u32, busy: u32) -> bool
     ensures { result ≡ ltb used (2 ^ connection_count) && all (connection_holds table.now used busy) (numbers 0 connection_count) }
 {
     let mut ok = true;
-    let mut c = 0;
-    while c < CONNECTIONS {
+    for c in 0..CONNECTIONS {
         let awake = table[ASLEEP_AT + c] == 0;
         let unused = (awake & (table[EXCEPTIONS_AT + c] == 0)) & !sets::has(used, c);
         ok = ok & (((table[OPENED_AT + c] != 0) | unused) & (awake | !sets::has(busy, c)));
-        c += 1;
     }
-    ((used as u64) < SETS) & ok
-}
-
-// Whether both hold or neither.
-fn agree(x: bool, y: bool) -> bool
-    ensures { result ≡ agrees x y }
-{
-    (x & y) | (!x & !y)
+    (u64::from(used) < SETS) & ok
 }
 
 // Whether a place has a name exactly if some connection can do its function or a job names it.
@@ -164,11 +101,9 @@ fn functions_defined(table: &[u8], named: u32) -> bool
     ensures { result ≡ all (is_defined table.now named) (numbers 0 function_count) }
 {
     let mut ok = true;
-    let mut q = 0;
-    while q < FUNCTIONS {
+    for q in 0..FUNCTIONS {
         let wanted = (table_fields::able(table, q) != 0) | sets::has(named, q);
-        ok = ok & agree(table[NAMES_AT + NAME_SIZE * q] != 0, wanted);
-        q += 1;
+        ok = ok & ((table[NAMES_AT + NAME_SIZE * q] != 0) == wanted);
     }
     ok
 }
@@ -182,10 +117,8 @@ fn sets_hold(table: &[u8], v: Survey) -> bool
     let able = table_columns::joined(table, ABLE_AT, FUNCTIONS);
     let used = sets::union(sets::union(listening, able), v.holding);
     let busy_ones = busy(table, v.queued);
-    if connections_hold(table, used, busy_ones) {
-        return functions_defined(table, sets::union(v.queued, v.grabbed));
-    }
-    false
+    connections_hold(table, used, busy_ones)
+        && functions_defined(table, sets::union(v.queued, v.grabbed))
 }
 
 // Whether free rows have no unique, and the rules of serials, connections and functions hold, where those of each row do.
@@ -194,10 +127,5 @@ pub fn numbers_hold(table: &[u8]) -> bool
     ensures { result ≡ number_rules table.now }
 {
     let v = check_survey::all_surveyed(table);
-    if v.clear {
-        if serials_hold(table, v) {
-            return sets_hold(table, v);
-        }
-    }
-    false
+    v.clear && serials_hold(table, v) && sets_hold(table, v)
 }

@@ -14,6 +14,7 @@ use server::{
     BACKGROUNDS_AT, CONNECTIONS, FUNCTIONS, FUNCTIONS_AT, HOLDERS_AT, JOBS, LISTENERS_AT,
     PRIORITIES_AT, SIZES_AT,
 };
+use std::array;
 
 // ---- marks
 
@@ -21,10 +22,7 @@ use server::{
 fn mark(x: u32) -> u8
     ensures { result ≡ mark_of x }
 {
-    if x == 0 {
-        return 0;
-    }
-    1
+    u8::from(x != 0)
 }
 
 // The marks of the 32 numbers of four bytes from `at` on.
@@ -32,13 +30,7 @@ pub fn marks4(table: &[u8], at: usize) -> [u8; JOBS]
     requires { at + 128 ≤ length table.now }
     ensures { Marked 4 table.now at result }
 {
-    let mut m = [0u8; JOBS];
-    let mut i = 0;
-    while i < JOBS {
-        m[i] = mark(table_little::number4(table, at + 4 * i));
-        i += 1;
-    }
-    m
+    array::from_fn(|p| mark(table_little::number4(table, at + 4 * p)))
 }
 
 // The same of two bytes.
@@ -46,13 +38,7 @@ fn marks2(table: &[u8], at: usize) -> [u8; JOBS]
     requires { at + 64 ≤ length table.now }
     ensures { Marked 2 table.now at result }
 {
-    let mut m = [0u8; JOBS];
-    let mut i = 0;
-    while i < JOBS {
-        m[i] = mark(table_little::number2(table, at + 2 * i) as u32);
-        i += 1;
-    }
-    m
+    array::from_fn(|p| mark(u32::from(table_little::number2(table, at + 2 * p))))
 }
 
 // The highest number of a function's place, and of a holder: one more than its connection's.
@@ -76,10 +62,8 @@ fn bytes_in_range(table: &[u8]) -> bool
     ensures { result ≡ all (bytes_in_range table.now) (numbers 0 job_count) }
 {
     let mut ok = true;
-    let mut i = 0;
-    while i < JOBS {
+    for i in 0..JOBS {
         ok = ok & row_in_range(table, i);
-        i += 1;
     }
     ok
 }
@@ -90,10 +74,8 @@ fn holders_in_range(table: &[u8]) -> bool
     ensures { result ≡ all (holder_in_range table.now) (numbers 0 job_count) }
 {
     let mut ok = true;
-    let mut i = 0;
-    while i < JOBS {
+    for i in 0..JOBS {
         ok = ok & (table_fields::holder(table, i) <= LAST_HOLDER);
-        i += 1;
     }
     ok
 }
@@ -129,10 +111,8 @@ fn free_or_awaited(
     ensures { result ≡ all (free_or_awaited live.now heard.now held.now sized.now table.now) (numbers 0 job_count) }
 {
     let mut ok = true;
-    let mut i = 0;
-    while i < JOBS {
+    for i in 0..JOBS {
         ok = ok & row_free_or_awaited(live, heard, held, sized, table, i);
-        i += 1;
     }
     ok
 }

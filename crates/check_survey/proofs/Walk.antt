@@ -13,7 +13,7 @@ use Rattle.sets.specs.Sets.{has, insert, union}
 use Rattle.sets.proofs.Laws.{zero_has, insert_below}
 use Rattle.lists.specs.Lists.{any, all, numbers}
 use Rattle.server.specs.Sizes.{job_count, unique_size, connection_count}
-use Rattle.server.specs.Table.{live, queued}
+use Rattle.server.specs.Table.{live}
 use Rattle.server.specs.Layout.{row_in, serials_at, uniques_at}
 use Rattle.table_passes.proofs.Tests.{and_true, and_same, any_next, all_next, some_by, same_below, all_later, none_later}
 use Rattle.table_passes.proofs.Rows.{free_rows}

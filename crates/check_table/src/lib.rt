@@ -22,16 +22,10 @@ fn bytes_hold(table: &[u8]) -> bool
     requires { table_size connection_count ≤ length table.now }
     ensures { result ≡ byte_rules table.now }
 {
-    if check_image::flags(table, BACKGROUNDS_AT, JOBS)
-        & check_image::flags(table, OPENED_AT, FLAGS)
-    {
-        if check_image::names_padded(table) {
-            if check_image::uniques_padded(table) {
-                return check_ids::ids_hold(table) & check_hub::hub_holds(table);
-            }
-        }
-    }
-    false
+    (check_image::flags(table, BACKGROUNDS_AT, JOBS) & check_image::flags(table, OPENED_AT, FLAGS))
+        && check_image::names_padded(table)
+        && check_image::uniques_padded(table)
+        && (check_ids::ids_hold(table) & check_hub::hub_holds(table))
 }
 
 // Whether the rules of numbers hold. `live` has the marks of the serials.
@@ -39,10 +33,7 @@ fn numbers_hold(table: &[u8], live: &[u8; JOBS]) -> bool
     requires { (table_size connection_count ≤ length table.now) × (are_flags job_count table.now backgrounds_at ≡ true) × (are_flags (3 * connection_count) table.now (opened_at connection_count) ≡ true) × Marked 4 table.now serials_at live.now }
     ensures { result ≡ rows_mean table.now && number_rules table.now }
 {
-    if check_rows::rows_mean(table, live) {
-        return check_numbers::numbers_hold(table);
-    }
-    false
+    check_rows::rows_mean(table, live) && check_numbers::numbers_hold(table)
 }
 
 // Whether the rules that read texts hold.
@@ -50,14 +41,10 @@ fn texts_hold(table: &[u8], live: &[u8; JOBS]) -> bool
     requires { (table_size connection_count ≤ length table.now) × (are_padded name_size function_count table.now names_at ≡ true) × (are_padded unique_size job_count table.now uniques_at ≡ true) × Marked 4 table.now serials_at live.now }
     ensures { result ≡ text_rules table.now }
 {
-    if check_texts::stored_hold(table, live) {
-        if check_texts::sizes_hold(table) {
-            if check_keys::names_hold(table) {
-                return check_keys::uniques_hold(table);
-            }
-        }
-    }
-    false
+    check_texts::stored_hold(table, live)
+        && check_texts::sizes_hold(table)
+        && check_keys::names_hold(table)
+        && check_keys::uniques_hold(table)
 }
 
 // Whether the bytes are an image of the layout whose table obeys every table rule.
@@ -65,11 +52,9 @@ pub fn is_sound(table: &[u8]) -> bool
     requires { table_size connection_count ≤ length table.now }
     ensures { result ≡ is_sound connection_count table.now }
 {
-    if bytes_hold(table) {
-        let live = check_rows::marks4(table, SERIALS_AT);
-        if numbers_hold(table, &live) {
-            return texts_hold(table, &live);
-        }
+    if !bytes_hold(table) {
+        return false;
     }
-    false
+    let live = check_rows::marks4(table, SERIALS_AT);
+    numbers_hold(table, &live) && texts_hold(table, &live)
 }

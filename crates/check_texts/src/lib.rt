@@ -9,7 +9,7 @@ ghost use Rattle.server.specs.Sizes.{connection_count, job_count};
 ghost use Rattle.server.specs.Rules.{sizes_within};
 ghost use Rattle.server.specs.Layout.{denominators_at, numerators_at, serials_at, table_of, table_size};
 ghost use Rattle.check_rows.specs.Rows.{Marked};
-ghost use Rattle.check_texts.specs.Stored.{Begun, FirstBytes, begins_at, begins_with, digit_padded, first_alone, is_digit, lasts_of10, size_small, stored_rules};
+ghost use Rattle.check_texts.specs.Stored.{Begun, FirstBytes, begins_at, begins_with, digit_padded, first_alone, lasts_of10, size_small, stored_rules};
 
 use server::{DENOMINATORS_AT, JOBS, NUMBER_SIZE, NUMERATORS_AT};
 
@@ -25,23 +25,14 @@ const LASTS_OF_10: [u8; NUMBERS] =
 
 // ---- first bytes
 
-// Whether a byte is one of the digits 0 to 9.
-fn is_digit(x: u8) -> bool
-    ensures { result ≡ is_digit x }
-{
-    (48 <= x) & (x <= 57)
-}
-
 // The first byte of each of the 32 places of 10 bytes from `at` on.
 fn first_bytes(table: &[u8], at: usize) -> [u8; JOBS]
     requires { at + 320 ≤ length table.now }
     ensures { FirstBytes table.now at result }
 {
     let mut m = [0u8; JOBS];
-    let mut i = 0;
-    while i < JOBS {
+    for i in 0..JOBS {
         m[i] = table[at + NUMBER_SIZE * i];
-        i += 1;
     }
     m
 }
@@ -51,10 +42,9 @@ fn begun(live: &[u8; JOBS], first: &[u8; JOBS]) -> bool
     ensures { result ≡ all (λ k. begins_with (get_or live.now k 0) (get_or first.now k 0)) (numbers 0 job_count) }
 {
     let mut ok = true;
-    let mut i = 0;
-    while i < JOBS {
-        ok = ok & (((live[i] != 0) & is_digit(first[i])) | ((live[i] == 0) & (first[i] == 0)));
-        i += 1;
+    for i in 0..JOBS {
+        ok = ok
+            & (((live[i] != 0) & first[i].is_ascii_digit()) | ((live[i] == 0) & (first[i] == 0)));
     }
     ok
 }
@@ -76,14 +66,12 @@ fn one_digit_each(table: &[u8], first: &[u8; NUMBERS]) -> bool
     ensures { result ≡ all (first_alone first.now table.now) (numbers 0 320) }
 {
     let mut found = 0;
-    let mut i = 0;
-    while i < NUMBERS {
+    for i in 0..NUMBERS {
         found = found
             | check_image::after_end(
                 first[i],
                 table[NUMERATORS_AT + i] | table[DENOMINATORS_AT + i],
             );
-        i += 1;
     }
     found == 0
 }
@@ -94,12 +82,11 @@ fn digits_padded(table: &[u8], at: usize, last: &[u8; NUMBERS]) -> bool
     ensures { result ≡ all (digit_padded last.now table.now at) (numbers 0 320) }
 {
     let mut ok = true;
-    let mut k = 0;
-    while k < NUMBERS {
+    for k in 0..NUMBERS {
         let x = table[at + k];
         ok = ok
-            & (((last[k] != 0) | ((x != 0) | (table[at + k + 1] == 0))) & ((x == 0) | is_digit(x)));
-        k += 1;
+            & (((last[k] != 0) | ((x != 0) | (table[at + k + 1] == 0)))
+                & ((x == 0) | x.is_ascii_digit()));
     }
     ok
 }
@@ -109,15 +96,11 @@ fn all_digits(table: &[u8]) -> bool
     requires { (table_size connection_count ≤ length table.now) × (Begun table.now numerators_at × Begun table.now denominators_at) }
     ensures { result ≡ all (digit_padded lasts_of10 table.now numerators_at) (numbers 0 320) && all (digit_padded lasts_of10 table.now denominators_at) (numbers 0 320) }
 {
-    let first = FIRSTS_OF_10;
-    if one_digit_each(table, &first) {
+    if one_digit_each(table, &FIRSTS_OF_10) {
         return true;
     }
-    let last = LASTS_OF_10;
-    if digits_padded(table, NUMERATORS_AT, &last) {
-        return digits_padded(table, DENOMINATORS_AT, &last);
-    }
-    false
+    digits_padded(table, NUMERATORS_AT, &LASTS_OF_10)
+        && digits_padded(table, DENOMINATORS_AT, &LASTS_OF_10)
 }
 
 // Whether the stored numbers of each live row are 1 to 10 digits and those of each free row are empty, all followed by zeros. `live` has
@@ -126,12 +109,9 @@ pub fn stored_hold(table: &[u8], live: &[u8; JOBS]) -> bool
     requires { (table_size connection_count ≤ length table.now) × Marked 4 table.now serials_at live.now }
     ensures { result ≡ stored_rules table.now }
 {
-    if numbers_begin(table, NUMERATORS_AT, live) {
-        if numbers_begin(table, DENOMINATORS_AT, live) {
-            return all_digits(table);
-        }
-    }
-    false
+    numbers_begin(table, NUMERATORS_AT, live)
+        && numbers_begin(table, DENOMINATORS_AT, live)
+        && all_digits(table)
 }
 
 // ---- sizes
@@ -142,10 +122,8 @@ fn sizes_small(table: &[u8]) -> bool
     ensures { result ≡ all (size_small table.now) (numbers 0 job_count) }
 {
     let mut ok = true;
-    let mut i = 0;
-    while i < JOBS {
+    for i in 0..JOBS {
         ok = ok & (table_fields::size(table, i) <= 926);
-        i += 1;
     }
     ok
 }
@@ -155,8 +133,5 @@ pub fn sizes_hold(table: &[u8]) -> bool
     requires { table_size connection_count ≤ length table.now }
     ensures { result ≡ sizes_within (table_of connection_count table.now) }
 {
-    if sizes_small(table) {
-        return true;
-    }
-    check_exact::sizes_within(table)
+    sizes_small(table) || check_exact::sizes_within(table)
 }

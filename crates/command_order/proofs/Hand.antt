@@ -34,7 +34,7 @@ module _ (fs : List Function) (q count : ℕ) (places : List ℕ) where
   Hand next hand moved i = take i next ++ carried fs moved hand (drop i (take count places)) ≡ placed fs q (take count places)
 
   module _ (next : List ℕ) (hand : ℕ) (moved : Bool) (i : ℕ) (e : Hand next hand moved i) (long : count ≤ length places) where
-    pub hand_turn : i < count → i < length next → (b : Bool) → b ≡ before (name_at fs hand) (name_at fs (get_or places i 0)) → (x h : ℕ)
+    hand_turn : i < count → i < length next → (b : Bool) → b ≡ before (name_at fs hand) (name_at fs (get_or places i 0)) → (x h : ℕ)
         → x ≡ cond (moved || b) hand (get_or places i 0) → h ≡ cond (moved || b) (get_or places i 0) hand → Hand (set next i x) h (moved || b) (i + 1)
     hand_turn l m b eb x h ex eh =
         let ahead : List ℕ = drop (suc i) (take count places) in
@@ -43,6 +43,15 @@ module _ (fs : List Function) (q count : ℕ) (places : List ℕ) where
         let step : carried fs moved hand (drop i (take count places)) ≡ x ∷ carried fs (moved || b) h ahead =
         ap (carried fs moved hand) there ∙ carried_next fs moved b hand (get_or places i 0) ahead eb ∙ rw (← ex, ← eh) in
         rw (add-one, take-suc-set next i x m, append_assoc) (ap (λ (r : List ℕ). take i next ++ r) (sym step) ∙ e)
+
+    module _ (b : Bool) (eb : b ≡ before (name_at fs hand) (name_at fs (get_or places i 0))) (l : i < count) (m : i < length next) (laid : List ℕ) (h : ℕ) where
+      -- what the hand carries is laid down, and the place that stood there taken up
+      pub hand_laid : moved || b ≡ true → laid ≡ set next i hand → h ≡ get_or places i 0 → Hand laid h (moved || b) (i + 1)
+      hand_laid t en eh = rw en (hand_turn l m b eb hand h (rw t) (rw t eh))
+
+      -- the hand goes past the place that stands there
+      pub hand_past : moved || b ≡ false → laid ≡ set next i (get_or places i 0) → h ≡ hand → Hand laid h (moved || b) (i + 1)
+      hand_past t en eh = rw en (hand_turn l m b eb (get_or places i 0) h (rw t) (rw t eh))
 
     pub hand_end : i ≡ count → i < length next → take (count + 1) (set next count hand) ≡ placed fs q (take count places)
     hand_end q' m =

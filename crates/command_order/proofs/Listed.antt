@@ -4,6 +4,8 @@ use mathlib.Core.Path.{◌≡◌, refl, ap, sym, ◌∙◌}
 use mathlib.Core.Bool.{Bool, true, false, not, cond}
 use mathlib.Core.List.{List, [], ◌∷◌}
 use native.Mathlib.Omega.{arith}
+use Rattle.std.proofs.lemmas.Bool.Decides.{nat_tests}
+use lib.Dec.{eqb}
 use lib.ListN.{length}
 use Rattle.octets.specs.Bytes.{Bytes, same}
 use Rattle.lists.specs.Lists.{filter, numbers}
@@ -12,21 +14,21 @@ use Rattle.command.specs.Order.{in_order, is_named, name_at, placed, rising}
 
 -- ---- one place, by the length of its name
 
-empty : (x : Bytes) → length x ≡ 0 → not (same x []) ≡ false
+empty : (x : Bytes) → true ≡ eqb (length x) 0 → not (same x []) ≡ false
 unfolding same
 empty [] e = refl
-empty (y ∷ x) e = absurd (omega arith)
+empty (y ∷ x) e = absurd (grind (arith, nat_tests))
 
-not_empty : (x : Bytes) → (length x ≡ 0 → ⊥) → not (same x []) ≡ true
+not_empty : (x : Bytes) → false ≡ eqb (length x) 0 → not (same x []) ≡ true
 unfolding same
-not_empty [] n = absurd (n refl)
-not_empty (y ∷ x) n = refl
+not_empty [] e = cc
+not_empty (y ∷ x) e = refl
 
 module _ (fs : List Function) (q : ℕ) (x : Bytes) (e : x ≡ name_at fs q) (l : List ℕ) where
-  pub place_skipped : length x ≡ 0 → l ≡ cond (is_named fs q) (placed fs q l) l
+  pub place_skipped : true ≡ eqb (length x) 0 → l ≡ cond (is_named fs q) (placed fs q l) l
   place_skipped h = let z : is_named fs q ≡ false = rw e at (empty x h) in rw z
 
-  pub place_put : (r : List ℕ) → (length x ≡ 0 → ⊥) → r ≡ placed fs q l → r ≡ cond (is_named fs q) (placed fs q l) l
+  pub place_put : (r : List ℕ) → false ≡ eqb (length x) 0 → r ≡ placed fs q l → r ≡ cond (is_named fs q) (placed fs q l) l
   place_put r n p = let z : is_named fs q ≡ true = rw e at (not_empty x n) in rw z p
 
 -- ---- all places

@@ -1,14 +1,14 @@
--- Two names compared from the front, and the name that stands at a place. Assumes nothing.
-use Prim.Native.Nat.{ℕ, ◌+◌, ◌<◌, ◌≤◌}
-use mathlib.Core.Path.{◌≡◌, refl, sym, ap, ◌∙◌}
-use mathlib.Core.Bool.{Bool, true, false, ◌&&◌, ◌||◌}
+-- Two names compared, and the name that stands at a place. Assumes nothing.
+use Prim.Native.Nat.{ℕ, ◌<◌, ◌≤◌}
+use Rattle.std.specs.Ordering.{is_lt, is_some_and, nat_cmp}
+use Rattle.std.specs.Cmp.Lexicographic.{slice_partial_cmp}
+use Rattle.std.specs.Prelude.{Some}
+use Rattle.std.proofs.lemmas.Cmp.{same_from_slice_cmp_tested}
+use Rattle.std.proofs.lemmas.Bool.Decides.{nat_tests}
+use mathlib.Core.Path.{◌≡◌, refl, sym, ap}
+use mathlib.Core.Bool.{Bool}
 use mathlib.Core.List.{[]}
-use native.Mathlib.Numerals.{add-one}
-use borrow.Author.Tests.{eq-eqb, le-ltb, ne_eqb}
 use native.Mathlib.Omega.{arith}
-use lib.Dec.{eqb, ltb}
-use lib.ListN.{length, get_or, drop, drop_of_length-le}
-use lib.Seq.{drop-cons}
 use Rattle.octets.specs.Bytes.{Bytes}
 use Rattle.server.specs.Sizes.{connection_count, function_count}
 use Rattle.server.specs.Table.{Function, function_at}
@@ -16,30 +16,10 @@ use Rattle.server.specs.Layout.{function_in, table_of}
 use Rattle.table_passes.proofs.Rows.{function_at_lem, no_function_lem}
 use Rattle.command.specs.Order.{before}
 
-or_none_lem : (b : Bool) → b || false ≡ b
-or_none_lem true = refl
-or_none_lem false = refl
-
--- the first i bytes of both are passed, and agree
-module _ (s t : Bytes) (i : ℕ) (e : before s t ≡ before (drop i s) (drop i t)) where
-  pub before_short : length s ≤ i → i < length t → true ≡ before s t
-  unfolding before
-  before_short h k = sym (e ∙ rw (drop_of_length-le s h, drop-cons t i 0 k))
-
-  pub before_end : length t ≤ i → false ≡ before s t
-  unfolding before
-  before_end h = sym (e ∙ rw (drop_of_length-le t h))
-
-  module _ (h : i < length s) (k : i < length t) where
-    step : before s t ≡ ltb (get_or s i 0) (get_or t i 0) || (eqb (get_or s i 0) (get_or t i 0) && before (drop (i + 1) s) (drop (i + 1) t))
-    unfolding before
-    step = e ∙ rw (add-one, drop-cons s i 0 h, drop-cons t i 0 k)
-
-    pub before_told : (get_or s i 0 ≡ get_or t i 0 → ⊥) → ltb (get_or s i 0) (get_or t i 0) ≡ before s t
-    before_told n = sym (step ∙ rw (ne_eqb (get_or s i 0) (get_or t i 0) n) (or_none_lem _))
-
-    pub before_on : get_or s i 0 ≡ get_or t i 0 → before s t ≡ before (drop (i + 1) s) (drop (i + 1) t)
-    before_on q = step ∙ rw (le-ltb (get_or s i 0) (get_or t i 0) (omega arith), eq-eqb (get_or s i 0) (get_or t i 0) q)
+-- `<` of two slices tells the order
+pub before_of_lt : (s t : Bytes) (r : Bool) → r ≡ is_some_and is_lt (slice_partial_cmp (λ x y. Some (nat_cmp x y)) s t) → r ≡ before s t
+unfolding before
+before_of_lt = same_from_slice_cmp_tested nat_cmp is_lt before refl (λ _ _. refl) (λ _ _. refl) (λ x y xs ys o h. grind (arith, nat_tests))
 
 -- ---- what stands at a place
 

@@ -19,6 +19,16 @@ pub struct Listing {
     pub count: usize,
 }
 
+impl Listing {
+    // The places that are listed.
+    pub fn known(&self) -> &[usize]
+        requires { self.now.count ≤ function_count }
+        ensures { result.now ≡ listed self.now }
+    {
+        &self.places[..self.count]
+    }
+}
+
 // The name of the function at a place.
 pub fn name_at(table: &[u8], q: usize) -> &[u8]
     requires { table_size connection_count ≤ length table.now }
@@ -28,35 +38,6 @@ pub fn name_at(table: &[u8], q: usize) -> &[u8]
         return &table[..0];
     }
     table_texts::text(table, NAMES_AT + NAME_SIZE * q, NAME_SIZE)
-}
-
-// Whether `s` comes before `t` in byte order.
-fn comes_before(s: &[u8], t: &[u8]) -> bool
-    ensures { result ≡ before s.now t.now }
-{
-    let mut i = 0;
-    while i < t.len() {
-        if s.len() <= i {
-            return true;
-        }
-        let x = s[i];
-        let y = t[i];
-        if x != y {
-            return x < y;
-        }
-        i += 1;
-    }
-    false
-}
-
-// The one number or the other.
-fn pick(first: bool, x: usize, y: usize) -> usize
-    ensures { result ≡ cond first x y }
-{
-    if first {
-        return x;
-    }
-    y
 }
 
 // The first `count` places with `q` put among them, before the first whose name comes after its own: a hand carries what is to be laid down
@@ -73,13 +54,17 @@ fn with_place(
     let mut next = [0; FUNCTIONS];
     let mut hand = q;
     let mut moved = false;
-    let mut i = 0;
-    while i < count {
+    for i in 0..count {
         let place = places[i];
-        moved = moved | comes_before(name_at(table, hand), name_at(table, place));
-        next[i] = pick(moved, hand, place);
-        hand = pick(moved, place, hand);
-        i += 1;
+        let name = name_at(table, hand);
+        let other = name_at(table, place);
+        moved |= name < other;
+        if moved {
+            next[i] = hand;
+            hand = place;
+        } else {
+            next[i] = place;
+        }
     }
     next[count] = hand;
     next
@@ -91,13 +76,11 @@ fn with_known(table: &[u8], listing: Listing, q: usize) -> Listing
     ensures { (result.count ≤ listing.count + 1) × (listed result ≡ cond (is_named (table_of connection_count table.now).functions q)
         (placed (table_of connection_count table.now).functions q (listed listing)) (listed listing)) }
 {
-    if name_at(table, q).len() == 0 {
+    if name_at(table, q).is_empty() {
         return listing;
     }
-    let places = listing.places;
-    let next = with_place(table, places, listing.count, q);
     Listing {
-        places: next,
+        places: with_place(table, listing.places, listing.count, q),
         count: listing.count + 1,
     }
 }
@@ -111,9 +94,7 @@ pub fn in_order(table: &[u8]) -> Listing
         places: [0; FUNCTIONS],
         count: 0,
     };
-    let mut q = FUNCTIONS;
-    while 0 < q {
-        q -= 1;
+    for q in (0..FUNCTIONS).rev() {
         listing = with_known(table, listing, q);
     }
     listing

@@ -1,31 +1,29 @@
 -- Jobs counted row by row, and what the counts are in a table that obeys the rules. Assumes nothing.
-use Prim.Native.Nat.{ℕ, ◌+◌, ◌<◌, ◌≤◌}
-use mathlib.Core.Path.{◌≡◌, refl, ap, ◌∙◌}
+use Prim.Native.Nat.{ℕ, ◌+◌}
+use mathlib.Core.Path.{◌≡◌, refl, ap, sym, ◌∙◌}
 use mathlib.Core.Bool.{Bool, true, false, cond, ◌&&◌}
-use mathlib.Core.List.{List, [], ◌∷◌}
-use native.Mathlib.Numerals.{add-one}
-use lib.ListN.{length, get_or, take, length-append}
-use lib.Seq.{take_all, take-suc}
+use mathlib.Core.List.{List, ◌∷◌}
+use lib.ListN.{length}
+use Rattle.std.specs.Prelude.{count_by}
+use Rattle.std.proofs.lemmas.List.Recursion.{is_count_by}
+use native.Mathlib.Omega.{arith}
 use Rattle.lists.specs.Lists.{filter}
-use Rattle.lists.proofs.Maps.{filter_append}
 use Rattle.server.specs.declared.JobRow.{JobRow}
 use Rattle.server.specs.Table.{Table, names, rows_of}
 use Rattle.command.specs.Texts.{held_of, is_held, jobs_of}
 use Rattle.command_status.specs.Counts.{counted}
 
--- ---- a count under way: of the first p entries n pass the test
+-- ---- the library's count of those that pass a test
 
-module _ {A : Type 0} (f : A → Bool) (l : List A) (p n : ℕ) (e : n ≡ length (filter f (take p l))) where
-  pub count_turn : (d : A) (b : Bool) (x : ℕ) → p < length l → b ≡ f (get_or l p d) → x ≡ cond b 1 0 → n + x ≡ length (filter f (take (p + 1) l))
-  count_turn d b x h eb ex =
-      rw (add-one, take-suc l p d h, filter_append, length-append, ← e, ← eb) (ap (λ (k : ℕ). n + k) (ex ∙ one b))
-    where
-      one : (b : Bool) → cond b 1 0 ≡ length (cond b (get_or l p d ∷ []) [])
-      one true = refl
-      one false = refl
-
-  pub count_end : length l ≤ p → n ≡ length (filter f l)
-  count_end h = e ∙ ap (λ (r : List A). length (filter f r)) (take_all p l h)
+pub filter_counted : {A : Type 0} (f : A → Bool) (l : List A) → count_by f l ≡ length (filter f l)
+filter_counted {A} f l = sym (is_count_by (λ r. length (filter f r)) f refl more l)
+  where
+    more : (x : A) (r : List A) → length (filter f (x ∷ r)) ≡ cond (f x) (1 + length (filter f r)) (length (filter f r))
+    more x r = go (f x)
+      where
+        go : (b : Bool) → length (cond b (x ∷ filter f r) (filter f r)) ≡ cond b (1 + length (filter f r)) (length (filter f r))
+        go true = omega arith
+        go false = refl
 
 -- ---- what is counted
 

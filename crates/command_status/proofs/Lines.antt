@@ -1,10 +1,12 @@
 -- A status line from the parts that the code lays, and the lines of the functions that are listed. Assumes nothing.
-use Prim.Native.Nat.{ℕ, ◌≤◌}
+use Prim.Native.Nat.{ℕ}
 use mathlib.Core.Path.{◌≡◌, ap, ◌∙◌}
 use mathlib.Core.Bool.{true, false}
 use mathlib.Core.List.{List, ◌++◌, map}
 use lib.Count.{ones}
-use lib.ListN.{length, get_or, take, get_or-map}
+use native.Mathlib.Omega.{arith}
+use lib.Seq.{take_all}
+use lib.ListN.{length, get_or, get_or-map}
 use Rattle.octets.specs.Bytes.{Bytes}
 use Rattle.lists.specs.Lists.{concat, filter}
 use Rattle.lists.proofs.Maps.{filter_all}
@@ -36,9 +38,9 @@ module _ (t : Table) (p : Printable t) (q : ℕ) where
 abbrev pub line_at : Table → List ℕ → ℕ → Bytes
 line_at t places i = status_line t (get_or places i 0)
 
-pub lines_are : (t : Table) (places : List ℕ) (count : ℕ) → count ≤ length places → pieces (line_at t places) count ≡ concat (map (status_line t) (take count places))
-lines_are t places count h =
-    chosen_pieces (λ q. true) (status_line t) places count h ∙ ap (λ (l : List ℕ). concat (map (status_line t) l)) (filter_all (take count places))
+pub lines_are : (t : Table) (l m : List ℕ) → l ≡ m → pieces (line_at t l) (length l) ≡ concat (map (status_line t) m)
+lines_are t l m e =
+    chosen_pieces (λ q. true) (status_line t) l (length l) (omega arith) ∙ ap (λ (x : List ℕ). concat (map (status_line t) x)) (rw (take_all (length l) l (omega arith), filter_all l) e)
 
 pub status_is : (t : Table) (l : List ℕ) → l ≡ in_order t.functions → concat (map (status_line t) l) ++ period_line ≡ status_text t
 unfolding status_text

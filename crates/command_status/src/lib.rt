@@ -26,27 +26,11 @@ fn is_counted(row: JobRow, q: usize, held: bool) -> bool
     ((row.serial != 0) & (row.function as usize == q)) & (!held | (row.holder != 0))
 }
 
-// One or none.
-fn one_if(b: bool) -> u32
-    ensures { (result ≡ cond b 1 0) × (result ≤ 1) }
-{
-    if b {
-        return 1;
-    }
-    0
-}
-
 // How many of the jobs are of the function at place `q`; of the held ones, if only they are asked for.
 fn count_jobs(rows: [JobRow; JOBS], q: usize, held: bool) -> u32
     ensures { result ≡ length (filter (counted held q) rows) }
 {
-    let mut count = 0;
-    let mut p = 0;
-    while p < JOBS {
-        count += one_if(is_counted(rows[p], q, held));
-        p += 1;
-    }
-    count
+    rows.iter().filter(|row| is_counted(**row, q, held)).count() as u32
 }
 
 // ---- lines
@@ -93,13 +77,9 @@ fn put_lines(out: &mut [u8], at: usize, table: &[u8], listing: Listing) -> usize
     ensures { (result ≡ at + length (concat (map (status_line (table_of connection_count table.now)) (listed listing))))
         × (out.new ≡ put at (concat (map (status_line (table_of connection_count table.now)) (listed listing))) out.old) }
 {
-    let places = listing.places;
-    let count = listing.count;
     let mut place = at;
-    let mut i = 0;
-    while i < count {
-        place = put_line(out, place, table, places[i]);
-        i += 1;
+    for q in listing.known() {
+        place = put_line(out, place, table, *q);
     }
     place
 }

@@ -1,10 +1,12 @@
 -- The answer to `workers` from the parts that the code lays: a name if the connection is able to do the function, the head of a line, the
 -- whole line, and the lines of the connections that are open. Assumes nothing.
-use Prim.Native.Nat.{ℕ, ◌≤◌}
+use Prim.Native.Nat.{ℕ}
 use mathlib.Core.Path.{◌≡◌, ap, sym, ◌∙◌}
 use mathlib.Core.Bool.{Bool, true, false}
 use mathlib.Core.List.{List, [], ◌∷◌, ◌++◌, map, append_assoc, append-nil}
-use lib.ListN.{length, get_or, take, get_or-map}
+use native.Mathlib.Omega.{arith}
+use lib.Seq.{take_all}
+use lib.ListN.{length, get_or, get_or-map}
 use Rattle.octets.specs.Bytes.{Bytes, text}
 use Rattle.handle.specs.Handle.{decimal}
 use Rattle.sets.specs.Sets.{has}
@@ -39,9 +41,10 @@ module _ (t : Table) (c q s : ℕ) (b : Bool) (es : s ≡ get_or (values_of t).a
 abbrev pub name_for : Table → ℕ → List ℕ → ℕ → Bytes
 name_for t c places i = name_text t c (get_or places i 0)
 
-pub names_are : (t : Table) (c : ℕ) (places : List ℕ) (count : ℕ) → count ≤ length places → pieces (name_for t c places) count ≡ names_text t (take count places) c
+pub names_are : (t : Table) (c : ℕ) (l m : List ℕ) → l ≡ m → pieces (name_for t c l) (length l) ≡ names_text t m c
 unfolding names_text
-names_are t c places count h = chosen_pieces (is_able t c) (spaced_name t) places count h
+names_are t c l m e =
+    chosen_pieces (is_able t c) (spaced_name t) l (length l) (omega arith) ∙ ap (λ (x : List ℕ). concat (map (spaced_name t) (filter (is_able t c) x))) (rw (take_all (length l) l (omega arith)) e)
 
 -- ---- a line
 

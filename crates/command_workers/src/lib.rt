@@ -24,9 +24,10 @@ fn put_name(out: &mut [u8], at: usize, table: &[u8], c: usize, q: usize) -> usiz
 {
     if sets::has(table_rows::able_at(table, q), c) {
         let place = octets::put(out, at, b" ");
-        return prints::put_printed(out, place, command_order::name_at(table, q));
+        prints::put_printed(out, place, command_order::name_at(table, q))
+    } else {
+        at
     }
-    at
 }
 
 // Lays the names of those functions that are listed and that connection `c` is able to do.
@@ -36,13 +37,9 @@ fn put_names(out: &mut [u8], at: usize, table: &[u8], listing: Listing, c: usize
     ensures { (result ≡ at + length (names_text (table_of connection_count table.now) (listed listing) c))
         × (out.new ≡ put at (names_text (table_of connection_count table.now) (listed listing) c) out.old) }
 {
-    let places = listing.places;
-    let count = listing.count;
     let mut place = at;
-    let mut i = 0;
-    while i < count {
-        place = put_name(out, place, table, c, places[i]);
-        i += 1;
+    for q in listing.known() {
+        place = put_name(out, place, table, c, *q);
     }
     place
 }
@@ -81,11 +78,11 @@ fn put_if_open(out: &mut [u8], at: usize, table: &[u8], listing: Listing, c: usi
     ensures { (result ≡ at + length (open_text (table_of connection_count table.now) (listed listing) c))
         × (out.new ≡ put at (open_text (table_of connection_count table.now) (listed listing) c) out.old) }
 {
-    let connection = table_rows::connection_at(table, c);
-    if connection.opened {
-        return put_line(out, at, table, listing, c);
+    if table_rows::connection_at(table, c).opened {
+        put_line(out, at, table, listing, c)
+    } else {
+        at
     }
-    at
 }
 
 // Lays the lines of the open connections, in rising order.
@@ -96,10 +93,8 @@ fn put_lines(out: &mut [u8], at: usize, table: &[u8], listing: Listing) -> usize
         × (out.new ≡ put at (lines_text (table_of connection_count table.now) (listed listing)) out.old) }
 {
     let mut place = at;
-    let mut c = 0;
-    while c < CONNECTIONS {
+    for c in 0..CONNECTIONS {
         place = put_if_open(out, place, table, listing, c);
-        c += 1;
     }
     place
 }

@@ -3,7 +3,7 @@
 use Prim.Native.Nat.{ℕ, suc, ◌≤◌, ◌<◌, ◌^◌}
 use mathlib.Core.Path.{◌≡◌, refl, ap, sym, ◌∙◌, subst}
 use mathlib.Core.Bool.{Bool, true, false, not, ◌||◌}
-use mathlib.Core.Option.{Option, none, some}
+use Rattle.std.specs.Prelude.{Option, Some, None}
 use mathlib.Core.List.{List, [], ◌∷◌, map}
 use native.Mathlib.Nat.{le_trans}
 use native.Mathlib.Omega.{arith}
@@ -181,14 +181,14 @@ gone_ungiven n e s r h u g = never (given h (messages_of e s)) (λ y. clash (giv
 
 -- ---- late results
 
-nobody_holds : (c : ℕ) (h : Bytes) (t : Table) → stands h t ≡ false → held_job_of t c h ≡ none
+nobody_holds : (c : ℕ) (h : Bytes) (t : Table) → stands h t ≡ false → held_job_of t c h ≡ None
 unfolding holds_handle has_handle
 nobody_holds c h t g = go (held_job_of t c h) refl
   where
-    go : (o : Option ℕ) → held_job_of t c h ≡ o → o ≡ none
-    go none e = refl
-    go (some p) e =
-        let f = found (λ j. holds_handle t.hub c h j.row) no_job t.jobs (some p) e in
+    go : (o : Option ℕ) → held_job_of t c h ≡ o → o ≡ None
+    go None e = refl
+    go (Some p) e =
+        let f = found (λ j. holds_handle t.hub c h j.row) no_job t.jobs (Some p) e in
         let r = (job_at t p).row in
         let a : has_handle t.hub h r ≡ true = and_right (held_by c r) _ f.passes in
         clash (at_stands h t (record { place = p; inside = f.inside; live' = and_left (live r) _ a; is = sym (same_is _ _ (and_right (live r) _ a)) })) g
@@ -258,14 +258,14 @@ late_number c b h s g o z =
 
 -- ---- the status of a job that does not stand
 
-nobody_has : (h : Bytes) (t : Table) → stands h t ≡ false → job_of t h ≡ none
+nobody_has : (h : Bytes) (t : Table) → stands h t ≡ false → job_of t h ≡ None
 unfolding has_handle
 nobody_has h t g = go (job_of t h) refl
   where
-    go : (o : Option ℕ) → job_of t h ≡ o → o ≡ none
-    go none e = refl
-    go (some p) e =
-        let f = found (λ j. has_handle t.hub h j.row) no_job t.jobs (some p) e in
+    go : (o : Option ℕ) → job_of t h ≡ o → o ≡ None
+    go None e = refl
+    go (Some p) e =
+        let f = found (λ j. has_handle t.hub h j.row) no_job t.jobs (Some p) e in
         let r = (job_at t p).row in
         clash (at_stands h t (record { place = p; inside = f.inside; live' = and_left (live r) _ f.passes; is = sym (same_is _ _ (and_right (live r) _ f.passes)) })) g
 
@@ -283,4 +283,4 @@ asks_status b h e = by (read requests b) refl e
 pub unknown_told : (n : ℕ) (c : ℕ) (b h : Bytes) (s : Server) → Running n s → stands h s.table ≡ false → is_open s.table c ≡ true → reading_asks h (read requests b) ≡ true
     → messages_of (sends c b) s ≡ unknown_job c h ∷ []
 unfolding messages_of message_of decided only_if_open served status_at
-unknown_told n c b h s r g o z = rw (open_inside s.table c o, o, asks_status b h z, nobody_has h s.table g, settle_nothing (plain c 20 (status_of none h s.table) ∷ []) s.table r.rules)
+unknown_told n c b h s r g o z = rw (open_inside s.table c o, o, asks_status b h z, nobody_has h s.table g, settle_nothing (plain c 20 (status_of None h s.table) ∷ []) s.table r.rules)

@@ -3,7 +3,7 @@
 use Prim.Native.Nat.{ℕ, suc, ◌<◌, ◌^◌}
 use mathlib.Core.Path.{◌≡◌, refl, ap, sym, ◌∙◌, subst}
 use mathlib.Core.Bool.{Bool, true, false, not, cond, ◌||◌, ◌&&◌}
-use mathlib.Core.Option.{some}
+use Rattle.std.specs.Prelude.{Some}
 use native.Mathlib.Decide.{ℕ_discrete}
 use native.Mathlib.Omega.{arith}
 use borrow.Author.Tests.{eq-eqb, ne_eqb, eqb-true, ltb-true, ltb-false, lt-ltb}
@@ -196,7 +196,7 @@ module _ (n : ℕ) (s : Server) (r : Running n s) (c : ℕ) (h : Bytes) where
   stays_heard (sends d b) p z l q = unheard d b (never _ (λ e. by (created_known c d b h s e)))
     where
       by : Created d b u h → ⊥
-      by (by_joining o i y k v w) = z o (y ∙ ap some (handle_place n s r h (before p l q) i k v w))
+      by (by_joining o i y k v w) = z o (y ∙ ap Some (handle_place n s r h (before p l q) i k v w))
       by (by_making room w) =
           let x = serial_past n s r p (inside_live u p l) in
           let y : (job_at u p).row.serial ≡ suc u.last = handle_one_to_one u.hub _ _ (omega arith) (omega arith) (sym q ∙ w) in

@@ -19,7 +19,7 @@ use Rattle.server.specs.Table.{Table, fresh, job_at}
 use Rattle.packet.specs.Packet.{read, requests}
 use Rattle.server.specs.Requests.{Event, sends}
 use Rattle.server.specs.Rules.{obeys}
-use Rattle.server.specs.Server.{Server, start, after}
+use Rattle.server.specs.Server.{Server, start}
 use Rattle.server.specs.Layout.{text_at, table_of, bytes_of, table_size, hub_at, is_image}
 use Rattle.server.specs.Call.{Made, made, make, server_in, too_short, is_sound, refused_by, call}
 use Rattle.server_laws.proofs.Lengths.{hub_after}

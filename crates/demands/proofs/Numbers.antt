@@ -2,7 +2,7 @@
 use Prim.Native.Nat.{ℕ, zero, suc, ◌+◌}
 use mathlib.Core.Path.{◌≡◌, refl, ap, ◌∙◌, subst}
 use mathlib.Core.Bool.{Bool, true, false, not, cond, ◌&&◌, ◌||◌}
-use mathlib.Core.Option.{Option, none, some}
+use Rattle.std.specs.Prelude.{Option, Some, None}
 use mathlib.Core.List.{List, [], ◌∷◌, map}
 use native.Mathlib.Nat.{zero-add}
 use native.Mathlib.Omega.{arith}
@@ -11,7 +11,7 @@ use lib.Dec.{ltb, eqb}
 use Rattle.octets.specs.Bytes.{Bytes, same, number_at}
 use Rattle.packet.specs.declared.Shape.{Shape}
 use Rattle.packet.specs.declared.Shape.TheVariants.{Foreign}
-use Rattle.packet.specs.Layout.{is_own, request_shape, served}
+use Rattle.packet.specs.Layout.{is_own, request_shape}
 use Rattle.packet.specs.Arguments.{Parts, bad, parts}
 use Rattle.packet.specs.Packet.{Reading, refused, header, argued, body, after_header, read}
 use Rattle.lists.specs.Lists.{any, all, find, up}
@@ -93,19 +93,19 @@ asks_at kind a b c =
 -- ---- searches
 
 abbrev is_some : Option ℕ → Bool
-is_some none = false
-is_some (some i) = true
+is_some None = false
+is_some (Some i) = true
 
 some_up : (o : Option ℕ) → is_some (up o) ≡ is_some o
-some_up none = refl
-some_up (some i) = refl
+some_up None = refl
+some_up (Some i) = refl
 
 -- a search finds a place exactly if some entry passes
 find_any : {A : Type 0} (p : A → Bool) (l : List A) → is_some (find p l) ≡ any p l
 find_any p [] = refl
 find_any p (x ∷ l) = go (p x) (some_up (find p l) ∙ find_any p l)
   where
-    go : (b : Bool) → is_some (up (find p l)) ≡ any p l → is_some (cond b (some 0) (up (find p l))) ≡ b || any p l
+    go : (b : Bool) → is_some (up (find p l)) ≡ any p l → is_some (cond b (Some 0) (up (find p l))) ≡ b || any p l
     go true q = refl
     go false q = q
 
@@ -122,8 +122,8 @@ not_not true = refl
 not_not false = refl
 
 some_else : (x y : Option ℕ) → is_some (or_else x y) ≡ is_some x || is_some y
-some_else none y = refl
-some_else (some i) y = refl
+some_else None y = refl
+some_else (Some i) y = refl
 
 -- there is room for a function: it is known, or a place is free
 room_some : (fs : List Function) (f : Bytes) → is_some (room_for fs f) ≡ not (not (any (λ x. same x.name f) fs) && all is_known fs)
@@ -149,23 +149,23 @@ free_some t = find_any (λ r. not (live r)) (rows_of t) ∙ any_not (λ r. not (
 module _ (c : ℕ) (t : Table) where
   can_do_number : (o : Option ℕ) (f : Bytes) → (can_do_at o c f t).number ≡ cond (not (is_some o)) 11 0
   unfolding can_do_at refuse settle
-  can_do_number none f = refl
-  can_do_number (some q) f = refl
+  can_do_number None f = refl
+  can_do_number (Some q) f = refl
 
   cant_do_number : (o : Option ℕ) → (cant_do_at o c t).number ≡ 0
   unfolding cant_do_at settle
-  cant_do_number none = refl
-  cant_do_number (some q) = refl
+  cant_do_number None = refl
+  cant_do_number (Some q) = refl
 
   grab_number : (o : Option ℕ) (uniq : Bool) (u : Table) → (grab_at o uniq c u).number ≡ 0
   unfolding grab_at settle
-  grab_number none uniq u = refl
-  grab_number (some p) uniq u = refl
+  grab_number None uniq u = refl
+  grab_number (Some p) uniq u = refl
 
   work_number : (o : Option ℕ) (how : Work) (kind : ℕ) (n d : Bytes) → (work_at o how kind c n d t).number ≡ cond (not (is_some o)) 14 0
   unfolding work_at refuse settle
-  work_number none how kind n d = refl
-  work_number (some p) how kind n d = refl
+  work_number None how kind n d = refl
+  work_number (Some p) how kind n d = refl
 
   option_number : (b : Bool) (name : Bytes) → (option_if b c name t).number ≡ cond (not b) 15 0
   unfolding option_if refuse settle
@@ -175,9 +175,9 @@ module _ (c : ℕ) (t : Table) where
   new_number : (o r : Option ℕ) (priority : ℕ) (background : Bool) (f u : Bytes) (size : ℕ)
       → (submit_new o r c priority background f u size t).number ≡ cond (not (is_some o)) 11 (cond (not (is_some r)) 12 (cond (not (ltb t.last 4294967295)) 13 0))
   unfolding submit_new refuse settle
-  new_number none r priority background f u size = refl
-  new_number (some q) none priority background f u size = refl
-  new_number (some q) (some p) priority background f u size = go (ltb t.last 4294967295) _ refl
+  new_number None r priority background f u size = refl
+  new_number (Some q) None priority background f u size = refl
+  new_number (Some q) (Some p) priority background f u size = go (ltb t.last 4294967295) _ refl
     where
       go : (b : Bool) (d : Decision) → d.number ≡ 0 → (cond b d (refuse c 13 t)).number ≡ cond (not b) 13 0
       go true d e = e
@@ -186,8 +186,8 @@ module _ (c : ℕ) (t : Table) where
   submit_number : (o : Option ℕ) (priority : ℕ) (background : Bool) (f u : Bytes) (size : ℕ)
       → (submit_to o c priority background f u size t).number ≡ cond (is_some o) 0 (submit_new (room_for t.functions f) (free_place t) c priority background f u size t).number
   unfolding submit_to settle
-  submit_number none priority background f u size = refl
-  submit_number (some p) priority background f u size = refl
+  submit_number None priority background f u size = refl
+  submit_number (Some p) priority background f u size = refl
 
   joined_some : (f u : Bytes) → is_some (joined t f u) ≡ any (joins t.functions f u) t.jobs
   unfolding joined

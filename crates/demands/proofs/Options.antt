@@ -11,13 +11,11 @@ use lib.Seq.{get_or-set_same, get_or-set_other}
 use lib.Dec.{eqb}
 use Rattle.octets.specs.Bytes.{Bytes}
 use Rattle.octets.proofs.Strings.{and_false}
-use Rattle.packet.specs.Packet.{refused}
 use Rattle.lists.proofs.Cases.{All, cond_both}
 use Rattle.lists.proofs.Rows.{clash, or_off}
 use Rattle.server.specs.declared.Connection.{Connection}
 use Rattle.server.specs.Table.{Table, closed, connection_at, set_connection, ables_of, rows_of}
 use Rattle.server.specs.Requests.{Event, sends, Request, request_in}
-use Rattle.server.specs.Requests as R
 use Rattle.server.specs.Events.{Send, Decision, silence, refuse, settle, dropped, forgot, wakes, opening, closing, unable_to_all, sleeping}
 use Rattle.server.specs.Server.{Server, answer, next}
 use Rattle.server.specs.Call.{server_in}

@@ -2,7 +2,7 @@
 use Prim.Native.Nat.{ℕ, ◌+◌, ◌/◌, ◌%◌, ◌<◌, ◌≤◌}
 use mathlib.Core.Path.{◌≡◌, refl, ap, sym, ◌∙◌}
 use mathlib.Core.Bool.{Bool, true, false, not, cond, ◌&&◌}
-use mathlib.Core.Option.{Option, none, some}
+use Rattle.std.specs.Prelude.{Option, Some, None}
 use mathlib.Core.List.{List, [], ◌∷◌, ◌++◌, append-nil, append_assoc}
 use native.Mathlib.Omega.{arith}
 use borrow.Author.Tests.{le-leb, leb-true, ltb-true, ltb-false}
@@ -279,9 +279,9 @@ module _ (n : ℕ) (s : Server) (h : Running n s) where
 
   reads_status : (c : ℕ) (b j : Bytes) (o : Option ℕ) → request_in b ≡ get_status j → job_of s.table j ≡ o → Reads (sends c b) s (plain c 20 (status_of o j s.table))
   unfolding has_handle every
-  reads_status c b j none q r = reads_plain _ s c 20 _ (status_sendable j _ _ false false (status_fits b j q) refl refl)
-  reads_status c b j (some p) q r =
-      let f = found (λ x. has_handle s.table.hub j x.row) no_job s.table.jobs (some p) r in
+  reads_status c b j None q r = reads_plain _ s c 20 _ (status_sendable j _ _ false false (status_fits b j q) refl refl)
+  reads_status c b j (Some p) q r =
+      let f = found (λ x. has_handle s.table.hub j x.row) no_job s.table.jobs (Some p) r in
       let x = texts n s h p f.inside (and_left (live (job_at s.table p).row) _ f.passes) in
       let k = job_at s.table p in
       reads_plain _ s c 20 _ (status_sendable j k.numerator k.denominator true (not (eqb k.row.holder 0)) (status_fits b j q) x.numerator x.denominator)

@@ -3,7 +3,7 @@
 use Prim.Native.Nat.{ℕ, suc, ◌<◌}
 use mathlib.Core.Path.{◌≡◌, refl, ap, ap₂, sym, ◌∙◌, subst}
 use mathlib.Core.Bool.{Bool, true, false, cond, ◌||◌, ◌&&◌}
-use mathlib.Core.Option.{Option, none, some}
+use Rattle.std.specs.Prelude.{Option, Some, None}
 use mathlib.Core.List.{List, [], ◌∷◌, map}
 use native.Mathlib.Omega.{arith}
 use borrow.Author.Tests.{ltb-true}
@@ -119,10 +119,10 @@ open_done false o t x e = absurd (omega arith)
 open_done true false t x e = absurd (omega arith)
 open_done true true t x e = (refl, refl)
 
-work_done : (o : Option ℕ) (how : Work) (kind c : ℕ) (n d : Bytes) (t : Table) → (work_at o how kind c n d t).number ≡ 0 → (p : ℕ) × (o ≡ some p)
+work_done : (o : Option ℕ) (how : Work) (kind c : ℕ) (n d : Bytes) (t : Table) → (work_at o how kind c n d t).number ≡ 0 → (p : ℕ) × (o ≡ Some p)
 unfolding work_at refuse
-work_done none how kind c n d t e = absurd (omega arith)
-work_done (some p) how kind c n d t e = (p, refl)
+work_done None how kind c n d t e = absurd (omega arith)
+work_done (Some p) how kind c n d t e = (p, refl)
 
 hears_wants : (how : Work) (kind : ℕ) (t : Table) (l : ℕ) → throwing how ≡ eqb kind 25 → hears how t l ≡ wants (option_in t) kind l
 hears_wants tells kind t l e = rw (← e)
@@ -165,7 +165,7 @@ module _ (n : ℕ) (s : Server) (r : Running n s) (d : ℕ) (b h : Bytes) (w : r
   unfolding decided only_if_open
   decided_is = rw (opened.0, opened.1) (ap (λ (q : Request). served d q t) asked.is)
 
-  held : (p : ℕ) × (held_job_of t d h ≡ some p)
+  held : (p : ℕ) × (held_job_of t d h ≡ Some p)
   unfolding answer served
   held = work_done (held_job_of t d h) asked.how asked.kind d asked.n asked.d t (sym (ap (λ (x : Decision). x.number) decided_is) ∙ z)
 
@@ -173,7 +173,7 @@ module _ (n : ℕ) (s : Server) (r : Running n s) (d : ℕ) (b h : Bytes) (w : r
   unfolding holds_handle has_handle
   held_at =
       let (p, q) = held in
-      let f = found (λ j. holds_handle t.hub d h j.row) no_job t.jobs (some p) q in
+      let f = found (λ j. holds_handle t.hub d h j.row) no_job t.jobs (Some p) q in
       let row = (job_at t p).row in
       let x : has_handle t.hub h row ≡ true = and_right (held_by d row) _ f.passes in
       record { place = p; inside = f.inside; live' = and_left (live row) _ x; is = sym (same_is _ _ (and_right (live row) _ x)) }
@@ -212,7 +212,7 @@ module _ (n : ℕ) (s : Server) (r : Running n s) (d : ℕ) (b h : Bytes) (w : r
   not_untouched i j l q u =
       let (p, f) = held in
       let e : i ≡ p = handle_place n s r h held_at i j l q in
-      u (record { inside = ltb-true d (length t.connections) opened.0; state = opened.1 }) (ap (place_changed d t) asked.is ∙ f ∙ ap some (sym e))
+      u (record { inside = ltb-true d (length t.connections) opened.0; state = opened.1 }) (ap (place_changed d t) asked.is ∙ f ∙ ap Some (sym e))
 
   ended_at : ends_job asked.how ≡ true → (i : ℕ) {last : ℕ} {k : Job} → Becomes t last i (job_at t i) (sends d b) k → live k.row ≡ true → ¬ (h ≡ handle t.hub k.row.serial)
   ended_at z i (stays e u) l g = not_untouched i (inside_live t i l) l g u

@@ -2,7 +2,7 @@
 use Prim.Native.Nat.{ℕ, suc, ◌<◌}
 use mathlib.Core.Path.{◌≡◌, refl, ap, sym, ◌∙◌}
 use mathlib.Core.Bool.{Bool, true, false, not, cond, ◌||◌, ◌&&◌}
-use mathlib.Core.Option.{none, some}
+use Rattle.std.specs.Prelude.{Some, None}
 use mathlib.Core.List.{List, [], ◌∷◌, map}
 use native.Mathlib.Omega.{arith}
 use borrow.Author.Tests.{eqb-true, lt-ltb}
@@ -16,7 +16,7 @@ use Rattle.packet.specs.Packet.{Reading, refused, got, read, requests}
 use Rattle.packet_laws.proofs.Packets.{read_got}
 use Rattle.lists.specs.Lists.{any}
 use Rattle.lists.proofs.Rows.{clash, or_off, replicate_default}
-use Rattle.server.specs.Table.{Table, job_at, set_job, with_row, live, room_for, free_place, joins, joined}
+use Rattle.server.specs.Table.{Table, job_at, set_job, with_row, live, room_for, free_place, joined}
 use Rattle.server.specs.Requests.{Event, sends, Request, reset, pre_sleep, echo, can_do, cant_do, identify, grab, submit, work, get_status, option, requested, from_reading, request_in}
 use Rattle.server.specs.Requests as R
 use Rattle.server.specs.Refusals.{is_told}
@@ -124,22 +124,22 @@ tells_created_lem c h e s d k ls q = rw (q, any_noops c h e s ls) (or_off (eqb d
 
 -- a submission that joins the job at place p, and one that makes a job
 module _ (s : Server) (d : ℕ) (b : Bytes) (o : Stands s.table d true) (priority : ℕ) (background : Bool) (f u : Bytes) (size : ℕ) (q : request_in b ≡ submit priority background f u size) where
-  join_decided : (p : ℕ) → joined s.table f u ≡ some p
+  join_decided : (p : ℕ) → joined s.table f u ≡ Some p
       → decided (sends d b) s ≡ settle (created s.table.hub d (job_at s.table p).row.serial ∷ []) (set_job s.table p (with_row (submitted_by d background (job_at s.table p).row) (job_at s.table p)))
   unfolding decided only_if_open served submit_to
   join_decided p r = rw (lt-ltb d (length s.table.connections) o.inside, o.state, q, r)
 
-  pub join_packets : (p : ℕ) → joined s.table f u ≡ some p → (ls : List ℕ) × ((decided (sends d b) s).packets ≡ created s.table.hub d (job_at s.table p).row.serial ∷ map noop ls)
+  pub join_packets : (p : ℕ) → joined s.table f u ≡ Some p → (ls : List ℕ) × ((decided (sends d b) s).packets ≡ created s.table.hub d (job_at s.table p).row.serial ∷ map noop ls)
   unfolding settle
   join_packets p r =
       (to_wake (dropped (set_job s.table p (with_row (submitted_by d background (job_at s.table p).row) (job_at s.table p)))), ap (λ (x : Decision). x.packets) (join_decided p r))
 
-  make_decided : (k p : ℕ) → joined s.table f u ≡ none → room_for s.table.functions f ≡ some k → free_place s.table ≡ some p → s.table.last < 4294967295
+  make_decided : (k p : ℕ) → joined s.table f u ≡ None → room_for s.table.functions f ≡ Some k → free_place s.table ≡ Some p → s.table.last < 4294967295
       → decided (sends d b) s ≡ settle (created s.table.hub d (suc s.table.last) ∷ []) (accepted k f p (new_job d priority background k u size (suc s.table.last)) s.table)
   unfolding decided only_if_open served submit_to submit_new
   make_decided k p r₁ r₂ r₃ l = rw (lt-ltb d (length s.table.connections) o.inside, o.state, q, r₁, r₂, r₃, lt-ltb s.table.last 4294967295 l)
 
-  pub make_packets : (k p : ℕ) → joined s.table f u ≡ none → room_for s.table.functions f ≡ some k → free_place s.table ≡ some p → s.table.last < 4294967295
+  pub make_packets : (k p : ℕ) → joined s.table f u ≡ None → room_for s.table.functions f ≡ Some k → free_place s.table ≡ Some p → s.table.last < 4294967295
       → (ls : List ℕ) × ((decided (sends d b) s).packets ≡ created s.table.hub d (suc s.table.last) ∷ map noop ls)
   unfolding settle
   make_packets k p r₁ r₂ r₃ l =
@@ -157,7 +157,7 @@ refused_tells c h e s d n = go (is_told n)
 -- ---- which job a foreground submission's JOB_CREATED names
 
 pub data Created (d : ℕ) (b : Bytes) (t : Table) (h : Bytes) : Type 0 where
-  by_joining : Stands t d true → (p : ℕ) → place_changed d t (request_in b) ≡ some p → p < length t.jobs → live (job_at t p).row ≡ true → h ≡ handle t.hub (job_at t p).row.serial → Created d b t h
+  by_joining : Stands t d true → (p : ℕ) → place_changed d t (request_in b) ≡ Some p → p < length t.jobs → live (job_at t p).row ≡ true → h ≡ handle t.hub (job_at t p).row.serial → Created d b t h
   by_making : t.last < 4294967295 → h ≡ handle t.hub (suc t.last) → Created d b t h
 
 module _ (c d : ℕ) (b h : Bytes) (s : Server) where

@@ -1,6 +1,5 @@
 -- What it is that two calls agree in everything but opaque bytes, and which packets may differ at all. Demand 3. Assumes nothing.
-use Rattle.std.specs.Prelude.{ℕ, ◌≡◌, Bool, true, false, cond, List, [], ◌∷◌, ◌++◌, length, get_or, take, drop}
-use Rattle.std.proofs.Math.Option.{some}
+use Rattle.std.specs.Prelude.{ℕ, ◌≡◌, Bool, true, false, cond, List, [], ◌∷◌, ◌++◌, length, get_or, take, drop, Some}
 use Rattle.octets.specs.Bytes.{Bytes}
 use Rattle.handle.specs.Handle.{handle}
 use Rattle.sets.specs.Sets.{has}
@@ -36,7 +35,7 @@ pub record AlikeResults (n : ℕ) (x y : Call) (r q : Result) : Type 0 where
 pub data Copied (t : Table) : Event → ℕ → ℕ → Type 0 where
   echoed : (c : ℕ) (b : Bytes) → request_in b ≡ echo → Copied t (sends c b) c 17
   forwarded : (c : ℕ) (b : Bytes) (how : Work) (kind : ℕ) (h n d : Bytes) → request_in b ≡ work how kind h n d
-      → (p : ℕ) → held_job_of t c h ≡ some p → (l : ℕ) → has (job_at t p).row.listeners l ≡ true → hears how t l ≡ true → Copied t (sends c b) l kind
+      → (p : ℕ) → held_job_of t c h ≡ Some p → (l : ℕ) → has (job_at t p).row.listeners l ≡ true → hears how t l ≡ true → Copied t (sends c b) l kind
 
 -- two packets that the events e and f send: the same one, to the byte; or the copies, each with the arguments of its own event's packet
 pub data ButCopies (t : Table) (e f : Event) (a b : Addressed) : Type 0 where

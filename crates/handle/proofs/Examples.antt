@@ -4,7 +4,7 @@ use mathlib.Core.Bool.{true, false, ◌&&◌, ◌||◌}
 use mathlib.Core.List.{[], ◌∷◌, ◌++◌}
 use Rattle.octets.specs.Bytes.{Bytes, every, same, text}
 use Rattle.handle.specs.Handle.{decimal_in, decimal, handle, is_hub_name, lap, value, serial_of}
-use Rattle.handle.specs.declared.Serial.TheVariants.{Of, None}
+use Rattle.std.specs.Prelude.{Some, None}
 
 -- `H:lap:` and then some bytes
 abbrev lap_text : Bytes → Bytes
@@ -24,11 +24,11 @@ pub handle_last : handle lap 4294967295 ≡ lap_text last
 unfolding handle decimal decimal_in
 handle_last = refl
 
-pub serial_one : serial_of lap (lap_text (49 ∷ [])) ≡ Of 1
+pub serial_one : serial_of lap (lap_text (49 ∷ [])) ≡ Some 1
 unfolding serial_of value handle decimal decimal_in same
 serial_one = refl
 
-pub serial_last : serial_of lap (lap_text last) ≡ Of 4294967295
+pub serial_last : serial_of lap (lap_text last) ≡ Some 4294967295
 unfolding serial_of value handle decimal decimal_in same
 serial_last = refl
 
@@ -67,7 +67,7 @@ pub serial_shorter_name : serial_of (text "lap11") (text "H:lap1:11") ≡ None
 unfolding serial_of value handle decimal decimal_in same
 serial_shorter_name = refl
 
-pub serial_own_name : serial_of (text "lap11") (text "H:lap11:1") ≡ Of 1
+pub serial_own_name : serial_of (text "lap11") (text "H:lap11:1") ≡ Some 1
 unfolding serial_of value handle decimal decimal_in same
 serial_own_name = refl
 

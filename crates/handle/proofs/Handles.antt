@@ -11,7 +11,7 @@ use lib.Dec.{eqb, leb}
 use Rattle.octets.specs.Bytes.{Bytes, same, every, first_zero, within, zero_free}
 use Rattle.octets.proofs.Strings.{and_left, and_right, same_refl, same_is}
 use Rattle.handle.specs.Handle.{decimal, handle, handle_most, is_hub_name, value, serial_of}
-use Rattle.handle.specs.declared.Serial.TheVariants.{Of, None}
+use Rattle.std.specs.Prelude.{Some, None}
 use Rattle.handle.proofs.Hubs.{hub_most_lem, hub_zero_free}
 use Rattle.handle.proofs.Decimal.{decimal_most, decimal_least, decimal_digits, decimal_one_to_one, value_decimal}
 
@@ -79,17 +79,17 @@ pub handle_one_to_one : (name : Bytes) (m n : ℕ) → m < 2 ^ 32 → n < 2 ^ 32
 handle_one_to_one name m n hm hn e =
     decimal_one_to_one m n (omega arith) (omega arith) (sym (drop_handle name m) ∙ ap (drop (3 + length name)) e ∙ drop_handle name n)
 
-pub serial_of_handle : (name : Bytes) (n : ℕ) → 1 ≤ n → n < 2 ^ 32 → serial_of name (handle name n) ≡ Of n
+pub serial_of_handle : (name : Bytes) (n : ℕ) → 1 ≤ n → n < 2 ^ 32 → serial_of name (handle name n) ≡ Some n
 unfolding serial_of
 serial_of_handle name n l h =
     let v : value 0 (drop (3 + length name) (handle name n)) ≡ n = rw (drop_handle name n) (value_decimal n (omega arith)) in
     rw (v, le-leb 1 n l, le-leb n 4294967295 (omega arith), same_refl (handle name n))
 
-of_step : (b : Bool) (m n : ℕ) → cond b (Of m) None ≡ Of n → (b ≡ true) × (m ≡ n)
+of_step : (b : Bool) (m n : ℕ) → cond b (Some m) None ≡ Some n → (b ≡ true) × (m ≡ n)
 of_step true m n e = let q : m ≡ n = cc in (refl, q)
 of_step false m n e = let z : ◌≡◌ {A = ℕ} 0 1 = cc in absurd (omega arith)
 
-pub handle_of_serial : (name t : Bytes) (n : ℕ) → serial_of name t ≡ Of n → (handle name n ≡ t) × (1 ≤ n) × (n < 2 ^ 32)
+pub handle_of_serial : (name t : Bytes) (n : ℕ) → serial_of name t ≡ Some n → (handle name n ≡ t) × (1 ≤ n) × (n < 2 ^ 32)
 unfolding serial_of
 handle_of_serial name t n e =
     let m : ℕ = value 0 (drop (3 + length name) t) in
@@ -104,20 +104,20 @@ handle_of_serial name t n e =
 -- ---- where the definitions compare texts, code may compare serials
 
 module _ (name t : Bytes) (s : ℕ) where
-  pub same_handle : 1 ≤ s → s < 2 ^ 32 → same (handle name s) t ≡ true → serial_of name t ≡ Of s
+  pub same_handle : 1 ≤ s → s < 2 ^ 32 → same (handle name s) t ≡ true → serial_of name t ≡ Some s
   same_handle l h e = ap (serial_of name) (sym (same_is (handle name s) t e)) ∙ serial_of_handle name s l h
 
-  pub same_serial : serial_of name t ≡ Of s → same (handle name s) t ≡ true
+  pub same_serial : serial_of name t ≡ Some s → same (handle name s) t ≡ true
   same_serial e = let q : handle name s ≡ t = (handle_of_serial name t s e).0 in rw q (same_refl t)
 
   other_step : (b : Bool) → (b ≡ true → ⊥) → b ≡ false
   other_step true n = absurd (n refl)
   other_step false n = refl
 
-  pub other_handle : 1 ≤ s → s < 2 ^ 32 → (serial_of name t ≡ Of s → ⊥) → same (handle name s) t ≡ false
+  pub other_handle : 1 ≤ s → s < 2 ^ 32 → (serial_of name t ≡ Some s → ⊥) → same (handle name s) t ≡ false
   other_handle l h n = other_step (same (handle name s) t) (λ e. n (same_handle l h e))
 
-  pub other_serial : (r : ℕ) → 1 ≤ s → s < 2 ^ 32 → serial_of name t ≡ Of r → (r ≡ s → ⊥) → same (handle name s) t ≡ false
+  pub other_serial : (r : ℕ) → 1 ≤ s → s < 2 ^ 32 → serial_of name t ≡ Some r → (r ≡ s → ⊥) → same (handle name s) t ≡ false
   other_serial r l h e n = other_handle l h (λ q. let p : r ≡ s = cc in n p)
 
   pub no_handle : 1 ≤ s → s < 2 ^ 32 → serial_of name t ≡ None → same (handle name s) t ≡ false

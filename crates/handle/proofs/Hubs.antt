@@ -1,17 +1,15 @@
 -- Laws of hubs' names: how long they are, that they hold no zero byte and no colon, so that the handles of two hubs never agree; and what
--- each step of `is_hub_byte`, `all_hub_bytes` and `is_hub_name` says. Assumes nothing.
-use Prim.Native.Nat.{ℕ, suc, ◌+◌, ◌<◌, ◌≤◌}
+-- each step of `is_hub_name` says. Assumes nothing.
+use Prim.Native.Nat.{ℕ, suc, ◌<◌, ◌≤◌}
 use mathlib.Core.Path.{◌≡◌, refl, ap, ap₂, ◌∙◌, sym}
-use mathlib.Core.Bool.{Bool, true, false, not, ◌&&◌, ◌||◌}
+use mathlib.Core.Bool.{Bool, true, false, ◌||◌}
 use mathlib.Core.List.{[], ◌∷◌, ◌++◌}
-use native.Mathlib.Numerals.{add-one}
 use native.Mathlib.Omega.{arith}
-use borrow.Author.Tests.{le-leb, lt-leb, leb-true, ne_eqb, eq-eqb, not-true, not-false}
-use lib.ListN.{length, get_or, drop, drop_of_length-le}
+use borrow.Author.Tests.{le-leb, lt-leb, leb-true, ne_eqb, eq-eqb, eqb-true, eqb-false}
+use lib.ListN.{length}
 use lib.Dec.{eqb, leb}
-use lib.Seq.{drop-cons}
 use Rattle.octets.specs.Bytes.{Bytes, every, first_zero, within, zero_free}
-use Rattle.octets.proofs.Strings.{and_left, and_right, and_false}
+use Rattle.octets.proofs.Strings.{and_left, and_right}
 use Rattle.handle.specs.Handle.{hub_most, is_hub_byte, is_hub_name, handle, decimal}
 
 -- ---- one byte
@@ -84,49 +82,19 @@ one_hub a b m n ga gb e =
     let q : a ++ (58 ∷ decimal m) ≡ b ++ (58 ∷ decimal n) = cc in
     names_end a b (decimal m) (decimal n) (hub_bytes a ga) (hub_bytes b gb) q
 
--- ---- `is_hub_byte`
-
-module _ (x : ℕ) where
-  pub low_byte : x < 58 → leb 48 x ≡ is_hub_byte x
-  low_byte h = rw (lt-leb 97 x (omega arith), le-leb x 57 (omega arith)) (go (leb 48 x))
-    where
-      go : (b : Bool) → b ≡ b && true
-      go true = refl
-      go false = refl
-
-  pub middle_byte : 58 ≤ x → x < 97 → false ≡ is_hub_byte x
-  middle_byte l h = rw (lt-leb 97 x h, lt-leb x 57 (omega arith), and_false (leb 48 x))
-
-  pub high_byte : 97 ≤ x → leb x 122 ≡ is_hub_byte x
-  high_byte l = rw (le-leb 97 x l, lt-leb x 57 (omega arith), and_false (leb 48 x)) (go (leb x 122))
-    where
-      go : (b : Bool) → b ≡ b || false
-      go true = refl
-      go false = refl
-
--- ---- `all_hub_bytes`: the bytes passed are good, so the answer is that of the rest
-
-module _ (s : Bytes) (i : ℕ) (d : every is_hub_byte s ≡ every is_hub_byte (drop i s)) where
-  here : i < length s → every is_hub_byte s ≡ is_hub_byte (get_or s i 0) && every is_hub_byte (drop (i + 1) s)
-  unfolding every
-  here h = d ∙ rw (drop-cons s i 0 h, add-one)
-
-  pub byte_bad : (b : Bool) → b ≡ is_hub_byte (get_or s i 0) → not b ≡ true → i < length s → false ≡ every is_hub_byte s
-  byte_bad b q n h = sym (here h ∙ rw (← q, not-true b n))
-
-  pub byte_on : (b : Bool) → b ≡ is_hub_byte (get_or s i 0) → not b ≡ false → i < length s → every is_hub_byte s ≡ every is_hub_byte (drop (i + 1) s)
-  byte_on b q n h = here h ∙ rw (← q, not-false b n)
-
-  pub bytes_end : length s ≤ i → true ≡ every is_hub_byte s
-  unfolding every
-  bytes_end h = sym (d ∙ rw (drop_of_length-le s h))
-
 -- ---- `is_hub_name`
 
 module _ (name : Bytes) where
-  pub name_short : length name < 1 → false ≡ is_hub_name name
+  name_short : length name < 1 → false ≡ is_hub_name name
   unfolding is_hub_name
   name_short h = rw (lt-leb 1 (length name) h)
+
+  module _ (r : Bool) (e : r ≡ eqb (length name) 0) where
+    pub name_empty : r ≡ true → false ≡ is_hub_name name
+    name_empty h = let z : length name ≡ 0 = eqb-true (length name) 0 (sym e ∙ h) in name_short (omega arith)
+
+    pub name_begun : r ≡ false → 1 ≤ length name
+    name_begun h = let n : length name ≡ 0 → ⊥ = eqb-false (length name) 0 (sym e ∙ h) in omega arith
 
   pub name_long : 1 ≤ length name → hub_most < length name → false ≡ is_hub_name name
   unfolding is_hub_name

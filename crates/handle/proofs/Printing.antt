@@ -32,9 +32,6 @@ count_one k n z h = rw (decimal_step k n z, lt-ltb _ _ h)
 count_more : (k n : ℕ) → (k ≡ 0 → ⊥) → 10 ≤ n → length (decimal_in k n) ≡ length (decimal_in (k - 1) (n / 10)) + 1
 count_more k n z h = rw (decimal_step k n z, le-ltb _ _ h, length-append)
 
-pub count_none : (k n : ℕ) → length (decimal_in k n) ≡ 0 + length (decimal_in (k - 0) n)
-count_none k n = let q : k - 0 ≡ k = omega arith in rw q (omega arith)
-
 -- the count: `count` digits are behind, and those of `left` are before
 module _ (most number left count : ℕ) (e : length (decimal_in most number) ≡ count + length (decimal_in (most - count) left)) where
   pub count_last : count < most → left < 10 → count + 1 ≡ length (decimal_in most number)
@@ -102,13 +99,10 @@ module _ (d : Bytes) (i n : ℕ) (h : i ≤ length d) (z : 0 < i) (e : take i d 
       let c : drop (i - 1) d ≡ (n % 10 + 48) ∷ drop i d = drop-cons d (i - 1) 0 (omega arith) ∙ rw (r, last_digit.1) in
       rw (eo, q, c) (put_front (at + (i - 1)) (n % 10 + 48) (drop i d) b)
 
--- at the start all digits are left, and at the end none
+-- at the start all digits are left
 module _ (at k n : ℕ) (b : Bytes) where
   pub all_left : (i : ℕ) → i ≡ length (decimal_in k n) → (take i (decimal_in k n) ≡ decimal_in i n) × (b ≡ put (at + i) (drop i (decimal_in k n)) b)
   all_left i e = (rw (e, take-length, decimal_fit k n), rw (e, drop-length) (sym (put_none _ b)))
-
-  pub none_left : (i : ℕ) (o : Bytes) → i ≤ 0 → o ≡ put (at + i) (drop i (decimal_in k n)) b → o ≡ put at (decimal_in k n) b
-  none_left i o h e = let z : i ≡ 0 = omega arith in e ∙ rw (z, add-zero)
 
 -- ---- a text and then zeros
 

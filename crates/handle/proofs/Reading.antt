@@ -3,7 +3,7 @@ use Prim.Native.Nat.{ℕ, suc, ◌+◌, ◌-◌, ◌*◌, ◌^◌, ◌<◌, ◌�
 use mathlib.Core.Path.{◌≡◌, refl, ap, ◌∙◌, sym}
 use mathlib.Core.Bool.{Bool, true, false, not, cond}
 use mathlib.Core.List.{[], ◌∷◌, ◌++◌, append_assoc}
-use native.Mathlib.Nat.{add-zero, pow-suc, pow-le-pow_right}
+use native.Mathlib.Nat.{add-zero, pow-suc}
 use native.Mathlib.Numerals.{add-one}
 use native.Mathlib.Omega.{arith}
 use borrow.Author.Tests.{leb-true, not-true, not-false}
@@ -12,23 +12,19 @@ use lib.Dec.{leb}
 use lib.Seq.{drop-cons, get_or-append-add, get_or-drop}
 use Rattle.octets.specs.Bytes.{Bytes, every, starts_with, within}
 use Rattle.octets.proofs.Strings.{and_left, every_low, every_high, every_on, every_end, rest_part, starts_self, starts_is}
-use Rattle.handle.specs.Handle.{decimal, handle, prefix, value, serial_of}
-use Rattle.handle.specs.declared.Serial.{Serial}
-use Rattle.handle.specs.declared.Serial.TheVariants.{Of, None}
+use Rattle.handle.specs.Handle.{decimal, handle, prefix, value, number_of, serial_of}
+use Rattle.std.specs.Prelude.{Option, Some, None, Result, Ok, Err}
+use Rattle.std.specs.Result.{OkIff, result_ok}
 use Rattle.handle.proofs.Decimal.{decimal_digits, decimal_first, decimal_value, value_decimal}
 use Rattle.handle.proofs.Handles.{drop_handle, handle_least, handle_most_lem, handle_of_serial, serial_of_handle}
 
 -- ---- the number that bytes make, if all are digits
 
--- 0, if one is none
-abbrev pub number : Bytes → ℕ
-number s = cond (every (within 48 57) s) (value 0 s) 0
-
 module _ (s : Bytes) (a i : ℕ) (e : value 0 s ≡ value a (drop i s)) (d : every (within 48 57) s ≡ every (within 48 57) (drop i s)) where
-  pub number_low : i < length s → get_or s i 0 < 48 → 0 ≡ number s
+  pub number_low : i < length s → get_or s i 0 < 48 → None ≡ number_of s
   number_low h l = rw (← every_low s 48 57 i d h l)
 
-  pub number_high : i < length s → 48 ≤ get_or s i 0 → 57 < get_or s i 0 → 0 ≡ number s
+  pub number_high : i < length s → 48 ≤ get_or s i 0 → 57 < get_or s i 0 → None ≡ number_of s
   number_high h l k = rw (← every_high s 48 57 i d h l k)
 
   pub value_on : i < length s → value 0 s ≡ value (a * 10 + (get_or s i 0 - 48)) (drop (i + 1) s)
@@ -38,9 +34,9 @@ module _ (s : Bytes) (a i : ℕ) (e : value 0 s ≡ value a (drop i s)) (d : eve
   pub digits_on : i < length s → 48 ≤ get_or s i 0 → get_or s i 0 ≤ 57 → every (within 48 57) s ≡ every (within 48 57) (drop (i + 1) s)
   digits_on h l k = every_on s 48 57 i d h l k
 
-  pub number_end : length s ≤ i → a ≡ number s
+  pub number_end : length s ≤ i → Some a ≡ number_of s
   unfolding value
-  number_end h = sym (rw (← every_end s 48 57 i d h) (e ∙ rw (drop_of_length-le s h)))
+  number_end h = sym (rw (← every_end s 48 57 i d h) (ap (λ (n : ℕ). Some n) (e ∙ rw (drop_of_length-le s h))))
 
 -- a first digit that is not `0`
 not_zero : (s : Bytes) → 1 ≤ length s → every (within 48 57) s ≡ true → (get_or s 0 0 ≡ 48 → ⊥) → 49 ≤ get_or s 0 0
@@ -50,12 +46,20 @@ not_zero (x ∷ s) l e n =
     let b : 48 ≤ x = leb-true 48 x (and_left (leb 48 x) (leb x 57) (and_left (within 48 57 x) (every (within 48 57) s) e)) in
     omega arith
 
+-- and such digits make no zero
+value_least : (s : Bytes) (a : ℕ) → a ≤ value a s
+unfolding value
+value_least [] a = omega arith
+value_least (x ∷ s) a = omega (arith, value_least s (a * 10 + (x - 48)))
+
+not_none : (s : Bytes) → 49 ≤ get_or s 0 0 → 1 ≤ value 0 s
+unfolding value
+not_none [] h = absurd (omega arith)
+not_none (x ∷ s) h = omega (arith, value_least s (0 * 10 + (x - 48)))
+
 -- a digit more does not wrap
 pub bound_on : (a i x : ℕ) → a < 10 ^ i → x ≤ 57 → a * 10 + (x - 48) < 10 ^ (i + 1)
 bound_on a i x h l = rw (add-one, pow-suc) (omega arith)
-
-pub power_ten : (i : ℕ) → i ≤ 10 → 10 ^ i ≤ 10000000000
-power_ten i h = pow-le-pow_right {n = 10} (omega arith) {i = i} {j = 10} h
 
 -- ---- `names_hub`: the prefix, part by part
 
@@ -107,6 +111,11 @@ module _ (name t : Bytes) (at : ℕ) (here : at ≡ 3 + length name) where
 
 -- ---- the answers of `serial_of`
 
+-- a number as one of 32 bits: the two ends of `try_from`
+pub narrowed : {E : Type 0} (v : ℕ) (s : Option ℕ) (w : Result ℕ E) → OkIff w (v < 4294967296) v → (4294967295 < v → None ≡ s) → (v ≤ 4294967295 → Some v ≡ s) → result_ok w ≡ s
+narrowed v s (Ok x) k f g = let h : v ≤ 4294967295 = omega (arith, k.0) in rw k.1 (g h)
+narrowed v s (Err x) k f g = f (omega (arith, k))
+
 module _ (name t : Bytes) where
   -- where the digits begin
   abbrev at : ℕ
@@ -116,9 +125,9 @@ module _ (name t : Bytes) where
   no_serial_lem : ((n : ℕ) → 1 ≤ n → n < 2 ^ 32 → handle name n ≡ t → ⊥) → None ≡ serial_of name t
   no_serial_lem never = by_answer (serial_of name t) refl
     where
-      by_answer : (s : Serial) → serial_of name t ≡ s → None ≡ serial_of name t
+      by_answer : (s : Option ℕ) → serial_of name t ≡ s → None ≡ serial_of name t
       by_answer None e = sym e
-      by_answer (Of n) e = let h = handle_of_serial name t n e in absurd (never n h.1 h.2 h.0)
+      by_answer (Some n) e = let h = handle_of_serial name t n e in absurd (never n h.1 h.2 h.0)
 
   pub serial_short : length t < at + 1 → None ≡ serial_of name t
   serial_short h = no_serial_lem (λ n l m e. omega (arith, handle_least name n, ap length e))
@@ -149,30 +158,33 @@ module _ (name t : Bytes) where
   serial_leading z = no_serial_lem (λ n l m e. omega (arith, decimal_first n l (omega arith), ap (λ (x : Bytes). get_or x 0 0) (digits_handle n e), digit_at))
 
   -- the number that the bytes behind the prefix make
-  module _ (r : ℕ) (e : r ≡ number (take (length t - at) (drop at t))) where
-    number_is : r ≡ number (drop at t)
-    number_is = e ∙ ap number (rest_part t at)
+  module _ (r : Option ℕ) (e : r ≡ number_of (take (length t - at) (drop at t))) where
+    number_is : r ≡ number_of (drop at t)
+    number_is = e ∙ ap number_of (rest_part t at)
 
-    number_handle : (n : ℕ) → n < 2 ^ 32 → handle name n ≡ t → r ≡ n
-    number_handle n m q = number_is ∙ ap number (digits_handle n q) ∙ rw (decimal_digits n) (value_decimal n (omega arith))
+    number_handle : (n : ℕ) → n < 2 ^ 32 → handle name n ≡ t → r ≡ Some n
+    number_handle n m q =
+        let v : value 0 (decimal n) ≡ n = value_decimal n (omega arith) in
+        number_is ∙ ap number_of (digits_handle n q) ∙ rw (decimal_digits n, v)
 
-    pub serial_low : r < 1 → None ≡ serial_of name t
-    serial_low h = no_serial_lem (λ n l m q. omega (arith, number_handle n m q))
+    pub serial_letter : r ≡ None → None ≡ serial_of name t
+    serial_letter z = no_serial_lem (λ n l m q. let k = number_handle n m q in let o : ◌≡◌ {A = ℕ} 0 1 = cc in omega arith)
 
-    pub serial_high : 4294967295 < r → None ≡ serial_of name t
-    serial_high h = no_serial_lem (λ n l m q. omega (arith, number_handle n m q))
+    module _ (v : ℕ) (f : r ≡ Some v) where
+      pub serial_high : 4294967295 < v → None ≡ serial_of name t
+      serial_high h = no_serial_lem (λ n l m q. let k = number_handle n m q in let o : v ≡ n = cc in omega arith)
 
-    digits_are : (b : Bool) (v : ℕ) → r ≡ cond b v 0 → 1 ≤ r → (b ≡ true) × (r ≡ v)
-    digits_are true v q h = (refl, q)
-    digits_are false v q h = absurd (omega arith)
+      digits_are : (b : Bool) (w : ℕ) → r ≡ cond b (Some w) None → (b ≡ true) × (v ≡ w)
+      digits_are true w q = let o : v ≡ w = cc in (refl, o)
+      digits_are false w q = let o : ◌≡◌ {A = ℕ} 0 1 = cc in absurd (omega arith)
 
-    pub serial_found : (b : Bool) → b ≡ starts_with t (prefix name) → not b ≡ false → at + 1 ≤ length t → length t ≤ at + 10 → (get_or t at 0 ≡ 48 → ⊥) → 1 ≤ r → r ≤ 4294967295
-        → Of r ≡ serial_of name t
-    serial_found b eb nb least most z lo hi =
-        let d = digits_are (every (within 48 57) (drop at t)) (value 0 (drop at t)) number_is lo in
-        let l = length-drop at t in
-        let first : 49 ≤ get_or (drop at t) 0 0 = not_zero (drop at t) (omega arith) d.0 (λ q. z (sym digit_at ∙ q)) in
-        let back : decimal (value 0 (drop at t)) ≡ drop at t = decimal_value (drop at t) (omega arith) (omega arith) d.0 first in
-        let whole : t ≡ prefix name ++ drop at t = starts_is t (prefix name) (sym eb ∙ not-false b nb) ∙ ap (λ (k : ℕ). prefix name ++ drop k t) prefix_length in
-        let same : handle name r ≡ t = handle_parts r ∙ rw (d.1, back) (sym whole) in
-        sym (ap (serial_of name) (sym same) ∙ serial_of_handle name r lo (omega arith))
+      module _ (b : Bool) (eb : b ≡ starts_with t (prefix name)) (nb : b ≡ true) (least : at + 1 ≤ length t) (most : length t ≤ at + 10) (z : get_or t at 0 ≡ 48 → ⊥) where
+        pub serial_found : v ≤ 4294967295 → Some v ≡ serial_of name t
+        serial_found hi =
+            let d = digits_are (every (within 48 57) (drop at t)) (value 0 (drop at t)) number_is in
+            let l = length-drop at t in
+            let first : 49 ≤ get_or (drop at t) 0 0 = not_zero (drop at t) (omega arith) d.0 (λ q. z (sym digit_at ∙ q)) in
+            let back : decimal (value 0 (drop at t)) ≡ drop at t = decimal_value (drop at t) (omega arith) (omega arith) d.0 first in
+            let whole : t ≡ prefix name ++ drop at t = starts_is t (prefix name) (sym eb ∙ nb) ∙ ap (λ (k : ℕ). prefix name ++ drop k t) prefix_length in
+            let same : handle name v ≡ t = handle_parts v ∙ rw (d.1, back) (sym whole) in
+            sym (ap (serial_of name) (sym same) ∙ serial_of_handle name v (omega (arith, d.1, not_none (drop at t) first)) (omega arith))

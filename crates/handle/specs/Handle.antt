@@ -1,10 +1,8 @@
 -- Decimal numbers, the names of hubs and the handles of jobs. 01: "Its handle is `H:lap:` and the serial in decimal." 02, ask 5: "Handles must
 -- name the hub." Assumes nothing.
-use Rattle.std.specs.Prelude.{ℕ, zero, suc, ◌+◌, ◌-◌, ◌*◌, ◌/◌, ◌%◌, Bool, cond, ◌&&◌, ◌||◌, [], ◌∷◌, ◌++◌, length, take, drop, replicate, ltb}
+use Rattle.std.specs.Prelude.{ℕ, zero, suc, ◌+◌, ◌-◌, ◌*◌, ◌/◌, ◌%◌, Bool, cond, ◌&&◌, ◌||◌, Option, Some, None, [], ◌∷◌, ◌++◌, length, take, drop, replicate, ltb}
 use Rattle.octets.specs.Bytes.{Bytes, same, every, within, text}
 use Rattle.handle.specs.declared.Handle as H
-use Rattle.handle.specs.declared.Serial as S
-use Rattle.handle.specs.declared.Serial.TheVariants as SV
 
 -- n in decimal with no leading zero, in at most k digits
 unfoldable pub decimal_in : ℕ → ℕ → Bytes
@@ -50,11 +48,15 @@ unfoldable pub value : ℕ → Bytes → ℕ
 value a [] = a
 value a (d ∷ ds) = value (a * 10 + (d - 48)) ds
 
+-- the number of a text of digits; none, where a byte is no digit
+abbrev pub number_of : Bytes → Option ℕ
+number_of s = cond (every (within 48 57) s) (Some (value 0 s)) None
+
 -- the serial of which a text is the handle. A handle matches as exact text: no leading zero, no sign, nothing after it.
-unfoldable pub serial_of : Bytes → Bytes → S.Serial
+unfoldable pub serial_of : Bytes → Bytes → Option ℕ
 serial_of name s =
     let n = value 0 (drop (3 + length name) s) in
-    cond (within 1 4294967295 n && same (handle name n) s) (SV.Of n) SV.None
+    cond (within 1 4294967295 n && same (handle name n) s) (Some n) None
 
 -- a text in exactly n bytes, followed by zeros
 abbrev pub padded : ℕ → Bytes → Bytes

@@ -3,7 +3,7 @@
 use Prim.Native.Nat.{ℕ, ◌≤◌}
 use mathlib.Core.Path.{◌≡◌, refl, sym, ap}
 use mathlib.Core.Bool.{Bool, true, false, cond}
-use mathlib.Core.Option.{Option, none, some}
+use Rattle.std.specs.Prelude.{Option, Some, None}
 use native.Mathlib.Omega.{arith}
 use borrow.Author.Tests.{leb-true}
 use lib.ListN.{length, take}
@@ -14,30 +14,28 @@ use Rattle.octets.specs.Put.{put}
 use Rattle.octets.proofs.Laying.{put_start, length_put}
 use Rattle.hexadecimal.specs.Hex.{unhex}
 use Rattle.hexadecimal.specs.Spelling.{Spelling, unspelled, laid, spelling}
-use Rattle.hexadecimal.specs.declared.Spelled as S
-use Rattle.hexadecimal.specs.declared.Spelled.TheVariants as SV
 
 -- the two ends of a laying
 placed : (t : Bool) (b out o : Bytes) (n : ℕ) → leb (length b) (length out) ≡ t
-    → record { answer = SV.Bytes n; output = o } ≡ cond t (record { answer = SV.Bytes (length b); output = put 0 b out }) (unspelled out)
+    → record { answer = Some n; output = o } ≡ cond t (record { answer = Some (length b); output = put 0 b out }) (unspelled out)
     → (n ≤ length o) × (b ≡ take n o)
-placed false b out o n h e = let z : ◌≡◌ {A = S.Spelled} (SV.Bytes n) SV.Bad = ap (λ (s : Spelling). s.answer) e in let y : ◌≡◌ {A = ℕ} 0 1 = cc in absurd (omega arith)
+placed false b out o n h e = let z : ◌≡◌ {A = Option ℕ} (Some n) None = ap (λ (s : Spelling). s.answer) e in let y : ◌≡◌ {A = ℕ} 0 1 = cc in absurd (omega arith)
 placed true b out o n h e =
-    let a : ◌≡◌ {A = S.Spelled} (SV.Bytes n) (SV.Bytes (length b)) = ap (λ (s : Spelling). s.answer) e in
+    let a : ◌≡◌ {A = Option ℕ} (Some n) (Some (length b)) = ap (λ (s : Spelling). s.answer) e in
     let q : n ≡ length b = cc in
     let p : o ≡ put 0 b out = ap (λ (s : Spelling). s.output) e in
     let k : length b ≤ length out = leb-true (length b) (length out) h in
     (rw (p, length_put, q) k, sym (rw (p, q, put_start b out k, take-append_seam)))
 
-spelled : (r : Option Bytes) (out o : Bytes) (n : ℕ) → record { answer = SV.Bytes n; output = o } ≡ laid r out → (n ≤ length o) × (r ≡ some (take n o))
-spelled none out o n e = let z : ◌≡◌ {A = S.Spelled} (SV.Bytes n) SV.Bad = ap (λ (s : Spelling). s.answer) e in let y : ◌≡◌ {A = ℕ} 0 1 = cc in absurd (omega arith)
-spelled (some b) out o n e = let p = placed (leb (length b) (length out)) b out o n refl e in (p.0, ap some p.1)
+spelled : (r : Option Bytes) (out o : Bytes) (n : ℕ) → record { answer = Some n; output = o } ≡ laid r out → (n ≤ length o) × (r ≡ Some (take n o))
+spelled None out o n e = let z : ◌≡◌ {A = Option ℕ} (Some n) None = ap (λ (s : Spelling). s.answer) e in let y : ◌≡◌ {A = ℕ} 0 1 = cc in absurd (omega arith)
+spelled (Some b) out o n e = let p = placed (leb (length b) (length out)) b out o n refl e in (p.0, ap Some p.1)
 
-module _ (d out o : Bytes) (n : ℕ) (e : record { answer = SV.Bytes n; output = o } ≡ spelling d out) where
+module _ (d out o : Bytes) (n : ℕ) (e : record { answer = Some n; output = o } ≡ spelling d out) where
   pub spelled_fits : n ≤ length o
   unfolding spelling
   spelled_fits = (spelled (unhex d) out o n e).0
 
-  pub spelled_bytes : unhex d ≡ some (take n o)
+  pub spelled_bytes : unhex d ≡ Some (take n o)
   unfolding spelling
   spelled_bytes = (spelled (unhex d) out o n e).1

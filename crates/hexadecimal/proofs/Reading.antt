@@ -2,37 +2,31 @@
 use Prim.Native.Nat.{ℕ, zero, suc, ◌+◌, ◌*◌, ◌/◌, ◌%◌, ◌<◌, ◌≤◌}
 use mathlib.Core.Path.{◌≡◌, refl, sym, ap, ◌∙◌}
 use mathlib.Core.Bool.{Bool, true, false, not, cond, ◌&&◌}
-use mathlib.Core.Option.{Option, none, some}
+use Rattle.std.specs.Prelude.{Option, Some, None}
 use mathlib.Core.List.{[], ◌∷◌}
 use mathlib.Core.Logic.{◌⊎◌, inl, inr, ⊎_elim}
 use native.Mathlib.Nat.{not-suc-le-zero, zero-add}
-use native.Mathlib.Numerals.{add-one}
 use native.Mathlib.Omega.{arith}
 use borrow.Author.Tests.{le-leb, lt-leb, leb-true, not-true, not-false}
-use lib.ListN.{length, get_or, take, drop, set, drop_of_length-le}
-use lib.Seq.{drop-cons}
+use lib.ListN.{length, get_or, take, set}
 use Rattle.octets.specs.Bytes.{Bytes, every}
 use Rattle.octets.specs.Put.{put}
 use Rattle.octets.proofs.Strings.{and_left, and_right}
 use Rattle.octets.proofs.Laying.{copy_none, copy_more, copy_all}
 use Rattle.hexadecimal.specs.Hex.{digit_value, cons_byte, unhex}
-use Rattle.hexadecimal.specs.Spelling.{spelling, is_digit, pairs}
-use Rattle.hexadecimal.specs.declared.Spelled.TheVariants as SV
+use Rattle.hexadecimal.specs.Spelling.{spelling, is_digit, digit_of, pairs}
+use Rattle.std.specs.Option.{IsSome, is_some}
 
--- ---- each byte a digit: i bytes passed, each of them one
+-- ---- each byte a digit
 
-module _ (s : Bytes) (i v : ℕ) (e : every is_digit s ≡ every is_digit (drop i s)) (h : i < length s) (q : v ≡ digit_value (get_or s i 0)) where
-  pub digits_stop : 15 < v → false ≡ every is_digit s
-  unfolding every
-  digits_stop k = sym (e ∙ rw (drop-cons s i 0 h, ← q, lt-leb v 15 k))
+-- a byte is one where it stands for something
+module _ (x : ℕ) where
+  stands : (b : Bool) → is_some (cond b (Some (digit_value x)) None) ≡ b
+  stands true = refl
+  stands false = refl
 
-  pub digits_on : v ≤ 15 → every is_digit s ≡ every is_digit (drop (i + 1) s)
-  unfolding every
-  digits_on k = e ∙ rw (drop-cons s i 0 h, ← q, le-leb v 15 k, add-one)
-
-pub digits_end : (s : Bytes) (i : ℕ) → every is_digit s ≡ every is_digit (drop i s) → length s ≤ i → true ≡ every is_digit s
-unfolding every
-digits_end s i e h = sym (e ∙ rw (drop_of_length-le s h))
+  pub digit_known : (r : Option ℕ) (b : Bool) → r ≡ digit_of x → b ≡ is_some r → b ≡ is_digit x
+  digit_known r b e f = rw (f, e) (stands (is_digit x))
 
 -- what stands at a place is one
 digit_at : (s : Bytes) (k : ℕ) → every is_digit s ≡ true → k < length s → digit_value (get_or s k 0) ≤ 15
@@ -50,7 +44,7 @@ pairs_length (x ∷ []) n e = absurd (omega arith)
 pairs_length (x ∷ (y ∷ s)) zero e = absurd (omega arith)
 pairs_length (x ∷ (y ∷ s)) (suc n) e = ap suc (pairs_length s n (omega arith))
 
-pairs_at : (s : Bytes) (i : ℕ) → 2 * i + 1 < length s → get_or (pairs s) i 0 ≡ digit_value (get_or s (2 * i) 0) * 16 + digit_value (get_or s (2 * i + 1) 0)
+pub pairs_at : (s : Bytes) (i : ℕ) → 2 * i + 1 < length s → get_or (pairs s) i 0 ≡ digit_value (get_or s (2 * i) 0) * 16 + digit_value (get_or s (2 * i + 1) 0)
 unfolding pairs
 pairs_at [] i h = absurd (not-suc-le-zero h)
 pairs_at (x ∷ []) i h = absurd (omega arith)
@@ -60,17 +54,16 @@ pairs_at (x ∷ (y ∷ s)) (suc i) h =
     let p : 2 * suc i + 1 ≡ suc (suc (2 * i + 1)) = omega arith in
     rw (p, q) (pairs_at s i (omega arith))
 
--- byte i, from its two digits
-module _ (s : Bytes) (i : ℕ) (k : 2 * i + 1 < length s) where
-  module _ (v : ℕ) (d : every is_digit s ≡ true) where
-    pub high_fits : v ≡ digit_value (get_or s (2 * i) 0) → v ≤ 15
-    high_fits e = rw e (digit_at s (2 * i) d (omega arith))
+-- at each place of digits the code finds what the digit stands for
+module _ (s : Bytes) (k : ℕ) (d : every is_digit s ≡ true) (h : k < length s) (r : Option ℕ) (e : r ≡ digit_of (get_or s k 0)) where
+  pub digit_found : r ≡ Some (digit_value (get_or s k 0))
+  digit_found = e ∙ rw (le-leb (digit_value (get_or s k 0)) 15 (digit_at s k d h))
 
-    pub low_fits : v ≡ digit_value (get_or s (2 * i + 1) 0) → v ≤ 15
-    low_fits e = rw e (digit_at s (2 * i + 1) d k)
+  pub digit_there : IsSome r
+  digit_there = rw digit_found
 
-  pub byte_is : (h l x : ℕ) → h ≡ digit_value (get_or s (2 * i) 0) → l ≡ digit_value (get_or s (2 * i + 1) 0) → x ≡ h * 16 + l → x ≡ get_or (pairs s) i 0
-  byte_is h l x eh el ex = sym (pairs_at s i k ∙ rw (ex, eh, el))
+  pub digit_taken : (v : ℕ) → r ≡ Some v → v ≡ digit_value (get_or s k 0)
+  digit_taken v q = let f = digit_found in cc
 
 -- the laying under way: i bytes of the pairs lie over the buffer
 module _ (b s : Bytes) (n : ℕ) (e : length s ≡ 2 * n) where
@@ -85,18 +78,18 @@ module _ (b s : Bytes) (n : ℕ) (e : length s ≡ 2 * n) where
 
 -- ---- the bytes that the digits spell
 
-bad_pair : (a b : Bool) (x : ℕ) (r : Option Bytes) → a ≡ false ⊎ (b ≡ false ⊎ r ≡ none) → cond (a && b) (cons_byte x r) none ≡ none
+bad_pair : (a b : Bool) (x : ℕ) (r : Option Bytes) → a ≡ false ⊎ (b ≡ false ⊎ r ≡ None) → cond (a && b) (cons_byte x r) None ≡ None
 bad_pair false b x r e = refl
 bad_pair true false x r e = refl
-bad_pair true true x none e = refl
-bad_pair true true x (some s) e = let z : ◌≡◌ {A = ℕ} 0 1 = ⊎_elim (λ w. cc) (⊎_elim (λ w. cc) (λ w. cc)) e in absurd (omega arith)
+bad_pair true true x None e = refl
+bad_pair true true x (Some s) e = let z : ◌≡◌ {A = ℕ} 0 1 = ⊎_elim (λ w. cc) (⊎_elim (λ w. cc) (λ w. cc)) e in absurd (omega arith)
 
 false_part : (a b c : Bool) → a && (b && c) ≡ false → a ≡ false ⊎ (b ≡ false ⊎ c ≡ false)
 false_part false b c e = inl refl
 false_part true false c e = inr (inl refl)
 false_part true true c e = inr (inr e)
 
-unhex_bad : (s : Bytes) → every is_digit s ≡ false → unhex s ≡ none
+unhex_bad : (s : Bytes) → every is_digit s ≡ false → unhex s ≡ None
 unfolding unhex every
 unhex_bad [] e = let z : ◌≡◌ {A = ℕ} 0 1 = cc in absurd (omega arith)
 unhex_bad (x ∷ []) e = refl
@@ -104,14 +97,14 @@ unhex_bad (x ∷ (y ∷ s)) e =
     bad_pair (is_digit x) (is_digit y) (digit_value x * 16 + digit_value y) (unhex s)
     (⊎_elim inl (λ w. inr (⊎_elim inl (λ v. inr (unhex_bad s v)) w)) (false_part (is_digit x) (is_digit y) (every is_digit s) e))
 
-unhex_odd : (s : Bytes) (n : ℕ) → length s ≡ 2 * n + 1 → unhex s ≡ none
+unhex_odd : (s : Bytes) (n : ℕ) → length s ≡ 2 * n + 1 → unhex s ≡ None
 unfolding unhex
 unhex_odd [] n e = absurd (omega arith)
 unhex_odd (x ∷ []) n e = refl
 unhex_odd (x ∷ (y ∷ s)) zero e = absurd (omega arith)
 unhex_odd (x ∷ (y ∷ s)) (suc n) e = bad_pair (is_digit x) (is_digit y) (digit_value x * 16 + digit_value y) (unhex s) (inr (inr (unhex_odd s n (omega arith))))
 
-unhex_pairs : (s : Bytes) (n : ℕ) → length s ≡ 2 * n → every is_digit s ≡ true → unhex s ≡ some (pairs s)
+unhex_pairs : (s : Bytes) (n : ℕ) → length s ≡ 2 * n → every is_digit s ≡ true → unhex s ≡ Some (pairs s)
 unfolding unhex every pairs
 unhex_pairs [] n l e = refl
 unhex_pairs (x ∷ []) n l e = absurd (omega arith)
@@ -120,17 +113,17 @@ unhex_pairs (x ∷ (y ∷ s)) (suc n) l e =
     let r : is_digit y && every is_digit s ≡ true = and_right (is_digit x) (is_digit y && every is_digit s) e in
     let hx : is_digit x ≡ true = and_left (is_digit x) (is_digit y && every is_digit s) e in
     let hy : is_digit y ≡ true = and_left (is_digit y) (every is_digit s) r in
-    let ih : unhex s ≡ some (pairs s) = unhex_pairs s n (omega arith) (and_right (is_digit y) (every is_digit s) r) in
+    let ih : unhex s ≡ Some (pairs s) = unhex_pairs s n (omega arith) (and_right (is_digit y) (every is_digit s) r) in
     rw (hx, hy, ih)
 
 -- ---- what `read_hex` answers
 
 module _ (d out : Bytes) where
-  pub spelling_odd : (length d % 2 ≡ 0 → ⊥) → record { answer = SV.Bad; output = out } ≡ spelling d out
+  pub spelling_odd : (length d % 2 ≡ 0 → ⊥) → record { answer = None; output = out } ≡ spelling d out
   unfolding spelling
   spelling_odd h = sym (rw (unhex_odd d (length d / 2) (omega arith)))
 
-  pub spelling_bad : (r : Bool) → r ≡ every is_digit d → not r ≡ true → record { answer = SV.Bad; output = out } ≡ spelling d out
+  pub spelling_bad : (r : Bool) → r ≡ every is_digit d → not r ≡ true → record { answer = None; output = out } ≡ spelling d out
   unfolding spelling
   spelling_bad r e h = sym (rw (unhex_bad d (sym e ∙ not-true r h)))
 
@@ -145,10 +138,10 @@ module _ (d out : Bytes) where
       even : length d ≡ 2 * n
       even = spelling_even n z m
 
-      pub spelling_long : length out < n → record { answer = SV.Bad; output = out } ≡ spelling d out
+      pub spelling_long : length out < n → record { answer = None; output = out } ≡ spelling d out
       unfolding spelling
       spelling_long k = sym (rw (unhex_pairs d n even spelling_digits, pairs_length d n even, lt-leb n (length out) k))
 
-      pub spelling_good : (o : Bytes) → n ≤ length out → o ≡ put 0 (pairs d) out → record { answer = SV.Bytes n; output = o } ≡ spelling d out
+      pub spelling_good : (o : Bytes) → n ≤ length out → o ≡ put 0 (pairs d) out → record { answer = Some n; output = o } ≡ spelling d out
       unfolding spelling
       spelling_good o k eo = sym (rw (unhex_pairs d n even spelling_digits, pairs_length d n even, le-leb n (length out) k, eo))

@@ -2,7 +2,7 @@
 use Prim.Native.Nat.{ℕ, suc, ◌+◌, ◌-◌, ◌*◌, ◌/◌, ◌%◌, ◌<◌, ◌≤◌}
 use mathlib.Core.Path.{◌≡◌, refl, sym, ap, ◌∙◌}
 use mathlib.Core.Bool.{Bool, true, false, cond, ◌&&◌}
-use mathlib.Core.Option.{Option, none, some}
+use Rattle.std.specs.Prelude.{Option, Some, None}
 use mathlib.Core.List.{[], ◌∷◌}
 use mathlib.Core.Logic.{◌⊎◌, inl, inr, ⊎_elim}
 use native.Mathlib.Omega.{arith}
@@ -56,7 +56,7 @@ module _ (x : ℕ) (h : digit_value x ≤ 15) where
 
 -- ---- bytes
 
-pub unhex_hex : (b : Bytes) → ((i : ℕ) → get_or b i 0 < 256) → unhex (hex b) ≡ some b
+pub unhex_hex : (b : Bytes) → ((i : ℕ) → get_or b i 0 < 256) → unhex (hex b) ≡ Some b
 unfolding unhex hex
 unhex_hex [] f = refl
 unhex_hex (x ∷ b) f =
@@ -64,25 +64,25 @@ unhex_hex (x ∷ b) f =
     let eh : digit_value (hex_digit (x / 16)) ≡ x / 16 = digit_value_lem (x / 16) (omega arith) in
     let el : digit_value (hex_digit (x % 16)) ≡ x % 16 = digit_value_lem (x % 16) (omega arith) in
     let q : x / 16 * 16 + x % 16 ≡ x = omega arith in
-    let ih : unhex (hex b) ≡ some b = unhex_hex b (λ i. f (suc i)) in
+    let ih : unhex (hex b) ≡ Some b = unhex_hex b (λ i. f (suc i)) in
     rw (eh, el, le-leb (x / 16) 15 (omega arith), le-leb (x % 16) 15 (omega arith), ih, q)
 
 -- where a pair of digits in front of others spells bytes, both are digits
-paired : (a c : Bool) (v : ℕ) (r : Option Bytes) (b : Bytes) → cond (a && c) (cons_byte v r) none ≡ some b → (a ≡ true) × (c ≡ true) × (cons_byte v r ≡ some b)
+paired : (a c : Bool) (v : ℕ) (r : Option Bytes) (b : Bytes) → cond (a && c) (cons_byte v r) None ≡ Some b → (a ≡ true) × (c ≡ true) × (cons_byte v r ≡ Some b)
 paired true true v r b e = (refl, refl, e)
 paired true false v r b e = let z : ◌≡◌ {A = ℕ} 0 1 = cc in absurd (omega arith)
 paired false c v r b e = let z : ◌≡◌ {A = ℕ} 0 1 = cc in absurd (omega arith)
 
 -- the first byte of those spelled is the pair's
-fronted : (v : ℕ) (d b : Bytes) (r : Option Bytes) → ((c : Bytes) → r ≡ some c → hex c ≡ d) → cons_byte v r ≡ some b → hex b ≡ hex_digit (v / 16) ∷ hex_digit (v % 16) ∷ d
+fronted : (v : ℕ) (d b : Bytes) (r : Option Bytes) → ((c : Bytes) → r ≡ Some c → hex c ≡ d) → cons_byte v r ≡ Some b → hex b ≡ hex_digit (v / 16) ∷ hex_digit (v % 16) ∷ d
 unfolding hex
-fronted v d b none f e = let z : ◌≡◌ {A = ℕ} 0 1 = cc in absurd (omega arith)
-fronted v d b (some c) f e = let q : b ≡ v ∷ c = cc in rw (q, f c refl)
+fronted v d b None f e = let z : ◌≡◌ {A = ℕ} 0 1 = cc in absurd (omega arith)
+fronted v d b (Some c) f e = let q : b ≡ v ∷ c = cc in rw (q, f c refl)
 
 halves : (h l : ℕ) → h ≤ 15 → l ≤ 15 → ((h * 16 + l) / 16 ≡ h) × ((h * 16 + l) % 16 ≡ l)
 halves h l p q = (omega arith, omega arith)
 
-pub hex_unhex : (d b : Bytes) → unhex d ≡ some b → hex b ≡ d
+pub hex_unhex : (d b : Bytes) → unhex d ≡ Some b → hex b ≡ d
 unfolding unhex hex
 hex_unhex [] b e = let q : b ≡ [] = cc in rw q
 hex_unhex (x ∷ []) b e = let z : ◌≡◌ {A = ℕ} 0 1 = cc in absurd (omega arith)

@@ -5,47 +5,25 @@
 ghost use Rattle.std.specs.Prelude.{◌≡◌, true, ◌+◌, ◌*◌, ◌<◌, ◌≤◌, get_or, length};
 ghost use Rattle.octets.specs.Bytes.{every};
 ghost use Rattle.octets.specs.Put.{put};
-ghost use Rattle.hexadecimal.specs.Hex.{digit_value, hex, hex_byte, hex_digit};
-ghost use Rattle.hexadecimal.specs.Spelling.{is_digit, pairs, spelling};
+ghost use Rattle.hexadecimal.specs.Hex.{hex, hex_byte, hex_digit};
+ghost use Rattle.hexadecimal.specs.Spelling.{digit_of, is_digit, pairs, spelling};
 
-// What reading answers: how many bytes the digits spell, or that they spell none.
-#[derive(Clone, Copy)]
-pub enum Spelled {
-    Bytes(usize),
-    Bad,
-}
-
-// What a digit stands for; 16 is no digit.
-fn digit_value(x: u8) -> u8
-    ensures { result ≡ digit_value x }
+// What a digit stands for, where the byte is one.
+fn digit_value(x: u8) -> Option<u8>
+    ensures { result ≡ digit_of x }
 {
-    if x < 48 {
-        return 16;
+    match x {
+        b'0'..=b'9' => Some(x - 48),
+        b'a'..=b'f' => Some(x - 87),
+        _ => None,
     }
-    if x <= 57 {
-        return x - 48;
-    }
-    if x < 97 {
-        return 16;
-    }
-    if x <= 102 {
-        return x - 87;
-    }
-    16
 }
 
 // Whether each byte is a digit.
 fn all_digits(digits: &[u8]) -> bool
     ensures { result ≡ every is_digit digits.now }
 {
-    let mut i = 0;
-    while i < digits.len() {
-        if 15 < digit_value(digits[i]) {
-            return false;
-        }
-        i += 1;
-    }
-    true
+    digits.iter().all(|x| digit_value(*x).is_some())
 }
 
 // The byte of two digits.
@@ -61,8 +39,8 @@ fn byte_at(digits: &[u8], i: usize) -> u8
     requires { (2 * i + 1 < length digits.now) × (every is_digit digits.now ≡ true) }
     ensures { result ≡ get_or (pairs digits.now) i 0 }
 {
-    let high = digit_value(digits[2 * i]);
-    let low = digit_value(digits[2 * i + 1]);
+    let high = digit_value(digits[2 * i]).unwrap();
+    let low = digit_value(digits[2 * i + 1]).unwrap();
     pair_value(high, low)
 }
 
@@ -71,30 +49,28 @@ fn put_pairs(out: &mut [u8], digits: &[u8], count: usize)
     requires { (length digits.now ≡ 2 * count) × (count ≤ length out.old) × (every is_digit digits.now ≡ true) }
     ensures { out.new ≡ put 0 (pairs digits.now) out.old }
 {
-    let mut i = 0;
-    while i < count {
+    for i in 0..count {
         out[i] = byte_at(digits, i);
-        i += 1;
     }
 }
 
-// Lays the bytes that the digits spell over the start of `out`. Bad, and nothing is written, where the digits are odd in number,
-// one of them is no lowercase hexadecimal digit, or they spell more bytes than `out` holds.
-pub fn read_hex(digits: &[u8], out: &mut [u8]) -> Spelled
+// Lays the bytes that the digits spell over the start of `out`, and answers how many they are. None, and nothing is written, where the
+// digits are odd in number, one of them is no lowercase hexadecimal digit, or they spell more bytes than `out` holds.
+pub fn read_hex(digits: &[u8], out: &mut [u8]) -> Option<usize>
     ensures { record { answer = result; output = out.new } ≡ spelling digits.now out.old }
 {
     if digits.len() % 2 != 0 {
-        return Spelled::Bad;
+        return None;
     }
     if !all_digits(digits) {
-        return Spelled::Bad;
+        return None;
     }
     let count = digits.len() / 2;
     if out.len() < count {
-        return Spelled::Bad;
+        return None;
     }
     put_pairs(out, digits, count);
-    Spelled::Bytes(count)
+    Some(count)
 }
 
 // The digit of a number below 16.
@@ -102,10 +78,10 @@ fn hex_digit(n: u8) -> u8
     requires { n ≤ 15 }
     ensures { result ≡ hex_digit n }
 {
-    if n <= 9 {
-        return n + 48;
+    match n {
+        0..=9 => n + 48,
+        _ => n + 87,
     }
-    n + 87
 }
 
 // A byte in two digits, the high one first.
@@ -121,11 +97,8 @@ pub fn put_hex(out: &mut [u8], at: usize, bytes: &[u8]) -> usize
     ensures { (result ≡ at + length (hex bytes.now)) × (out.new ≡ put at (hex bytes.now) out.old) }
 {
     let mut place = at;
-    let mut i = 0;
-    while i < bytes.len() {
-        let digits = hex_byte(bytes[i]);
-        place = octets::put(out, place, &digits);
-        i += 1;
+    for x in bytes {
+        place = octets::put(out, place, &hex_byte(*x));
     }
     place
 }

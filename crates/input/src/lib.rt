@@ -12,7 +12,7 @@ use std::io::Read;
 pub const CHUNK_SIZE: usize = 4096;
 
 // Where reading stands: the line under way, the next place in the chunk and the chunk's end, whether the input is over, and whether
-// that is because reading failed.
+// that is because reading failed. Two flags and no enum of three: `has_line` has an answer for each pair of them.
 #[derive(Clone, Copy)]
 pub struct Input {
     pub line: Line,
@@ -26,9 +26,8 @@ pub struct Input {
 pub fn start() -> Input
     ensures { result ≡ start }
 {
-    let line = lines::fresh();
     Input {
-        line: line,
+        line: lines::fresh(),
         at: 0,
         end: 0,
         over: false,
@@ -38,17 +37,14 @@ pub fn start() -> Input
 
 // After a line that has ended, the next one.
 fn begun(input: Input) -> Input {
-    let line = lines::begun(input.line);
     Input {
-        line: line,
-        at: input.at,
-        end: input.end,
-        over: input.over,
-        failed: input.failed,
+        line: lines::begun(input.line),
+        ..input
     }
 }
 
-// Feeds the chunk's bytes to a line, until the line or the chunk ends.
+// Feeds the chunk's bytes to a line, until the line or the chunk ends. The next call goes on where this one stopped, so the place is
+// counted by hand: a `for` would lose it.
 fn fed(input: Input, chunk: &[u8], buffer: &mut [u8]) -> Input {
     let bytes = lines::front(chunk, input.end);
     let mut line = input.line;
@@ -57,34 +53,28 @@ fn fed(input: Input, chunk: &[u8], buffer: &mut [u8]) -> Input {
         line = lines::fed(line, buffer, bytes[at]);
         at += 1;
     }
-    Input {
-        line: line,
-        at: at,
-        end: input.end,
-        over: input.over,
-        failed: input.failed,
-    }
+    Input { line, at, ..input }
 }
 
 // Where reading stands after a chunk: the input is over where nothing comes.
 fn filled(input: Input, count: usize) -> Input {
     Input {
-        line: input.line,
         at: 0,
         end: count,
         over: count == 0,
         failed: false,
+        ..input
     }
 }
 
 // Where reading stands once it has failed: the input is over.
 fn broken(input: Input) -> Input {
     Input {
-        line: input.line,
         at: 0,
         end: 0,
         over: true,
         failed: true,
+        ..input
     }
 }
 
@@ -96,12 +86,11 @@ fn refilled<R: Read>(reader: &mut R, input: Input, chunk: &mut [u8]) -> Input {
     }
 }
 
-// Goes on to the end of the next line, or of the input. Nothing says that the input ends, so the chunks are counted down from a
-// number that no run uses up.
+// Goes on to the end of the next line, or of the input. Nothing says that the input ends, so the chunks are counted to a number that no
+// run reaches.
 pub fn next<R: Read>(reader: &mut R, input: Input, chunk: &mut [u8], buffer: &mut [u8]) -> Input {
     let mut now = begun(input);
-    let mut turns = u64::MAX;
-    while turns > 0 {
+    for _ in 0..u64::MAX {
         now = fed(now, chunk, buffer);
         if has_line(now) {
             return now;
@@ -110,12 +99,12 @@ pub fn next<R: Read>(reader: &mut R, input: Input, chunk: &mut [u8], buffer: &mu
         if now.over {
             return now;
         }
-        turns -= 1;
     }
     now
 }
 
 // Whether a line has come: its line feed, or some of it where the input is over. What came of a line before reading failed is none.
+#[tactic(auto, unfolding(crate::specs::Reading::has_line))]
 pub fn has_line(input: Input) -> bool
     ensures { result ≡ has_line input }
 {

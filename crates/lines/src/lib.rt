@@ -5,7 +5,8 @@
 ghost use Rattle.std.specs.Prelude.{◌≡◌, take};
 ghost use Rattle.lines.specs.Lines.{begun, fed, fresh, is_open};
 
-// A line so far: how many of its bytes stand in the buffer, whether it has more of them, and whether its line feed has come.
+// A line so far: how many of its bytes stand in the buffer, whether it has more of them, and whether its line feed has come. The two flags
+// are independent: each of their four pairs occurs, so that no enum says less.
 #[derive(Clone, Copy)]
 pub struct Line {
     pub length: usize,
@@ -25,6 +26,7 @@ pub fn fresh() -> Line
 }
 
 // The line that the next byte belongs to: after a line feed, a fresh one.
+#[tactic(auto, unfolding(crate::specs::Lines::begun))]
 pub fn begun(line: Line) -> Line
     ensures { result ≡ begun line }
 {
@@ -35,15 +37,15 @@ pub fn begun(line: Line) -> Line
 }
 
 // The line after one byte more, which goes into the buffer where it fits.
+#[tactic(auto, unfolding(crate::specs::Lines::fed, crate::specs::Lines::added))]
 pub fn fed(line: Line, buffer: &mut [u8], byte: u8) -> Line
     ensures { record { line = result; buffer = buffer.new } ≡ fed line buffer.old byte }
 {
     let held = begun(line);
     if byte == 10 {
         return Line {
-            length: held.length,
-            overlong: held.overlong,
             ended: true,
+            ..held
         };
     }
     let at = held.length;
@@ -51,14 +53,14 @@ pub fn fed(line: Line, buffer: &mut [u8], byte: u8) -> Line
         buffer[at] = byte;
         return Line {
             length: at + 1,
-            overlong: held.overlong,
             ended: false,
+            ..held
         };
     }
     Line {
-        length: at,
         overlong: true,
         ended: false,
+        ..held
     }
 }
 
@@ -66,10 +68,7 @@ pub fn fed(line: Line, buffer: &mut [u8], byte: u8) -> Line
 pub fn front(s: &[u8], n: usize) -> &[u8]
     ensures { result.now ≡ take n s.now }
 {
-    if s.len() < n {
-        return s;
-    }
-    &s[..n]
+    &s[..n.min(s.len())]
 }
 
 // The bytes of a line that stand in the buffer.
@@ -80,12 +79,10 @@ pub fn text(line: Line, buffer: &[u8]) -> &[u8]
 }
 
 // Whether there is a line without a line feed, once the text has ended: one byte of it at least has come.
+#[tactic(auto, unfolding(crate::specs::Lines::is_open))]
 pub fn is_open(line: Line) -> bool
     ensures { result ≡ is_open line }
 {
     let held = begun(line);
-    if 0 < held.length {
-        return true;
-    }
-    held.overlong
+    0 < held.length || held.overlong
 }

@@ -1,25 +1,13 @@
--- Searches: what a place says of one; two that test alike find alike; one whose test no entry passes finds nothing; a narrower test
+-- Searches: two that test alike find alike; one whose test no entry passes finds nothing; a narrower test
 -- where one entry alone passes the wider one. Assumes nothing.
 use Prim.Native.Nat.{ℕ, zero, suc, ◌+◌, ◌<◌, ◌≤◌, zero-le, suc-le-suc}
 use mathlib.Core.Path.{◌≡◌, refl, sym, ap, ap₂, ◌∙◌}
 use mathlib.Core.Bool.{Bool, true, false, not, cond, ◌&&◌, ◌||◌}
-use mathlib.Core.Option.{Option, none, some}
+use Rattle.std.specs.Prelude.{Option, Some, None}
 use mathlib.Core.List.{List, [], ◌∷◌, map}
 use native.Mathlib.Omega.{arith}
 use lib.ListN.{length, get_or}
 use Rattle.lists.specs.Lists.{find, numbers, up}
-use Rattle.lists.specs.declared.Place.TheVariants.{At, Nowhere}
-use Rattle.lists.specs.Places.{placed}
-
--- ---- what a place says of the search
-
-pub placed_at : (o : Option ℕ) (i : ℕ) → placed o ≡ At i → o ≡ some i
-placed_at none i e = let z : ◌≡◌ {A = ℕ} 0 1 = cc in absurd (omega arith)
-placed_at (some k) i e = let q : k ≡ i = cc in rw q
-
-pub placed_nowhere : (o : Option ℕ) → placed o ≡ Nowhere → o ≡ none
-placed_nowhere none e = refl
-placed_nowhere (some k) e = let z : ◌≡◌ {A = ℕ} 0 1 = cc in absurd (omega arith)
 
 -- ---- alike
 
@@ -27,7 +15,7 @@ placed_nowhere (some k) e = let z : ◌≡◌ {A = ℕ} 0 1 = cc in absurd (omeg
 find_from : {A : Type 0} (p : ℕ → Bool) (q : A → Bool) (g : ℕ → A) (i n : ℕ) → ((k : ℕ) → i ≤ k → k < i + n → p k ≡ q (g k)) → find p (numbers i n) ≡ find q (map g (numbers i n))
 find_from p q g i zero e = refl
 find_from p q g i (suc n) e =
-    ap₂ (λ (b : Bool) (o : Option ℕ). cond b (some 0) (up o)) (e i (omega arith) (omega arith)) (find_from p q g (suc i) n (λ k l m. e k (omega arith) (omega arith)))
+    ap₂ (λ (b : Bool) (o : Option ℕ). cond b (Some 0) (up o)) (e i (omega arith) (omega arith)) (find_from p q g (suc i) n (λ k l m. e k (omega arith) (omega arith)))
 
 pub find_numbers : {A : Type 0} (p : ℕ → Bool) (q : A → Bool) (g : ℕ → A) (n : ℕ) → ((k : ℕ) → k < n → p k ≡ q (g k)) → find p (numbers 0 n) ≡ find q (map g (numbers 0 n))
 find_numbers p q g n e = find_from p q g 0 n (λ k l m. e k (omega arith))
@@ -45,9 +33,9 @@ module _ {A : Type 0} (p : A → Bool) (d : A) where
   pub find_same : (q : A → Bool) (l : List A) → ((i : ℕ) → i < length l → p (get_or l i d) ≡ q (get_or l i d)) → find p l ≡ find q l
   find_same q [] e = refl
   find_same q (x ∷ l) e =
-      ap₂ (λ (b : Bool) (o : Option ℕ). cond b (some 0) (up o)) (e 0 (suc-le-suc zero-le)) (find_same q l (λ i h. e (suc i) (suc-le-suc h)))
+      ap₂ (λ (b : Bool) (o : Option ℕ). cond b (Some 0) (up o)) (e 0 (suc-le-suc zero-le)) (find_same q l (λ i h. e (suc i) (suc-le-suc h)))
 
-  pub find_nothing : (l : List A) → ((i : ℕ) → i < length l → p (get_or l i d) ≡ false) → find p l ≡ none
+  pub find_nothing : (l : List A) → ((i : ℕ) → i < length l → p (get_or l i d) ≡ false) → find p l ≡ None
   find_nothing [] e = refl
   find_nothing (x ∷ l) e = rw (e 0 (suc-le-suc zero-le), find_nothing l (λ i h. e (suc i) (suc-le-suc h)))
 
@@ -62,14 +50,14 @@ and_never true w h = h refl
 and_never false w h = refl
 
 -- where the entry at place i alone passes the wider test, it alone is asked
-pub find_narrow : {A : Type 0} (f g : A → Bool) (d : A) (l : List A) (i : ℕ) → find f l ≡ some i → ((k : ℕ) → k < length l → f (get_or l k d) ≡ true → k ≡ i)
-    → find (λ x. f x && g x) l ≡ cond (g (get_or l i d)) (some i) none
+pub find_narrow : {A : Type 0} (f g : A → Bool) (d : A) (l : List A) (i : ℕ) → find f l ≡ Some i → ((k : ℕ) → k < length l → f (get_or l k d) ≡ true → k ≡ i)
+    → find (λ x. f x && g x) l ≡ cond (g (get_or l i d)) (Some i) None
 find_narrow f g d l i e alone = go (g (get_or l i d)) refl
   where
     asked : (b : Bool) → g (get_or l i d) ≡ b → (k : ℕ) → k < length l → f (get_or l k d) ≡ true → g (get_or l k d) ≡ b
     asked b h k m t = ap (λ (n : ℕ). g (get_or l n d)) (alone k m t) ∙ h
 
-    go : (b : Bool) → g (get_or l i d) ≡ b → find (λ x. f x && g x) l ≡ cond b (some i) none
+    go : (b : Bool) → g (get_or l i d) ≡ b → find (λ x. f x && g x) l ≡ cond b (Some i) None
     go true h = find_same (λ x. f x && g x) d f l (λ k m. and_if (f (get_or l k d)) (g (get_or l k d)) (asked true h k m)) ∙ e
     go false h = find_nothing (λ x. f x && g x) d l (λ k m. and_never (f (get_or l k d)) (g (get_or l k d)) (asked false h k m))
 

@@ -4,6 +4,5 @@ pub mod Maps
 pub mod Rows
 pub mod Searches
 pub mod Filling
-pub mod Places
 pub mod Lowest
 pub mod Alike

@@ -1,6 +1,5 @@
 -- Tools on lists: tests, searches, lists of places. Assumes nothing.
-use Rattle.std.specs.Prelude.{ℕ, zero, suc, Bool, true, false, cond, ◌&&◌, ◌||◌, List, [], ◌∷◌, ◌++◌, eqb}
-use Rattle.std.proofs.Math.Option.{Option, none, some}
+use Rattle.std.specs.Prelude.{ℕ, zero, suc, Bool, true, false, cond, ◌&&◌, ◌||◌, List, [], ◌∷◌, ◌++◌, eqb, Option, Some, None}
 use Rattle.octets.specs.Bytes.{Bytes}
 
 -- if the first, then the second
@@ -27,13 +26,13 @@ pairwise apart [] = true
 pairwise apart (x ∷ xs) = all (apart x) xs && pairwise apart xs
 
 abbrev pub up : Option ℕ → Option ℕ
-up none = none
-up (some i) = some (suc i)
+up None = None
+up (Some i) = Some (suc i)
 
 -- the lowest place whose entry passes the test
 abbrev pub find : {A : Type 0} → (A → Bool) → List A → Option ℕ
-find f [] = none
-find f (x ∷ xs) = cond (f x) (some 0) (up (find f xs))
+find f [] = None
+find f (x ∷ xs) = cond (f x) (Some 0) (up (find f xs))
 
 -- the entries that pass the test, in order
 abbrev pub filter : {A : Type 0} → (A → Bool) → List A → List A

@@ -1,11 +1,12 @@
 -- Laws of a run of bytes laid over a buffer. None has a side condition: two runs one after the other are one run.
 -- Assumes nothing.
-use Prim.Native.Nat.{ℕ, zero, suc, ◌+◌, ◌-◌, ◌<◌, ◌≤◌}
+use Prim.Native.Nat.{ℕ, zero, suc, ◌+◌, ◌<◌, ◌≤◌}
 use mathlib.Core.Path.{◌≡◌, refl, sym, ap, ◌∙◌}
 use mathlib.Core.List.{[], ◌∷◌, ◌++◌}
 use native.Mathlib.Nat.{zero-add, suc-add, le_of_suc-le-suc, not-suc-le-zero}
 use native.Mathlib.Numerals.{add-one}
 use native.Mathlib.Omega.{arith}
+use borrow.Rule.Slice.PartMut.{put_mid}
 use lib.ListN.{length, get_or, take, drop, set}
 use lib.Seq.{take-suc, take-length, length-take-le}
 use Rattle.octets.specs.Bytes.{Bytes}
@@ -71,6 +72,14 @@ unfolding over put
 put_start [] b h = refl
 put_start (x ∷ s) [] h = absurd (not-suc-le-zero h)
 put_start (x ∷ s) (y ∷ b) h = ap (λ (l : Bytes). x ∷ l) (put_start s b (le_of_suc-le-suc h))
+
+-- a run that fits from `at` on: what the buffer had before it, the run, and what the buffer had after it. So `copy_from_slice` on a part
+-- of the buffer lays the run.
+pub put_part : (at k : ℕ) (s b : Bytes) → k ≡ length s → at + k ≤ length b → put_mid at k b s ≡ put at s b
+unfolding put
+put_part zero k s b e h = rw e (sym (put_start s b (omega arith)))
+put_part (suc at) k s [] e h = absurd (omega arith)
+put_part (suc at) k s (y ∷ b) e h = ap (λ (l : Bytes). y ∷ l) (put_part at k s b e (omega arith))
 
 -- a copy under way: the first i bytes of s lie over b from `at` on
 module _ (b : Bytes) (at : ℕ) (s : Bytes) where

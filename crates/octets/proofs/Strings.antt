@@ -1,16 +1,20 @@
--- Laws of byte strings: how a loop that walks a string from the front meets its definition, and what the tests say.
+-- Laws of byte strings: what the tests say, and what the library's methods on slices answer in the definitions' words.
 -- Assumes nothing.
 use mathlib.Core.Path.{◌≡◌, refl, ap, ap₂, ◌∙◌, sym}
-use mathlib.Core.Bool.{Bool, true, false, cond, ◌&&◌}
+use mathlib.Core.Bool.{Bool, true, false, not, cond, ◌&&◌}
 use mathlib.Core.List.{[], ◌∷◌, ◌++◌}
 use Prim.Native.Nat.{ℕ, suc, ◌+◌, ◌-◌, ◌*◌, ◌/◌, ◌%◌, ◌^◌, ◌<◌, ◌≤◌, zero-le, suc-le-suc}
 use native.Mathlib.Nat.{not-suc-le-zero, le_of_suc-le-suc}
 use native.Mathlib.Numerals.{add-one}
 use native.Mathlib.Omega.{arith}
-use borrow.Author.Tests.{eq-eqb, ne_eqb, eqb-true, le-leb, lt-leb}
+use borrow.Author.Tests.{eq-eqb, ne_eqb, eqb-true, eqb-false, ltb-false, le-leb, lt-leb}
 use lib.ListN.{length, get_or, take, drop, drop_of_length-le, length-drop}
 use lib.Seq.{drop-cons, take_all}
-use lib.Dec.{eqb}
+use lib.Dec.{eqb, ltb}
+use lib.Pointwise.{pointwise}
+use Rattle.std.specs.Prelude.{Option, Some, None}
+use Rattle.std.specs.List.{list_all, position_or_len}
+use Rattle.std.specs.Option.{unwrap_or}
 use Rattle.octets.specs.Bytes.{Bytes, same, starts_with, first_zero, within, every, big_endian, number_at}
 
 -- ---- a conjunction of tests
@@ -36,28 +40,16 @@ and_both false b e f = e
 pub rest_part : (d : Bytes) (k : ℕ) → take (length d - k) (drop k d) ≡ drop k d
 rest_part d k = take_all (length d - k) (drop k d) (omega (arith, length-drop k d))
 
+-- ---- a test of two numbers, turned round
+
+eqb_turned : (x y : ℕ) → eqb x y ≡ eqb y x
+eqb_turned x y = go (eqb x y) refl
+  where
+    go : (b : Bool) → eqb x y ≡ b → b ≡ eqb y x
+    go true e = sym (eq-eqb y x (sym (eqb-true x y e)))
+    go false e = sym (ne_eqb y x (λ q. eqb-false x y e (sym q)))
+
 -- ---- begins with
-
-pub starts_short : (s p : Bytes) → length s < length p → starts_with s p ≡ false
-unfolding starts_with
-starts_short s [] h = absurd (not-suc-le-zero h)
-starts_short [] (y ∷ ys) h = refl
-starts_short (x ∷ xs) (y ∷ ys) h = rw (starts_short xs ys (le_of_suc-le-suc h)) (and_false (eqb x y))
-
-module _ (s p : Bytes) (i : ℕ) (hs : i < length s) (hp : i < length p) where
-  starts_step : starts_with (drop i s) (drop i p) ≡ eqb (get_or s i 0) (get_or p i 0) && starts_with (drop (i + 1) s) (drop (i + 1) p)
-  unfolding starts_with
-  starts_step = rw (add-one, drop-cons s i 0, drop-cons p i 0)
-
-  pub starts_equal : get_or s i 0 ≡ get_or p i 0 → starts_with (drop i s) (drop i p) ≡ starts_with (drop (i + 1) s) (drop (i + 1) p)
-  starts_equal e = starts_step ∙ simp (eq-eqb _ _ e)
-
-  pub starts_other : (get_or s i 0 ≡ get_or p i 0 → ⊥) → starts_with (drop i s) (drop i p) ≡ false
-  starts_other n = starts_step ∙ simp (ne_eqb _ _ n)
-
-pub starts_end : (s p : Bytes) (i : ℕ) → length p ≤ i → starts_with (drop i s) (drop i p) ≡ true
-unfolding starts_with
-starts_end s p i h = rw (drop_of_length-le p h)
 
 -- a string begins with its own front
 pub starts_self : (p r : Bytes) → starts_with (p ++ r) p ≡ true
@@ -76,20 +68,13 @@ starts_is (x ∷ s) (y ∷ p) e =
 
 -- ---- equal
 
--- strings of two lengths differ; of one length, beginning with is being equal
+-- strings of two lengths differ
 pub same_lengths : (s t : Bytes) → (length s ≡ length t → ⊥) → same s t ≡ false
 unfolding same
 same_lengths [] [] n = absurd (n refl)
 same_lengths [] (y ∷ t) n = refl
 same_lengths (x ∷ s) [] n = refl
 same_lengths (x ∷ s) (y ∷ t) n = rw (same_lengths s t (λ e. n (ap suc e))) (and_false (eqb x y))
-
-pub same_starts : (s t : Bytes) → length s ≡ length t → starts_with s t ≡ same s t
-unfolding same starts_with
-same_starts [] [] e = refl
-same_starts [] (y ∷ t) e = absurd (omega arith)
-same_starts (x ∷ s) [] e = absurd (omega arith)
-same_starts (x ∷ s) (y ∷ t) e = rw (same_starts s t (omega arith))
 
 pub same_refl : (s : Bytes) → same s s ≡ true
 unfolding same
@@ -113,20 +98,6 @@ pub zero_le_length : (s : Bytes) → first_zero s ≤ length s
 unfolding first_zero
 zero_le_length [] = zero-le
 zero_le_length (x ∷ xs) = zero_le_step (eqb x 0) _ _ (zero_le_length xs)
-
--- the scan: i bytes passed, none of them zero
-module _ (s : Bytes) (i : ℕ) (e : first_zero s ≡ i + first_zero (drop i s)) where
-  pub scan_found : i < length s → get_or s i 0 ≡ 0 → i ≡ first_zero s
-  unfolding first_zero
-  scan_found h z = let q : first_zero (drop i s) ≡ 0 = rw (drop-cons s i 0, eq-eqb _ _ z) in omega (arith, e, q)
-
-  pub scan_on : i < length s → (get_or s i 0 ≡ 0 → ⊥) → first_zero s ≡ i + 1 + first_zero (drop (i + 1) s)
-  unfolding first_zero
-  scan_on h n = let q : first_zero (drop i s) ≡ suc (first_zero (drop (i + 1) s)) = rw (drop-cons s i 0, ne_eqb _ _ n, add-one) in omega (arith, e, q)
-
-  pub scan_end : length s ≤ i → i ≡ first_zero s
-  unfolding first_zero
-  scan_end h = let q : first_zero (drop i s) ≡ 0 = rw (drop_of_length-le s h) in omega (arith, e, q)
 
 zero_step : (x : ℕ) (xs : Bytes) (b : Bool) → eqb x 0 ≡ b → (first_zero xs < length xs → get_or xs (first_zero xs) 0 ≡ 0)
     → cond b 0 (suc (first_zero xs)) < suc (length xs) → get_or (x ∷ xs) (cond b 0 (suc (first_zero xs))) 0 ≡ 0
@@ -184,3 +155,48 @@ written_number a b c d ha hb hc hd =
     let e3 : x / 256 % 256 ≡ c = omega arith in
     let e4 : x % 256 ≡ d = omega arith in
     cc
+
+-- ---- what std's methods answer, in the definitions' words
+
+-- a test of each element: `all`
+pub all_every : (f : ℕ → Bool) (s : Bytes) → list_all f s ≡ every f s
+unfolding every
+all_every f [] = refl
+all_every f (x ∷ s) = rw (all_every f s)
+
+-- the first place that passes a test: `position`
+position_zero : (s : Bytes) → position_or_len (λ x. eqb x 0) s ≡ first_zero s
+unfolding first_zero
+position_zero [] = refl
+position_zero (x ∷ s) = go (eqb x 0) (position_zero s)
+  where
+    go : (b : Bool) → position_or_len (λ x. eqb x 0) s ≡ first_zero s → cond (not b) (1 + position_or_len (λ x. eqb x 0) s) 0 ≡ cond b 0 (suc (first_zero s))
+    go true e = refl
+    go false e = omega (arith, e)
+
+-- which is the length where there is none
+module _ (s : Bytes) where
+  or_length : (b : Bool) → ltb (first_zero s) (length s) ≡ b → unwrap_or (cond b (Some (first_zero s)) None) (length s) ≡ first_zero s
+  or_length true e = refl
+  or_length false e = let n : length s ≤ first_zero s = ltb-false _ _ e in omega (arith, zero_le_length s)
+
+  pub zero_found : (r : Option ℕ) (n : ℕ) → r ≡ cond (ltb (position_or_len (λ x. eqb x 0) s) (length s)) (Some (position_or_len (λ x. eqb x 0) s)) None
+      → n ≡ unwrap_or r (length s) → (n ≡ first_zero s) × (n ≤ length s)
+  zero_found r n e f =
+      let q : n ≡ first_zero s = rw (f, e, position_zero s) (or_length _ refl) in
+      (q, omega (arith, zero_le_length s))
+
+-- two lists element by element: `==`
+pub pointwise_same : (s t : Bytes) → pointwise eqb s t ≡ same s t
+unfolding same
+pointwise_same [] [] = refl
+pointwise_same [] (y ∷ t) = refl
+pointwise_same (x ∷ s) [] = refl
+pointwise_same (x ∷ s) (y ∷ t) = rw (pointwise_same s t)
+
+-- the front as long as the prefix: `starts_with`
+pub front_starts : (s p : Bytes) → pointwise eqb p (take (length p) s) ≡ starts_with s p
+unfolding starts_with
+front_starts s [] = refl
+front_starts [] (y ∷ p) = refl
+front_starts (x ∷ s) (y ∷ p) = rw (eqb_turned y x, front_starts s p)

@@ -10,7 +10,7 @@ ghost use Rattle.octets.specs.Put.{put};
 pub fn wide(x: u8) -> u32
     ensures { (result ≡ x) × (result < 256) }
 {
-    x as u32
+    u32::from(x)
 }
 
 // Four bytes from `at` on as a number, the highest byte first.
@@ -18,82 +18,42 @@ pub fn number_at(s: &[u8], at: usize) -> u32
     requires { at + 4 ≤ length s.now }
     ensures { result ≡ number_at s.now at }
 {
-    let a = wide(s[at]);
-    let b = wide(s[at + 1]);
-    let c = wide(s[at + 2]);
-    let d = wide(s[at + 3]);
-    ((a * 256 + b) * 256 + c) * 256 + d
+    u32::from_be_bytes([s[at], s[at + 1], s[at + 2], s[at + 3]])
 }
 
 // A number in four bytes, the highest first.
 pub fn big_endian(x: u32) -> [u8; 4]
     ensures { result ≡ big_endian x }
 {
-    [
-        (x / 16777216) as u8,
-        (x / 65536 % 256) as u8,
-        (x / 256 % 256) as u8,
-        (x % 256) as u8,
-    ]
+    x.to_be_bytes()
 }
 
 // Whether `s` begins with `prefix`.
 pub fn starts_with(s: &[u8], prefix: &[u8]) -> bool
     ensures { result ≡ starts_with s.now prefix.now }
 {
-    if s.len() < prefix.len() {
-        return false;
-    }
-    let mut i = 0;
-    while i < prefix.len() {
-        if s[i] != prefix[i] {
-            return false;
-        }
-        i += 1;
-    }
-    true
+    s.starts_with(prefix)
 }
 
 // Whether the two strings are equal.
 pub fn equal(s: &[u8], t: &[u8]) -> bool
     ensures { result ≡ same s.now t.now }
 {
-    if s.len() != t.len() {
-        return false;
-    }
-    starts_with(s, t)
+    s == t
 }
 
 // Where the first zero byte stands, or the length.
 pub fn first_zero(s: &[u8]) -> usize
     ensures { (result ≡ first_zero s.now) × (result ≤ length s.now) }
 {
-    let mut i = 0;
-    while i < s.len() {
-        if s[i] == 0 {
-            return i;
-        }
-        i += 1;
-    }
-    i
+    s.iter().position(|x| *x == 0).unwrap_or(s.len())
 }
 
 // Whether each byte lies between `low` and `high`, both included.
 pub fn all_within(s: &[u8], low: u8, high: u8) -> bool
     ensures { result ≡ every (within low high) s.now }
 {
-    let mut i = 0;
-    while i < s.len() {
-        let x = s[i];
-        if x < low {
-            return false;
-        }
-        if high < x {
-            return false;
-        }
-        i += 1;
-    }
-    true
+    s.iter().all(|x| low <= *x && *x <= high)
 }
 
 // Lays `source` over `out` from `at` on, and returns the place after it.
@@ -101,10 +61,7 @@ pub fn put(out: &mut [u8], at: usize, source: &[u8]) -> usize
     requires { at + length source.now ≤ length out.old }
     ensures { (result ≡ at + length source.now) × (out.new ≡ put at source.now out.old) }
 {
-    let mut i = 0;
-    while i < source.len() {
-        out[at + i] = source[i];
-        i += 1;
-    }
-    at + i
+    let end = at + source.len();
+    out[at..end].copy_from_slice(source);
+    end
 }

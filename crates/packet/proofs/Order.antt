@@ -2,7 +2,7 @@
 -- definitions give these numbers. The edits in must-fail/ exchange two checks. Assumes nothing.
 use Prim.Native.Nat.{ℕ}
 use mathlib.Core.Path.{◌≡◌, refl}
-use mathlib.Core.List.{List, [], ◌∷◌, map}
+use mathlib.Core.List.{[], ◌∷◌, map}
 use Rattle.octets.specs.Bytes.{Bytes, starts_with, first_zero}
 use Rattle.packet.specs.Layout.{request_shape, rules_of}
 use Rattle.packet.specs.Arguments.{fits, split}

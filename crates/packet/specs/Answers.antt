@@ -1,37 +1,43 @@
 -- What the readers and the writers answer, in document 01's numbers and values. 01: "When an answer is an enum, a definition
 -- gives this paper's number and values for each of its cases." Assumes nothing.
-use Rattle.std.specs.Prelude.{ℕ, zero, suc, ◌+◌, ◌-◌, cond, ◌&&◌, List, [], ◌∷◌, length, get_or, take, drop, ltb, leb}
+use Rattle.std.specs.Prelude.{ℕ, zero, suc, ◌+◌, ◌-◌, cond, ◌&&◌, List, [], ◌∷◌, length, get_or, take, drop, ltb, leb, Result, Ok, Err}
 use Rattle.octets.specs.Bytes.{Bytes, number_at}
 use Rattle.octets.specs.Put.{put}
 use Rattle.packet.specs.Arguments.{ends_of, join}
 use Rattle.packet.specs.declared.Ends.{Ends}
 use Rattle.packet.specs.Layout.{rules_of}
 use Rattle.packet.specs.Packet.{Direction, Reading, refused, got, header, packet, write_refusal}
-use Rattle.packet.specs.declared.Read as R
-use Rattle.packet.specs.declared.Read.TheVariants as RV
+use Rattle.packet.specs.Refusals.{number_of, refusal_of}
+use Rattle.packet.specs.declared.Packet as P
+use Rattle.packet.specs.declared.Refusal.{Refusal}
 use Rattle.packet.specs.declared.Shape.{Shape}
-use Rattle.packet.specs.declared.Written as W
-use Rattle.packet.specs.declared.Written.TheVariants as WV
-use Rattle.packet.specs.declared.Header as H
-use Rattle.packet.specs.declared.Header.TheVariants as HV
 
--- the answer that stands for a reading: its number, or its type and where its arguments end
-unfoldable pub answer_of : Reading → R.Read
-answer_of (refused n) = RV.Refused n
-answer_of (got kind as') = RV.Packet kind (ends_of 12 as')
+-- what a reader answers: a refusal, or the packet's type and where its arguments end
+abbrev pub Read : Type 0
+Read = Result P.Packet Refusal
+
+-- the packet of this type, whose arguments end there, was read
+abbrev pub found : ℕ → Ends → Read
+found kind ends = Ok (record { kind = kind; ends = ends })
+
+-- the answer that stands for a reading: the refusal of its number, or its type and where its arguments end
+unfoldable pub answer_of : Reading → Read
+answer_of (refused n) = Err (refusal_of n)
+answer_of (got kind as') = found kind (ends_of 12 as')
 
 -- document 01's number of an answer: 0 means done
-abbrev pub read_number : R.Read → ℕ
-read_number (RV.Refused n) = n
-read_number (RV.Packet kind ends) = 0
+abbrev pub read_number : Read → ℕ
+read_number (Err e) = number_of e
+read_number (Ok p) = 0
 
-abbrev pub headed : ℕ → ℕ → H.Header
-headed zero kind = HV.Good kind
-headed (suc n) kind = HV.Refused (suc n)
+-- a number, unless there is a refusal
+abbrev pub granted : ℕ → ℕ → Result ℕ Refusal
+granted zero x = Ok x
+granted (suc n) x = Err (refusal_of (suc n))
 
 -- the answer to a header: refusals 5 to 8, or its type
-unfoldable pub header_of : Bytes → ℕ → Bytes → H.Header
-header_of magic most s = headed (header magic most s) (number_at s 4)
+unfoldable pub header_of : Bytes → ℕ → Bytes → Result ℕ Refusal
+header_of magic most s = granted (header magic most s) (number_at s 4)
 
 -- the bytes after place `before` and up to place `end`, if they lie in the packet
 unfoldable pub between : Bytes → ℕ → ℕ → Bytes
@@ -51,29 +57,33 @@ arguments_from s ends i (suc n) = argument_at s ends i ∷ arguments_from s ends
 
 -- document 01's number and values of an answer: the number of a refusal, or the packet's type and its arguments, as many as the
 -- type has
-unfoldable pub values_of : Direction → Bytes → R.Read → Reading
-values_of w s (RV.Refused n) = refused n
-values_of w s (RV.Packet kind ends) = got kind (arguments_from s ends 0 (length (rules_of (w.shape kind))))
+unfoldable pub values_of : Direction → Bytes → Read → Reading
+values_of w s (Err e) = refused (number_of e)
+values_of w s (Ok p) = got p.kind (arguments_from s p.ends 0 (length (rules_of (w.shape p.kind))))
 
 -- ---- writing
 
--- document 01's number of an answer, and the length that it reports: 0 with a refusal
-abbrev pub write_number : W.Written → ℕ
-write_number (WV.Refused n) = n
-write_number (WV.Length n) = 0
+-- what a writer answers: a refusal, or the packet's length
+abbrev pub Written : Type 0
+Written = Result ℕ Refusal
 
-abbrev pub write_length : W.Written → ℕ
-write_length (WV.Refused n) = 0
-write_length (WV.Length n) = n
+-- document 01's number of an answer, and the length that it reports: 0 with a refusal
+abbrev pub write_number : Written → ℕ
+write_number (Err e) = number_of e
+write_number (Ok n) = 0
+
+abbrev pub write_length : Written → ℕ
+write_length (Err e) = 0
+write_length (Ok n) = n
 
 -- what a writer answers, and what it leaves in the output
 pub record Writing : Type 0 where
-  pub answer : W.Written
+  pub answer : Written
   pub output : Bytes
 
 abbrev pub finished : ℕ → Bytes → Bytes → Writing
-finished zero p out = record { answer = WV.Length (length p); output = put 0 p out }
-finished (suc n) p out = record { answer = WV.Refused (suc n); output = out }
+finished zero p out = record { answer = Ok (length p); output = put 0 p out }
+finished (suc n) p out = record { answer = Err (refusal_of (suc n)); output = out }
 
 -- 01: "This layer's refusals write nothing." Otherwise the packet's bytes from the start, and everything beyond as it was.
 unfoldable pub writing : Bytes → ℕ → Shape → Bytes → ℕ → List Bytes → Writing

@@ -1,12 +1,10 @@
 -- Arguments in a packet's data, by the rules of its shape. 01: "Arguments are separated by one zero byte; the last runs to the
 -- end." Assumes nothing.
-use Rattle.std.specs.Prelude.{ℕ, ◌+◌, Bool, true, false, cond, ◌&&◌, ◌||◌, List, [], ◌∷◌, ◌++◌, length, get_or, take, drop, ltb, eqb}
+use Rattle.std.specs.Prelude.{ℕ, ◌+◌, Bool, true, false, cond, ◌&&◌, ◌||◌, List, [], ◌∷◌, ◌++◌, length, get_or, take, drop, ltb, eqb, Option, Some, None}
 use Rattle.octets.specs.Bytes.{Bytes, first_zero, zero_free, within, every, same}
 use Rattle.packet.specs.declared.Rule.{Rule}
 use Rattle.packet.specs.declared.Rule.TheVariants.{Text, Digits, Flag, AnyText, Opaque, Absent}
 use Rattle.packet.specs.declared.Ends.{Ends}
-use Rattle.packet.specs.declared.Split as S
-use Rattle.packet.specs.declared.Split.TheVariants as SV
 
 -- 01: "each 1 to 10 digits 0-9"
 abbrev pub digits : Bytes → Bool
@@ -65,11 +63,10 @@ ends_of at as' =
     record { first = get_or es 0 0; second = get_or es 1 0; third = get_or es 2 0; fourth = get_or es 3 0; fifth = get_or es 4 0 }
 
 -- what the code answers: where the arguments end
-abbrev pub answered : ℕ → Parts → S.Split
-answered at bad = SV.Bad
-answered at (parts as') = SV.Good (ends_of at as')
+abbrev pub answered : ℕ → Parts → Option Ends
+answered at bad = None
+answered at (parts as') = Some (ends_of at as')
 
 -- one more argument before the others: its end first
-abbrev pub with_end : ℕ → S.Split → S.Split
-with_end end SV.Bad = SV.Bad
-with_end end (SV.Good e) = SV.Good (record { first = end; second = e.first; third = e.second; fourth = e.third; fifth = e.fourth })
+abbrev pub before_ends : ℕ → Ends → Ends
+before_ends end e = record { first = end; second = e.first; third = e.second; fourth = e.third; fifth = e.fourth }

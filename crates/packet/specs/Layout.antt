@@ -177,10 +177,11 @@ background_of kind = one_of (18 ∷ 32 ∷ 34 ∷ []) kind
 
 -- what the constant table says of a number, from the layout
 unfoldable pub kind_of : ℕ → Kind
-kind_of kind = (
-  is_own (request_shape kind),
-  is_own (response_shape kind),
-  cond (is_own (request_shape kind)) (separators_of (request_shape kind)) (separators_of (response_shape kind)),
-  priority_of kind,
-  background_of kind,
-)
+kind_of kind =
+    record {
+      served = is_own (request_shape kind);
+      sent = is_own (response_shape kind);
+      separators = cond (is_own (request_shape kind)) (separators_of (request_shape kind)) (separators_of (response_shape kind));
+      priority = priority_of kind;
+      background = background_of kind;
+    }

@@ -3,6 +3,8 @@
 use Rattle.std.specs.Prelude.{ℕ, zero, suc, ◌+◌, not, cond, List, [], ◌∷◌, ◌++◌, length, take, drop, replicate, ltb, eqb}
 use Rattle.octets.specs.Bytes.{Bytes, starts_with, big_endian, number_at}
 use Rattle.packet.specs.declared.Shape.{Shape}
+use Rattle.packet.specs.declared.Side.{Side}
+use Rattle.packet.specs.declared.Side.TheVariants.{Request, Response}
 use Rattle.packet.specs.Layout.{request_shape, response_shape, is_own, rules_of}
 use Rattle.packet.specs.Arguments.{Parts, bad, parts, split, fit_all, join}
 
@@ -20,6 +22,11 @@ requests = record { magic = 0x00 ∷ 0x52 ∷ 0x45 ∷ 0x51 ∷ []; most = 1024;
 -- 01: "00 52 45 53 for a response", "response data 0 to 1,088"
 abbrev pub responses : Direction
 responses = record { magic = 0x00 ∷ 0x52 ∷ 0x45 ∷ 0x53 ∷ []; most = 1088; shape = response_shape }
+
+-- the direction of a side
+abbrev pub direction_of : Side → Direction
+direction_of Request = requests
+direction_of Response = responses
 
 -- ---- reading
 
@@ -59,8 +66,8 @@ read w s = after_header (header w.magic w.most s) (body (w.shape (number_at s 4)
 unfoldable pub packet : Bytes → ℕ → Bytes → Bytes
 packet magic kind d = magic ++ (big_endian kind ++ (big_endian (length d) ++ d))
 
--- a writer is handed five arguments and how many of them count. Above five there are only empty ones: no type has so many, so that such
--- a count is refused
+-- the first `count` of five arguments. Above five there are only empty ones: no type has so many, so that such a count is refused when
+-- it is written
 unfoldable pub given : ℕ → Bytes → Bytes → Bytes → Bytes → Bytes → List Bytes
 given count a b c d e = take count (a ∷ b ∷ c ∷ d ∷ e ∷ replicate count [])
 

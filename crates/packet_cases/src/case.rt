@@ -1,14 +1,14 @@
 // One call of the packet writer: what it answers, what it touches, and what the packet reader makes of what it wrote.
 use crate::parse::Case;
-use packet::{Ends, Read, Written};
+use packet::{Ends, Refusal};
 
-// How reading back went: nothing was written, the same type and arguments, others, or the number of a refusal.
+// How reading back went: nothing was written, the same type and arguments, others, or a refusal.
 #[derive(Clone, Copy)]
 pub enum Back {
     Nothing,
     Same,
     Differs,
-    Refused(u8),
+    Refused(Refusal),
 }
 
 // What a call answered.
@@ -21,76 +21,41 @@ pub struct Outcome {
     pub back: Back,
 }
 
-// The bytes from place `n` on.
-fn rest(s: &[u8], n: usize) -> &[u8] {
-    if s.len() < n {
-        return &s[..0];
-    }
-    &s[n..]
-}
-
-// Calls the writer with arguments that are fronts of `bytes`.
-fn written(out: &mut [u8], case: Case, bytes: &[u8]) -> Written {
+// Calls the writer with arguments that are fronts of `bytes`, and with the first `room` bytes of an output.
+fn written(out: &mut [u8], case: Case, bytes: &[u8]) -> Result<usize, Refusal> {
     let lengths = case.lengths;
-    let a = lines::front(bytes, lengths[0]);
-    let b = lines::front(bytes, lengths[1]);
-    let c = lines::front(bytes, lengths[2]);
-    let d = lines::front(bytes, lengths[3]);
-    let e = lines::front(bytes, lengths[4]);
-    if case.is_response {
-        return packet_write::write_response(out, case.kind, case.count, a, b, c, d, e);
-    }
-    packet_write::write_request(out, case.kind, case.count, a, b, c, d, e)
+    // No type has more than five arguments: where the case asks for more, one that is empty stands for them all.
+    let arguments = [
+        lines::front(bytes, lengths[0]),
+        lines::front(bytes, lengths[1]),
+        lines::front(bytes, lengths[2]),
+        lines::front(bytes, lengths[3]),
+        lines::front(bytes, lengths[4]),
+        b"",
+    ];
+    let used = &arguments[..case.count.min(6)];
+    let room = case.room.min(out.len());
+    packet_write::write_side(&mut out[..room], case.side, case.kind, used)
 }
 
-// Calls the writer with the first `room` bytes of an output.
-fn written_in(out: &mut [u8], case: Case, bytes: &[u8]) -> Written {
-    let room = case.room;
-    if out.len() < room {
-        return written(out, case, bytes);
-    }
-    written(&mut out[..room], case, bytes)
-}
-
-// How long argument `i` is: 0 beyond the last one.
-fn wanted(case: Case, i: usize) -> usize {
-    if i >= case.count || i > 4 {
-        return 0;
-    }
-    let lengths = case.lengths;
-    lengths[i]
-}
-
-// Whether the arguments that were read are those that were written.
+// Whether the arguments that were read are those that were written: beyond the last one, empty.
 fn same_arguments(packet: &[u8], ends: Ends, case: Case, bytes: &[u8]) -> bool {
-    let mut i = 0;
-    while i < 5 {
-        if !octets::equal(
-            packet_read::argument(packet, ends, i),
-            lines::front(bytes, wanted(case, i)),
-        ) {
+    let lengths = case.lengths;
+    for i in 0..5 {
+        let wanted = if i < case.count { lengths[i] } else { 0 };
+        if packet_read::argument(packet, ends, i) != lines::front(bytes, wanted) {
             return false;
         }
-        i += 1;
     }
     true
 }
 
-// Reads a packet of the case's direction.
-fn found(is_response: bool, packet: &[u8]) -> Read {
-    if is_response {
-        return packet_read::read_response(packet);
-    }
-    packet_read::read_request(packet)
-}
-
 // Reads the packet that was written.
 fn read_back(packet: &[u8], case: Case, bytes: &[u8]) -> Back {
-    let answer = found(case.is_response, packet);
-    match answer {
-        Read::Refused(number) => Back::Refused(number),
-        Read::Packet { kind, ends } => {
-            if kind == case.kind && same_arguments(packet, ends, case, bytes) {
+    match packet_read::read_side(packet, case.side) {
+        Err(refusal) => Back::Refused(refusal),
+        Ok(back) => {
+            if back.kind == case.kind && same_arguments(packet, back.ends, case, bytes) {
                 Back::Same
             } else {
                 Back::Differs
@@ -108,20 +73,19 @@ fn is_touched(out: &[u8]) -> bool {
 pub fn outcome_of(case: Case) -> Outcome {
     let bytes = [case.fill; 4096];
     let mut out = [170u8; 4096];
-    let answer = written_in(&mut out, case, &bytes);
-    match answer {
-        Written::Refused(number) => Outcome {
+    match written(&mut out, case, &bytes) {
+        Err(refusal) => Outcome {
             kind: case.kind,
-            number: number,
+            number: refusal.number(),
             length: 0,
             touched: is_touched(&out),
             back: Back::Nothing,
         },
-        Written::Length(length) => Outcome {
+        Ok(length) => Outcome {
             kind: case.kind,
             number: 0,
             length: length,
-            touched: is_touched(rest(&out, length)),
+            touched: is_touched(out.get(length..).unwrap_or(&[])),
             back: read_back(lines::front(&out, length), case, &bytes),
         },
     }

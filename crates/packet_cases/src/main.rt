@@ -21,7 +21,8 @@ fn print_back(rt: HostRuntime, back: Back) {
         Back::Differs => {
             let _ = print!(rt; " reads differently").is_ok();
         }
-        Back::Refused(number) => {
+        Back::Refused(refusal) => {
+            let number = refusal.number();
             let _ = print!(rt; " refused {number}").is_ok();
         }
     }
@@ -41,12 +42,14 @@ fn print_outcome(rt: HostRuntime, outcome: Outcome) {
     let _ = println!(rt; "").is_ok();
 }
 
-// The lines are counted down from a number that no run uses up: a proved loop has to end, and nothing says that the input does.
+// The lines are counted to a number that no run reaches: a proved loop has to end, and nothing says that the input does.
 fn print_all(rt: HostRuntime, chunk: &mut [u8], buffer: &mut [u8]) {
     let mut reader = rt.stdin();
     let mut now = input::start();
-    let mut turns = u64::MAX;
-    while turns > 0 && !now.over {
+    for _ in 0..u64::MAX {
+        if now.over {
+            break;
+        }
         now = input::next(&mut reader, now, chunk, buffer);
         if input::has_line(now) {
             print_outcome(
@@ -54,7 +57,6 @@ fn print_all(rt: HostRuntime, chunk: &mut [u8], buffer: &mut [u8]) {
                 case::outcome_of(parse::case_of(lines::text(now.line, buffer))),
             );
         }
-        turns -= 1;
     }
 }
 

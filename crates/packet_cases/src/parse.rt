@@ -1,10 +1,12 @@
 // A line's numbers. What is no digit and no space counts as nothing, and a number that is too large as the largest.
 ghost use Rattle.std.specs.Prelude.{◌≤◌, ◌<◌};
 
-// A call of the writer: its direction, the type, how many arguments, the length of each, their byte, and the output's length.
+use packet::Side;
+
+// A call of the writer: its side, the type, how many arguments, the length of each, their byte, and the output's length.
 #[derive(Clone, Copy)]
 pub struct Case {
-    pub is_response: bool,
+    pub side: Side,
     pub kind: u32,
     pub count: usize,
     pub lengths: [usize; 5],
@@ -14,16 +16,10 @@ pub struct Case {
 
 // The number with one digit more.
 fn with_digit(n: u64, x: u8) -> u64 {
-    if x < 48 {
+    if !x.is_ascii_digit() || n > 1000000000 {
         return n;
     }
-    if x > 57 {
-        return n;
-    }
-    if n > 1000000000 {
-        return n;
-    }
-    n * 10 + (x - 48) as u64
+    n * 10 + u64::from(x - b'0')
 }
 
 // The field to which a byte belongs: a space goes on to the next.
@@ -31,25 +27,16 @@ fn field_after(k: usize, x: u8) -> usize
     requires { k < 10 }
     ensures { result < 10 }
 {
-    if x != b' ' {
-        return k;
-    }
-    if k == 9 {
-        return k;
-    }
-    k + 1
+    if x == b' ' && k < 9 { k + 1 } else { k }
 }
 
 // The numbers of a line's fields.
 fn fields(line: &[u8]) -> [u64; 10] {
     let mut all = [0u64; 10];
     let mut k = 0;
-    let mut i = 0;
-    while i < line.len() {
-        let x = line[i];
-        k = field_after(k, x);
-        all[k] = with_digit(all[k], x);
-        i += 1;
+    for x in line {
+        k = field_after(k, *x);
+        all[k] = with_digit(all[k], *x);
     }
     all
 }
@@ -58,33 +45,28 @@ fn fields(line: &[u8]) -> [u64; 10] {
 fn length_of(n: u64) -> usize
     ensures { result ≤ 4096 }
 {
-    if n > 4096 {
-        return 4096;
-    }
-    n as usize
+    n.min(4096) as usize
 }
 
 // A type.
 fn kind_of(n: u64) -> u32 {
-    if n > 4294967295 {
-        return 4294967295;
-    }
-    n as u32
+    u32::try_from(n).unwrap_or(u32::MAX)
 }
 
 // A byte.
 fn byte_of(n: u64) -> u8 {
-    if n > 255 {
-        return 255;
-    }
-    n as u8
+    u8::try_from(n).unwrap_or(u8::MAX)
 }
 
 // The case of a line.
 pub fn case_of(line: &[u8]) -> Case {
     let f = fields(line);
     Case {
-        is_response: octets::starts_with(line, b"s"),
+        side: if line.starts_with(b"s") {
+            Side::Response
+        } else {
+            Side::Request
+        },
         kind: kind_of(f[1]),
         count: length_of(f[2]),
         lengths: [

@@ -1,32 +1,22 @@
--- Laws of arguments tried against the rules of their shape: one rule at a place, and all of them. Assumes nothing.
-use Prim.Native.Nat.{ℕ, suc, ◌<◌, ◌≤◌}
+-- Laws of the test of a list of arguments: there are as many as the shape has, and each is tried against its own rule.
+-- Assumes nothing.
+use Prim.Native.Nat.{ℕ, suc, ◌+◌, ◌<◌, ◌≤◌}
 use mathlib.Core.Path.{◌≡◌, refl, sym, ap, ◌∙◌}
-use mathlib.Core.Bool.{Bool, true, false, cond, ◌&&◌, and-true}
+use mathlib.Core.Bool.{Bool, true, false, not, ◌&&◌}
 use mathlib.Core.List.{List, [], ◌∷◌}
+use native.Mathlib.Numerals.{add-one}
 use native.Mathlib.Omega.{arith}
-use borrow.Author.Tests.{le-leb, lt-leb}
-use lib.ListN.{length, get_or, length-take, length-replicate}
-use lib.Dec.{leb}
-use Rattle.octets.specs.Bytes.{Bytes}
+use borrow.Author.Tests.{not-true, not-false}
 use Rattle.octets.proofs.Strings.{and_right}
+use lib.ListN.{length, get_or, drop, drop_of_length-le}
+use lib.Seq.{drop-cons}
+use Rattle.std.proofs.lemmas.List.{get_or-map}
+use Rattle.std.specs.Borrow.{Bor}
+use Rattle.octets.specs.Bytes.{Bytes}
 use Rattle.packet.specs.declared.Rule.{Rule}
 use Rattle.packet.specs.declared.Rule.TheVariants.{Absent}
-use Rattle.packet.specs.declared.Shape.{Shape}
-use Rattle.packet.specs.Layout.{rules_of}
 use Rattle.packet.specs.Arguments.{fits, fit_all}
-use Rattle.packet.specs.Packet.{given}
-use Rattle.packet_kinds.proofs.Shapes.{at_most_five}
-
--- the rule at place i allows the argument, if there is such a rule
-abbrev pub fits_at : List Rule → ℕ → Bytes → Bool
-fits_at rs i a = cond (leb (length rs) i) true (fits (get_or rs i Absent) a)
-
-module _ (rs : List Rule) (i n : ℕ) (a : Bytes) (e : n ≡ length rs) where
-  pub no_rule : n ≤ i → true ≡ fits_at rs i a
-  no_rule h = sym (rw (le-leb (length rs) i (omega arith)))
-
-  pub one_rule : i < n → (r : Bool) (p : Rule) → p ≡ get_or rs i Absent → r ≡ fits p a → r ≡ fits_at rs i a
-  one_rule h r p ep er = er ∙ rw (ep, lt-leb (length rs) i (omega arith))
+use Rattle.packet_join.proofs.Joins.{texts, length_texts}
 
 -- there are as many arguments as rules
 fit_length : (rs : List Rule) (as' : List Bytes) → fit_all rs as' ≡ true → length as' ≡ length rs
@@ -40,30 +30,31 @@ otherwise : (b : Bool) → (b ≡ true → ⊥) → b ≡ false
 otherwise true n = absurd (n refl)
 otherwise false n = refl
 
-module _ (a b c d e : Bytes) where
-  length_given : (count : ℕ) → length (given count a b c d e) ≡ count
-  unfolding given
-  length_given count = rw (length-take, length-replicate) (omega arith)
+module _ (rs : List Rule) (xs : List (Bor Bytes)) (n : ℕ) (en : n ≡ length rs) where
+  pub fit_other : (length xs ≡ n → ⊥) → false ≡ fit_all rs (texts xs)
+  fit_other ne = sym (otherwise _ (λ t. ne (sym (length_texts xs) ∙ fit_length rs (texts xs) t ∙ sym en)))
 
-  fit_each : (rs : List Rule) → length rs ≤ 5
-      → fits_at rs 0 a && (fits_at rs 1 b && (fits_at rs 2 c && (fits_at rs 3 d && fits_at rs 4 e))) ≡ fit_all rs (given (length rs) a b c d e)
-  unfolding fit_all given
-  fit_each [] h = refl
-  fit_each (p ∷ []) h = refl
-  fit_each (p ∷ q ∷ []) h = refl
-  fit_each (p ∷ q ∷ r ∷ []) h = refl
-  fit_each (p ∷ q ∷ r ∷ s ∷ []) h = refl
-  fit_each (p ∷ q ∷ r ∷ s ∷ t ∷ []) h = rw (and-true (fits t e))
-  fit_each (p ∷ q ∷ r ∷ s ∷ t ∷ u ∷ rs) h = absurd (omega arith)
+  module _ (same : length xs ≡ n) (i : ℕ) (left : fit_all rs (texts xs) ≡ fit_all (drop i rs) (drop i (texts xs))) where
+    -- all were tried
+    pub fit_end : length xs ≤ i → true ≡ fit_all rs (texts xs)
+    unfolding fit_all
+    fit_end h =
+        let r : drop i rs ≡ [] = drop_of_length-le rs {i = i} (omega arith) in
+        let q : drop i (texts xs) ≡ [] = drop_of_length-le (texts xs) {i = i} (omega (arith, length_texts xs)) in
+        sym (left ∙ rw (r, q))
 
-  module _ (rs : List Rule) (count n : ℕ) (en : n ≡ length rs) where
-    pub fit_other : (count ≡ n → ⊥) → false ≡ fit_all rs (given count a b c d e)
-    fit_other ne = sym (otherwise _ (λ t. ne (sym (length_given count) ∙ fit_length rs (given count a b c d e) t ∙ sym en)))
+    -- the one at place i is tried
+    module _ (h : i < length xs) (d : Bor Bytes) (p : Rule) (ep : p ≡ get_or rs i Absent) (r : Bool) (er : r ≡ fits p (get_or xs i d).now) where
+      fit_step : fit_all rs (texts xs) ≡ r && fit_all (drop (i + 1) rs) (drop (i + 1) (texts xs))
+      unfolding fit_all
+      fit_step =
+          let hr : i < length rs = omega arith in
+          let hx : i < length (texts xs) = omega (arith, length_texts xs) in
+          left
+          ∙ rw (drop-cons rs i Absent hr, drop-cons (texts xs) i [] hx, get_or-map (λ (a : Bor Bytes). a.now) xs i d [] h, ← ep, ← er, add-one i)
 
-    pub fit_same : count ≡ n → n ≤ 5 → (x y z v w : Bool) → x ≡ fits_at rs 0 a → y ≡ fits_at rs 1 b → z ≡ fits_at rs 2 c → v ≡ fits_at rs 3 d → w ≡ fits_at rs 4 e
-        → x && (y && (z && (v && w))) ≡ fit_all rs (given count a b c d e)
-    fit_same ec h x y z v w ex ey ez ev ew = rw (ex, ey, ez, ev, ew, ec, en) (fit_each rs (omega arith))
+      pub fit_not : not r ≡ true → false ≡ fit_all rs (texts xs)
+      fit_not f = sym (fit_step ∙ rw (not-true r f))
 
-  -- what fits a shape is at most five arguments
-  pub fit_few : (s : Shape) (count : ℕ) (r : Bool) → r ≡ fit_all (rules_of s) (given count a b c d e) → r ≡ true → count ≤ 5
-  fit_few s count r er t = omega (arith, length_given count, fit_length (rules_of s) (given count a b c d e) (sym er ∙ t), at_most_five s)
+      pub fit_on : not r ≡ false → fit_all rs (texts xs) ≡ fit_all (drop (i + 1) rs) (drop (i + 1) (texts xs))
+      fit_on f = fit_step ∙ rw (not-false r f)

@@ -1,97 +1,95 @@
--- Laws of the data of the first `count` of five arguments: how long it is and how it is laid, for no argument, for one, and for
--- one before the others. Assumes nothing.
-use Prim.Native.Nat.{ℕ, zero, suc, ◌+◌, ◌-◌, ◌<◌, ◌≤◌, min}
-use mathlib.Core.Path.{◌≡◌, refl, sym, ap, ◌∙◌}
-use mathlib.Core.List.{[], ◌∷◌, ◌++◌, append_assoc}
+-- Laws of the data of a list of arguments: how long it is and how it is laid, for no argument, for one, and for one before the others.
+-- Assumes nothing.
+use Prim.Native.Nat.{ℕ, suc, ◌+◌, ◌-◌, ◌<◌, ◌≤◌, min}
+use mathlib.Core.Path.{◌≡◌, refl, ap, ◌∙◌}
+use mathlib.Core.List.{List, [], ◌∷◌, ◌++◌, append_assoc, map}
 use native.Mathlib.Omega.{arith}
-use lib.ListN.{length, set, length-append, length-set}
+use lib.ListN.{length, set, get_or, take, drop, length-append, length-set}
+use Rattle.std.proofs.lemmas.List.{take_rest}
+use Rattle.std.specs.Borrow.{Bor}
 use Rattle.octets.specs.Bytes.{Bytes}
 use Rattle.octets.specs.Put.{put}
 use Rattle.octets.proofs.Laying.{put_none, put_more, put_next, length_put}
 use Rattle.packet.specs.Arguments.{join}
-use Rattle.packet.specs.Packet.{given}
 
-module _ (a b c d e : Bytes) where
-  join_none : (count : ℕ) → count ≡ 0 → join (given count a b c d e) ≡ []
-  unfolding join given
-  join_none count z = rw z
+-- the arguments where they lie
+abbrev pub texts : List (Bor Bytes) → List Bytes
+texts = map (λ a. a.now)
 
-  join_one : (count : ℕ) → count ≡ 1 → join (given count a b c d e) ≡ a
-  unfolding join given
-  join_one count z = rw z
+pub length_texts : (xs : List (Bor Bytes)) → length (texts xs) ≡ length xs
+length_texts [] = refl
+length_texts (x ∷ xs) = ap suc (length_texts xs)
 
-  join_next : (n : ℕ) → n ≤ 3 → join (given (suc (suc n)) a b c d e) ≡ a ++ (0 ∷ join (given (suc n) b c d e e))
-  unfolding join given
-  join_next zero h = refl
-  join_next (suc zero) h = refl
-  join_next (suc (suc zero)) h = refl
-  join_next (suc (suc (suc zero))) h = refl
-  join_next (suc (suc (suc (suc n)))) h = absurd (omega arith)
+-- all but the first
+abbrev pub others : List (Bor Bytes) → List (Bor Bytes)
+others xs = take (length xs - 1) (drop 1 xs)
 
-  -- two arguments or more: the first, a zero byte, and the data of the others
-  join_more : (count : ℕ) → count ≤ 5 → (count ≡ 0 → ⊥) → (count ≡ 1 → ⊥) → join (given count a b c d e) ≡ a ++ (0 ∷ join (given (count - 1) b c d e e))
-  join_more count most n0 n1 =
-      let p : count ≡ suc (suc (count - 2)) = omega arith in
-      let q : suc (suc (count - 2)) - 1 ≡ suc (count - 2) = omega arith in
-      rw (p, q) (join_next (count - 2) (omega arith))
+join_none : (xs : List (Bor Bytes)) → length xs < 1 → join (texts xs) ≡ []
+unfolding join
+join_none [] h = refl
+join_none (x ∷ xs) h = absurd (omega arith)
 
-  -- no argument and one: the length, the place after the data, the output
-  module _ (count : ℕ) where
-    pub none_long : count ≡ 0 → 0 ≡ min 65536 (length (join (given count a b c d e)))
-    none_long z = rw (join_none count z)
+join_one : (xs : List (Bor Bytes)) (d : Bor Bytes) → 1 ≤ length xs → length xs < 2 → join (texts xs) ≡ (get_or xs 0 d).now
+unfolding join
+join_one [] d g h = absurd (omega arith)
+join_one (x ∷ []) d g h = refl
+join_one (x ∷ y ∷ xs) d g h = absurd (omega arith)
 
-    pub one_long : (r : ℕ) → count ≡ 1 → r ≡ min 65536 (length a) → r ≡ min 65536 (length (join (given count a b c d e)))
-    one_long r z q = rw (join_one count z) q
+-- two arguments or more: the first, a zero byte, and the data of the others
+join_more : (xs : List (Bor Bytes)) (d : Bor Bytes) → 2 ≤ length xs → join (texts xs) ≡ (get_or xs 0 d).now ++ (0 ∷ join (texts (others xs)))
+unfolding join
+join_more [] d h = absurd (omega arith)
+join_more (x ∷ []) d h = absurd (omega arith)
+join_more (x ∷ y ∷ xs) d h = rw (take_rest (x ∷ y ∷ xs) 1)
 
-    pub none_place : (at : ℕ) → count ≡ 0 → at ≡ at + length (join (given count a b c d e))
-    none_place at z = rw (join_none count z) (omega arith)
+-- no argument and one: the length, the place after the data, the output
+module _ (xs : List (Bor Bytes)) (at : ℕ) (out : Bytes) where
+  pub none_long : length xs < 1 → 0 ≡ min 65536 (length (join (texts xs)))
+  none_long h = rw (join_none xs h)
 
-    pub none_laid : (at : ℕ) (out : Bytes) → count ≡ 0 → out ≡ put at (join (given count a b c d e)) out
-    none_laid at out z = rw (join_none count z) (sym (put_none at out))
+  pub none_laid : length xs < 1 → (at ≡ at + length (join (texts xs))) × (out ≡ put at (join (texts xs)) out)
+  none_laid h = rw (join_none xs h) (omega arith, rw (put_none at out))
 
-    pub one_place : (r at : ℕ) → count ≡ 1 → r ≡ at + length a → r ≡ at + length (join (given count a b c d e))
-    one_place r at z q = rw (join_one count z) q
+  module _ (d : Bor Bytes) (g : 1 ≤ length xs) (h : length xs < 2) where
+    pub one_long : (r : ℕ) → r ≡ min (length (get_or xs 0 d).now) 65536 → r ≡ min 65536 (length (join (texts xs)))
+    one_long r e = rw (join_one xs d g h) (omega arith)
 
-    pub one_laid : (at : ℕ) (o out : Bytes) → count ≡ 1 → o ≡ put at a out → o ≡ put at (join (given count a b c d e)) out
-    one_laid at o out z q = rw (join_one count z) q
+    pub one_fits : at + length (join (texts xs)) ≤ length out → at + length (get_or xs 0 d).now ≤ length out
+    one_fits l = omega (arith, ap length (join_one xs d g h))
 
-  -- two or more: the same, and that the parts have room
-  module _ (count : ℕ) (most : count ≤ 5) (n0 : count ≡ 0 → ⊥) (n1 : count ≡ 1 → ⊥) where
-    length_more : length (join (given count a b c d e)) ≡ length a + suc (length (join (given (count - 1) b c d e e)))
-    length_more = rw (join_more count most n0 n1) (length-append a _)
+    pub one_laid : (r : ℕ) (o : Bytes) → (r ≡ at + length (get_or xs 0 d).now) × (o ≡ put at (get_or xs 0 d).now out)
+        → (r ≡ at + length (join (texts xs))) × (o ≡ put at (join (texts xs)) out)
+    one_laid r o e = rw (join_one xs d g h) e
 
-    pub more_long : (r s t : ℕ) → r ≡ min 65536 (length (join (given (count - 1) b c d e e))) → s ≡ min 65536 (length a) → t ≡ min 65536 (s + 1 + r)
-        → t ≡ min 65536 (length (join (given count a b c d e)))
-    more_long r s t er es et = omega (arith, length_more)
+-- two or more: the same, and that the parts have room
+module _ (xs : List (Bor Bytes)) (d : Bor Bytes) (h : 2 ≤ length xs) where
+  length_more : length (join (texts xs)) ≡ length (get_or xs 0 d).now + suc (length (join (texts (others xs))))
+  length_more = rw (join_more xs d h) (length-append (get_or xs 0 d).now _)
 
-    pub more_place : (r at end : ℕ) → end ≡ at + length a → r ≡ end + 1 + length (join (given (count - 1) b c d e e)) → r ≡ at + length (join (given count a b c d e))
-    more_place r at end ee er = omega (arith, length_more)
+  pub more_long : (r s t : ℕ) → r ≡ min 65536 (length (join (texts (others xs)))) → s ≡ min (length (get_or xs 0 d).now) 65536 → t ≡ min (s + 1 + r) 65536
+      → t ≡ min 65536 (length (join (texts xs)))
+  more_long r s t er es et = omega (arith, length_more)
 
-    pub more_laid : (at end : ℕ) (o p out : Bytes) → end ≡ at + length a → o ≡ put at a out
-        → p ≡ put (end + 1) (join (given (count - 1) b c d e e)) (set o end 0) → p ≡ put at (join (given count a b c d e)) out
-    more_laid at end o p out ee eo ep =
-        let rest = join (given (count - 1) b c d e e) in
-        let f : set o end 0 ≡ put at (a ++ (0 ∷ [])) out = rw (eo, ee) (put_more at a out (length a) 0 refl) in
-        let g : end + 1 ≡ at + (length a + 1) = omega arith in
-        let h : put (at + (length a + 1)) rest (put at (a ++ (0 ∷ [])) out) ≡ put at ((a ++ (0 ∷ [])) ++ rest) out = put_next at (a ++ (0 ∷ [])) rest out (length a + 1) (length-append a (0 ∷ [])) in
-        rw (join_more count most n0 n1, ← append_assoc a (0 ∷ []) rest, ep, f, g) h
+  module _ (at : ℕ) (out : Bytes) (l : at + length (join (texts xs)) ≤ length out) where
+    pub first_fits : at + length (get_or xs 0 d).now ≤ length out
+    first_fits = omega (arith, length_more)
 
-    module _ (at end : ℕ) (o out : Bytes) (ee : end ≡ at + length a) (eo : o ≡ put at a out) where
+    module _ (end : ℕ) (o : Bytes) (e : (end ≡ at + length (get_or xs 0 d).now) × (o ≡ put at (get_or xs 0 d).now out)) where
       length_laid : length o ≡ length out
-      length_laid = ap length eo ∙ length_put at a out
+      length_laid = ap length e.1 ∙ length_put at (get_or xs 0 d).now out
 
-      pub zero_fits : at + length (join (given count a b c d e)) ≤ length out → end < length o
-      zero_fits h = omega (arith, length_more, length_laid)
+      pub zero_fits : end < length o
+      zero_fits = omega (arith, length_more, length_laid, e.0)
 
-      pub rest_fits : (x : ℕ) → at + length (join (given count a b c d e)) ≤ length out → end + 1 + length (join (given (count - 1) b c d e e)) ≤ length (set o end x)
-      rest_fits x h = rw length-set (omega (arith, length_more, length_laid))
+      pub rest_fits : end + 1 + length (join (texts (others xs))) ≤ length (set o end 0)
+      rest_fits = rw length-set (omega (arith, length_more, length_laid, e.0))
 
-      pub more_same : (x : ℕ) (p r : Bytes) → p ≡ put (end + 1) r (set o end x) → length p ≡ length out
-      more_same x p r ep = ap length ep ∙ length_put (end + 1) r (set o end x) ∙ length-set o end x ∙ length_laid
-
-  -- room for the data is room for its first argument
-  pub first_fits : (count at n : ℕ) → count ≤ 5 → (count ≡ 0 → ⊥) → at + length (join (given count a b c d e)) ≤ n → at + length a ≤ n
-  unfolding join given
-  first_fits zero at n most n0 h = absurd (n0 refl)
-  first_fits (suc zero) at n most n0 h = h
-  first_fits (suc (suc k)) at n most n0 h = omega (arith, length_more (suc (suc k)) most n0 (λ z. omega arith))
+      pub more_laid : (r : ℕ) (p : Bytes) → (r ≡ end + 1 + length (join (texts (others xs)))) × (p ≡ put (end + 1) (join (texts (others xs))) (set o end 0))
+          → (r ≡ at + length (join (texts xs))) × (p ≡ put at (join (texts xs)) out)
+      more_laid r p q =
+          let a : Bytes = (get_or xs 0 d).now in
+          let rest : Bytes = join (texts (others xs)) in
+          let f : set o end 0 ≡ put at (a ++ (0 ∷ [])) out = rw (e.1, e.0) (put_more at a out (length a) 0 refl) in
+          let g : end + 1 ≡ at + (length a + 1) = omega (arith, e.0) in
+          let k : put (at + (length a + 1)) rest (put at (a ++ (0 ∷ [])) out) ≡ put at ((a ++ (0 ∷ [])) ++ rest) out = put_next at (a ++ (0 ∷ [])) rest out (length a + 1) (length-append a (0 ∷ [])) in
+          (omega (arith, length_more, e.0, q.0), rw (join_more xs d h, ← append_assoc a (0 ∷ []) rest, q.1, f, g) k)

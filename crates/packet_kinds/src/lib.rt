@@ -2,11 +2,12 @@
 // An inner crate of the packet layer: its functions refuse nothing, and a number that is no type has the row of number 0.
 #![tactic(auto)]
 
-ghost use Rattle.std.specs.Prelude.{◌≡◌, cond, ◌≤◌, get_or, length};
+ghost use Rattle.std.specs.Prelude.{◌≡◌, ◌≤◌, get_or, length};
 ghost use Rattle.packet.specs.declared.Rule.TheVariants.{Absent};
 ghost use Rattle.packet.specs.Layout.{is_own, kind_of, padded, request_shape, response_shape, rules_of};
+ghost use Rattle.packet.specs.Packet.{direction_of};
 
-use packet::{Kind, Rule, Shape};
+use packet::{Kind, Rule, Shape, Side};
 
 const FUNCTION: Rule = Rule::Text { least: 1, most: 32 };
 
@@ -20,45 +21,46 @@ const CLIENT_ID: Rule = Rule::Text { least: 1, most: 64 };
 
 const TWO_DIGITS: Rule = Rule::Digits { least: 2, most: 2 };
 
-// The 36 types and number 0, each with its way and its layout: served, sent, separators, priority, background.
+// The 36 types and number 0, each on one line: its way, how many separators its arguments demand, and what a submission asks.
+#[rattlefmt::skip]
 const KINDS: [Kind; 37] = [
-    Kind(false, false, 0, 0, false), // 0
-    Kind(true, false, 0, 0, false), // 1 CAN_DO: request; function
-    Kind(true, false, 0, 0, false), // 2 CANT_DO: request; function
-    Kind(true, false, 0, 0, false), // 3 RESET_ABILITIES: request; empty
-    Kind(true, false, 0, 0, false), // 4 PRE_SLEEP: request; empty
-    Kind(false, false, 0, 0, false), // 5 (unused): neither served nor sent
-    Kind(false, true, 0, 0, false), // 6 NOOP: response; empty
-    Kind(true, false, 2, 1, false), // 7 SUBMIT_JOB: request; function, unique, opaque workload
-    Kind(false, true, 0, 0, false), // 8 JOB_CREATED: response; handle
-    Kind(true, false, 0, 0, false), // 9 GRAB_JOB: request; empty
-    Kind(false, true, 0, 0, false), // 10 NO_JOB: response; empty
-    Kind(false, true, 2, 0, false), // 11 JOB_ASSIGN: response; handle, function, opaque workload
-    Kind(true, true, 2, 0, false), // 12 WORK_STATUS: both; handle, numerator, denominator
-    Kind(true, true, 1, 0, false), // 13 WORK_COMPLETE: both; handle, opaque data
-    Kind(true, true, 0, 0, false), // 14 WORK_FAIL: both; handle
-    Kind(true, false, 0, 0, false), // 15 GET_STATUS: request; handle
-    Kind(true, false, 0, 0, false), // 16 ECHO_REQ: request; opaque, all of it
-    Kind(false, true, 0, 0, false), // 17 ECHO_RES: response; opaque, all of it
-    Kind(true, false, 2, 1, true), // 18 SUBMIT_JOB_BG: request; function, unique, opaque workload
-    Kind(false, true, 1, 0, false), // 19 ERROR: response; two digits, text
-    Kind(false, true, 4, 0, false), // 20 STATUS_RES: response; handle, known, running, numerator, denominator
-    Kind(true, false, 2, 2, false), // 21 SUBMIT_JOB_HIGH: request; function, unique, opaque workload
-    Kind(true, false, 0, 0, false), // 22 SET_CLIENT_ID: request; client id
-    Kind(false, false, 0, 0, false), // 23 CAN_DO_TIMEOUT: neither served nor sent
-    Kind(false, false, 0, 0, false), // 24 ALL_YOURS: neither served nor sent
-    Kind(true, true, 1, 0, false), // 25 WORK_EXCEPTION: both; handle, opaque data
-    Kind(true, false, 0, 0, false), // 26 OPTION_REQ: request; option name
-    Kind(false, true, 0, 0, false), // 27 OPTION_RES: response; option name
-    Kind(true, true, 1, 0, false), // 28 WORK_DATA: both; handle, opaque data
-    Kind(true, true, 1, 0, false), // 29 WORK_WARNING: both; handle, opaque data
-    Kind(true, false, 0, 0, false), // 30 GRAB_JOB_UNIQ: request; empty
-    Kind(false, true, 3, 0, false), // 31 JOB_ASSIGN_UNIQ: response; handle, function, unique, opaque workload
-    Kind(true, false, 2, 2, true), // 32 SUBMIT_JOB_HIGH_BG: request; function, unique, opaque workload
-    Kind(true, false, 2, 0, false), // 33 SUBMIT_JOB_LOW: request; function, unique, opaque workload
-    Kind(true, false, 2, 0, true), // 34 SUBMIT_JOB_LOW_BG: request; function, unique, opaque workload
-    Kind(false, false, 0, 0, false), // 35 SUBMIT_JOB_SCHED: neither served nor sent
-    Kind(false, false, 0, 0, false), // 36 SUBMIT_JOB_EPOCH: neither served nor sent
+    Kind { served: false, sent: false, separators: 0, priority: 0, background: false }, // 0
+    Kind { served: true, sent: false, separators: 0, priority: 0, background: false }, // 1 CAN_DO: request; function
+    Kind { served: true, sent: false, separators: 0, priority: 0, background: false }, // 2 CANT_DO: request; function
+    Kind { served: true, sent: false, separators: 0, priority: 0, background: false }, // 3 RESET_ABILITIES: request; empty
+    Kind { served: true, sent: false, separators: 0, priority: 0, background: false }, // 4 PRE_SLEEP: request; empty
+    Kind { served: false, sent: false, separators: 0, priority: 0, background: false }, // 5 (unused): neither served nor sent
+    Kind { served: false, sent: true, separators: 0, priority: 0, background: false }, // 6 NOOP: response; empty
+    Kind { served: true, sent: false, separators: 2, priority: 1, background: false }, // 7 SUBMIT_JOB: request; function, unique, opaque workload
+    Kind { served: false, sent: true, separators: 0, priority: 0, background: false }, // 8 JOB_CREATED: response; handle
+    Kind { served: true, sent: false, separators: 0, priority: 0, background: false }, // 9 GRAB_JOB: request; empty
+    Kind { served: false, sent: true, separators: 0, priority: 0, background: false }, // 10 NO_JOB: response; empty
+    Kind { served: false, sent: true, separators: 2, priority: 0, background: false }, // 11 JOB_ASSIGN: response; handle, function, opaque workload
+    Kind { served: true, sent: true, separators: 2, priority: 0, background: false }, // 12 WORK_STATUS: both; handle, numerator, denominator
+    Kind { served: true, sent: true, separators: 1, priority: 0, background: false }, // 13 WORK_COMPLETE: both; handle, opaque data
+    Kind { served: true, sent: true, separators: 0, priority: 0, background: false }, // 14 WORK_FAIL: both; handle
+    Kind { served: true, sent: false, separators: 0, priority: 0, background: false }, // 15 GET_STATUS: request; handle
+    Kind { served: true, sent: false, separators: 0, priority: 0, background: false }, // 16 ECHO_REQ: request; opaque, all of it
+    Kind { served: false, sent: true, separators: 0, priority: 0, background: false }, // 17 ECHO_RES: response; opaque, all of it
+    Kind { served: true, sent: false, separators: 2, priority: 1, background: true }, // 18 SUBMIT_JOB_BG: request; function, unique, opaque workload
+    Kind { served: false, sent: true, separators: 1, priority: 0, background: false }, // 19 ERROR: response; two digits, text
+    Kind { served: false, sent: true, separators: 4, priority: 0, background: false }, // 20 STATUS_RES: response; handle, known, running, numerator, denominator
+    Kind { served: true, sent: false, separators: 2, priority: 2, background: false }, // 21 SUBMIT_JOB_HIGH: request; function, unique, opaque workload
+    Kind { served: true, sent: false, separators: 0, priority: 0, background: false }, // 22 SET_CLIENT_ID: request; client id
+    Kind { served: false, sent: false, separators: 0, priority: 0, background: false }, // 23 CAN_DO_TIMEOUT: neither served nor sent
+    Kind { served: false, sent: false, separators: 0, priority: 0, background: false }, // 24 ALL_YOURS: neither served nor sent
+    Kind { served: true, sent: true, separators: 1, priority: 0, background: false }, // 25 WORK_EXCEPTION: both; handle, opaque data
+    Kind { served: true, sent: false, separators: 0, priority: 0, background: false }, // 26 OPTION_REQ: request; option name
+    Kind { served: false, sent: true, separators: 0, priority: 0, background: false }, // 27 OPTION_RES: response; option name
+    Kind { served: true, sent: true, separators: 1, priority: 0, background: false }, // 28 WORK_DATA: both; handle, opaque data
+    Kind { served: true, sent: true, separators: 1, priority: 0, background: false }, // 29 WORK_WARNING: both; handle, opaque data
+    Kind { served: true, sent: false, separators: 0, priority: 0, background: false }, // 30 GRAB_JOB_UNIQ: request; empty
+    Kind { served: false, sent: true, separators: 3, priority: 0, background: false }, // 31 JOB_ASSIGN_UNIQ: response; handle, function, unique, opaque workload
+    Kind { served: true, sent: false, separators: 2, priority: 2, background: true }, // 32 SUBMIT_JOB_HIGH_BG: request; function, unique, opaque workload
+    Kind { served: true, sent: false, separators: 2, priority: 0, background: false }, // 33 SUBMIT_JOB_LOW: request; function, unique, opaque workload
+    Kind { served: true, sent: false, separators: 2, priority: 0, background: true }, // 34 SUBMIT_JOB_LOW_BG: request; function, unique, opaque workload
+    Kind { served: false, sent: false, separators: 0, priority: 0, background: false }, // 35 SUBMIT_JOB_SCHED: neither served nor sent
+    Kind { served: false, sent: false, separators: 0, priority: 0, background: false }, // 36 SUBMIT_JOB_EPOCH: neither served nor sent
 ];
 
 // What a number's row says.
@@ -109,14 +111,14 @@ pub fn response_shape(kind: u32) -> Shape
     }
 }
 
-// The shape of this type in one direction: a request's, or a response's.
-pub fn shape_of(kind: u32, request: bool) -> Shape
-    ensures { result ≡ cond request (request_shape kind) (response_shape kind) }
+// The shape of a packet of this type and side.
+pub fn shape_of(kind: u32, side: Side) -> Shape
+    ensures { result ≡ (direction_of side).shape kind }
 {
-    if request {
-        return request_shape(kind);
+    match side {
+        Side::Request => request_shape(kind),
+        Side::Response => response_shape(kind),
     }
-    response_shape(kind)
 }
 
 // The rules of a shape's arguments, in order.

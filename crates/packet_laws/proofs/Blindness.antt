@@ -17,8 +17,7 @@ use Rattle.packet.specs.Layout.{rules_of, is_own, separators_of}
 use Rattle.packet.specs.Arguments.{fit_all, ends_from, ends_of}
 use Rattle.packet.specs.Packet.{Direction, Reading, refused, got, header, body, read}
 use Rattle.packet.specs.Opaque.{ends_opaque, has_zeros, past, hides, seen, visible, opaque, masked, with_last, with_opaque}
-use Rattle.packet.specs.declared.Read.TheVariants as RV
-use Rattle.packet.specs.Answers.{answer_of}
+use Rattle.packet.specs.Answers.{answer_of, found}
 use Rattle.packet_laws.proofs.Splitting.{split_join, fit_length}
 use Rattle.packet_laws.proofs.Packets.{Well, header_good, Got, read_got}
 use Rattle.packet_laws.proofs.Separators.{Heads, heads, heads_past, Fate, broken, kept, fate, split_zeros, last_replaced, last_at, last_ends}
@@ -276,8 +275,8 @@ module _ (w : Direction) (well : Well w) where
   unfolding with_opaque answer_of
   ends_other s o (refused n) e l = refl
   ends_other s o (got kind args) e l = same_ends (ends_opaque (rules_of (w.shape kind))) refl where
-    same_ends : (b : Bool) → ends_opaque (rules_of (w.shape kind)) ≡ b → RV.Packet kind (ends_of 12 (cond b (with_last o args) args)) ≡ RV.Packet kind (ends_of 12 args)
-    same_ends true q = ap (RV.Packet kind) (ends_same _ _ (last_ends args 12 o (opaque w s) l ∙ ap (ends_from 12) (opaque_last s kind args e q)))
+    same_ends : (b : Bool) → ends_opaque (rules_of (w.shape kind)) ≡ b → found kind (ends_of 12 (cond b (with_last o args) args)) ≡ found kind (ends_of 12 args)
+    same_ends true q = ap (found kind) (ends_same _ _ (last_ends args 12 o (opaque w s) l ∙ ap (ends_from 12) (opaque_last s kind args e q)))
     same_ends false q = refl
 
   -- number, type and ends are those of the masked packet

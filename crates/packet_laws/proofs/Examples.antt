@@ -6,7 +6,7 @@ use mathlib.Core.List.{[], ◌∷◌, ◌++◌}
 use lib.ListN.{replicate}
 use Rattle.octets.specs.Bytes.{Bytes, same, starts_with, first_zero, every}
 use Rattle.octets.specs.Put.{put, over}
-use Rattle.packet.specs.declared.Written.TheVariants as WV
+use Rattle.std.specs.Prelude.{Ok}
 use Rattle.packet.specs.Layout.{rules_of, request_shape, response_shape}
 use Rattle.packet.specs.Arguments.{fits, fit_all, join, split, ends_of}
 use Rattle.packet.specs.Packet.{Direction, requests, responses, Reading, refused, got, header, body, read, packet, write_refusal}
@@ -88,7 +88,7 @@ unfolding compute
 work_complete_sent = refl
 
 -- written into twenty bytes: nineteen are the packet's, and the last stays as it was
-job_created_written : written responses (replicate 20 7) 8 (lap1 ∷ []) ≡ record { answer = WV.Length 19; output = res 8 7 lap1 ++ (7 ∷ []) }
+job_created_written : written responses (replicate 20 7) 8 (lap1 ∷ []) ≡ record { answer = Ok 19; output = res 8 7 lap1 ++ (7 ∷ []) }
 unfolding compute
 job_created_written = refl
 

@@ -8,3 +8,4 @@ pub mod Once
 pub mod Examples
 pub mod Answers
 pub mod Values
+pub mod Sides

@@ -15,7 +15,7 @@ use Rattle.octets.specs.Put.{put}
 use Rattle.octets.proofs.Strings.{starts_self, starts_is, number_written, written_number}
 use Rattle.packet.specs.declared.Shape.{Shape}
 use Rattle.packet.specs.declared.Shape.TheVariants.{Foreign}
-use Rattle.packet.specs.declared.Written.TheVariants as WV
+use Rattle.std.specs.Prelude.{Ok}
 use Rattle.packet.specs.Layout.{rules_of, is_own, served, sent, request_shape, response_shape}
 use Rattle.packet.specs.Arguments.{Parts, bad, parts, split, fit_all, join}
 use Rattle.packet.specs.Packet.{Direction, requests, responses, Reading, refused, got, header, argued, body, after_header, read, packet, write_refusal}
@@ -133,7 +133,7 @@ module _ (most room : ℕ) (shape : Shape) (args : List Bytes) where
   accepted_unrefused h = rw (h.own, h.fit, le-ltb _ _ h.limited, le-ltb _ _ h.fill)
 
 -- a length as the answer: nothing was refused, the packet has that length, and it was laid over the output
-pub finished_length : (m : ℕ) (p out : Bytes) (n : ℕ) (o : Bytes) → finished m p out ≡ record { answer = WV.Length n; output = o }
+pub finished_length : (m : ℕ) (p out : Bytes) (n : ℕ) (o : Bytes) → finished m p out ≡ record { answer = Ok n; output = o }
     → (m ≡ 0) × (length p ≡ n) × (put 0 p out ≡ o)
 finished_length zero p out n o e = let a : length p ≡ n = cc (ap (λ (x : Writing). x.answer) e) in (refl, a, ap (λ (x : Writing). x.output) e)
 finished_length (suc m) p out n o e = let z : ◌≡◌ {A = ℕ} 0 1 = cc (ap (λ (x : Writing). x.answer) e) in absurd (omega arith)

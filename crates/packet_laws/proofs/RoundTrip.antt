@@ -10,7 +10,7 @@ use lib.Seq.{take-append_seam}
 use Rattle.octets.specs.Bytes.{Bytes, number_at}
 use Rattle.octets.specs.Put.{put}
 use Rattle.octets.proofs.Laying.{put_start}
-use Rattle.packet.specs.declared.Written.TheVariants as WV
+use Rattle.std.specs.Prelude.{Ok}
 use Rattle.packet.specs.Layout.{rules_of, is_own}
 use Rattle.packet.specs.Arguments.{fit_all, join, parts, split}
 use Rattle.packet.specs.Packet.{Direction, requests, responses, got, read, packet, write_refusal}
@@ -37,7 +37,7 @@ module _ (w : Direction) (well : Well w) where
       got_read w s kind args (record { headed = good_header _ _ s h; typed = p.typed; own = o; splits = d })
 
   pub written_reads : (out : Bytes) (kind : ℕ) (args : List Bytes) (n : ℕ) (o : Bytes)
-      → written w out kind args ≡ record { answer = WV.Length n; output = o } → read w (take n o) ≡ got kind args
+      → written w out kind args ≡ record { answer = Ok n; output = o } → read w (take n o) ≡ got kind args
   unfolding writing
   written_reads out kind args n o e =
       let p : Bytes = packet w.magic kind (join args) in
@@ -55,7 +55,7 @@ module _ (w : Direction) (well : Well w) where
       rw ((split_join _ (drop 12 s) args g.splits).0, ← g.typed) (packet_again w.magic w.most s well.four h (header_good _ _ s g.headed))
 
   pub read_writes : (s : Bytes) (kind : ℕ) (args : List Bytes) (out : Bytes) → ((i : ℕ) → get_or s i 0 < 256) → read w s ≡ got kind args → length s ≤ length out
-      → written w out kind args ≡ record { answer = WV.Length (length s); output = put 0 s out }
+      → written w out kind args ≡ record { answer = Ok (length s); output = put 0 s out }
   unfolding writing
   read_writes s kind args out h e l =
       let g : Got w s kind args = read_got w s kind args e in
@@ -69,17 +69,17 @@ module _ (w : Direction) (well : Well w) where
 -- ---- for requests and for responses
 
 pub request_written_reads : (out : Bytes) (kind : ℕ) (args : List Bytes) (n : ℕ) (o : Bytes)
-    → written requests out kind args ≡ record { answer = WV.Length n; output = o } → read requests (take n o) ≡ got kind args
+    → written requests out kind args ≡ record { answer = Ok n; output = o } → read requests (take n o) ≡ got kind args
 request_written_reads = written_reads requests requests_well
 
 pub response_written_reads : (out : Bytes) (kind : ℕ) (args : List Bytes) (n : ℕ) (o : Bytes)
-    → written responses out kind args ≡ record { answer = WV.Length n; output = o } → read responses (take n o) ≡ got kind args
+    → written responses out kind args ≡ record { answer = Ok n; output = o } → read responses (take n o) ≡ got kind args
 response_written_reads = written_reads responses responses_well
 
 pub request_read_writes : (s : Bytes) (kind : ℕ) (args : List Bytes) (out : Bytes) → ((i : ℕ) → get_or s i 0 < 256) → read requests s ≡ got kind args
-    → length s ≤ length out → written requests out kind args ≡ record { answer = WV.Length (length s); output = put 0 s out }
+    → length s ≤ length out → written requests out kind args ≡ record { answer = Ok (length s); output = put 0 s out }
 request_read_writes = read_writes requests requests_well
 
 pub response_read_writes : (s : Bytes) (kind : ℕ) (args : List Bytes) (out : Bytes) → ((i : ℕ) → get_or s i 0 < 256) → read responses s ≡ got kind args
-    → length s ≤ length out → written responses out kind args ≡ record { answer = WV.Length (length s); output = put 0 s out }
+    → length s ≤ length out → written responses out kind args ≡ record { answer = Ok (length s); output = put 0 s out }
 response_read_writes = read_writes responses responses_well

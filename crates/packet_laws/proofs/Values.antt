@@ -1,20 +1,20 @@
 -- What a reader answers has document 01's number and values: `values_of` of the answer is the reading itself, with every argument.
 -- Assumes nothing.
 use Prim.Native.Nat.{ℕ, suc, ◌+◌, ◌<◌, ◌≤◌, suc-le-suc}
-use mathlib.Core.Path.{◌≡◌, refl, sym, ap, ap₂, ◌∙◌}
+use mathlib.Core.Path.{◌≡◌, refl, sym, ap, ap₂, subst, ◌∙◌}
 use mathlib.Core.List.{List, [], ◌∷◌}
 use native.Mathlib.Nat.{zero-add, add-zero}
 use native.Mathlib.Omega.{arith}
 use lib.ListN.{length, get_or, drop}
 use Rattle.octets.specs.Bytes.{Bytes}
 use Rattle.packet.specs.declared.Ends.{Ends}
-use Rattle.packet.specs.declared.Read as R
 use Rattle.packet.specs.declared.Shape.{Shape}
 use Rattle.packet.specs.declared.Shape.TheVariants.{Foreign, Empty, Function, Submission, WorkStatus, WorkData, Handle, Echo, OptionName, ClientId, Assignment, UniqueAssignment, Error, StatusAnswer}
 use Rattle.packet.specs.Layout.{rules_of}
 use Rattle.packet.specs.Arguments.{ends_of}
 use Rattle.packet.specs.Packet.{Direction, Reading, refused, got, read}
-use Rattle.packet.specs.Answers.{answer_of, argument_at, arguments_from, values_of}
+use Rattle.packet.specs.Answers.{Read, answer_of, argument_at, arguments_from, values_of}
+use Rattle.packet_laws.proofs.Answers.{Numbered, read_numbered}
 use Rattle.packet_laws.proofs.Splitting.{split_join, fit_length}
 use Rattle.packet_laws.proofs.Packets.{Got, read_got}
 use Rattle.packet_laws.proofs.Places.{argument_read}
@@ -53,9 +53,9 @@ values_got w s kind args e =
 
 values_of_lem : (w : Direction) (s : Bytes) (r : Reading) → read w s ≡ r → values_of w s (answer_of r) ≡ r
 unfolding values_of answer_of
-values_of_lem w s (refused n) e = refl
+values_of_lem w s (refused n) e = ap refused (subst Numbered e (read_numbered w s))
 values_of_lem w s (got kind args) e = ap (got kind) (values_got w s kind args e)
 
 -- of an answer as the readers' contracts fix it
-pub read_values : (w : Direction) (s : Bytes) (r : R.Read) → r ≡ answer_of (read w s) → values_of w s r ≡ read w s
+pub read_values : (w : Direction) (s : Bytes) (r : Read) → r ≡ answer_of (read w s) → values_of w s r ≡ read w s
 read_values w s r e = ap (values_of w s) e ∙ values_of_lem w s (read w s) refl

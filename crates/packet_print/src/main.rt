@@ -15,18 +15,19 @@ fn print_line<W: Write>(writer: &mut W, line: Line, buffer: &[u8]) {
     let _ = writer.write_all(lines::front(&out, end)).is_ok();
 }
 
-// The lines are counted down from a number that no run uses up: a proved loop has to end, and nothing says that the input does.
+// The lines are counted to a number that no run reaches: a proved loop has to end, and nothing says that the input does.
 fn print_all(rt: HostRuntime, chunk: &mut [u8], buffer: &mut [u8]) {
     let mut reader = rt.stdin();
     let mut writer = rt.stdout();
     let mut now = input::start();
-    let mut turns = u64::MAX;
-    while turns > 0 && !now.over {
+    for _ in 0..u64::MAX {
+        if now.over {
+            break;
+        }
         now = input::next(&mut reader, now, chunk, buffer);
         if input::has_line(now) {
             print_line(&mut writer, now.line, buffer);
         }
-        turns -= 1;
     }
 }
 

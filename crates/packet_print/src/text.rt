@@ -1,7 +1,8 @@
 // What is said of one line. Each function lays its part over the output from `at` on and returns the place after it; what has no
 // room is left out, and the caller lends room enough.
-use hexadecimal::Spelled;
-use packet::{Ends, Read, Written};
+ghost use Rattle.std.specs.Prelude.{◌≤◌};
+
+use packet::{Packet, Side};
 
 // Lays a text.
 fn put_text(out: &mut [u8], at: usize, source: &[u8]) -> usize {
@@ -14,14 +15,15 @@ fn put_text(out: &mut [u8], at: usize, source: &[u8]) -> usize {
     octets::put(out, at, source)
 }
 
-// Lays a number in decimal.
+// Lays a number in decimal. By hand: `prints` stands on the server's handles, which the packet layer does without, and `write!` over a lent
+// text would need a writer of its own.
 fn put_number(out: &mut [u8], at: usize, n: u32) -> usize {
     let mut digits = [0u8; 10];
     let mut first = 10;
     let mut rest = n;
-    while first > 0 {
-        first -= 1;
-        digits[first] = b'0' + (rest % 10) as u8;
+    for place in (0..10).rev() {
+        digits[place] = b'0' + (rest % 10) as u8;
+        first = place;
         rest /= 10;
         if rest == 0 {
             break;
@@ -48,10 +50,8 @@ fn put_byte(out: &mut [u8], at: usize, x: u8) -> usize {
 // Lays the bytes of an argument.
 fn put_bytes(out: &mut [u8], at: usize, argument: &[u8]) -> usize {
     let mut next = at;
-    let mut i = 0;
-    while i < argument.len() {
-        next = put_byte(out, next, argument[i]);
-        i += 1;
+    for x in argument {
+        next = put_byte(out, next, *x);
     }
     next
 }
@@ -64,100 +64,76 @@ fn put_argument(out: &mut [u8], at: usize, argument: &[u8]) -> usize {
 }
 
 // How many arguments a packet has: those that end somewhere.
-fn count(ends: Ends) -> usize {
-    if ends.first == 0 {
-        return 0;
-    }
-    if ends.second == 0 {
-        return 1;
-    }
-    if ends.third == 0 {
-        return 2;
-    }
-    if ends.fourth == 0 {
-        return 3;
-    }
-    if ends.fifth == 0 {
-        return 4;
-    }
-    5
+fn count(packet: Packet) -> usize
+    ensures { result ≤ 5 }
+{
+    let ends = packet.ends;
+    [ends.first, ends.second, ends.third, ends.fourth, ends.fifth]
+        .iter()
+        .position(|end| *end == 0)
+        .unwrap_or(5)
 }
 
 // Lays the arguments of a packet.
-fn put_arguments(out: &mut [u8], at: usize, packet: &[u8], ends: Ends) -> usize {
-    let all = count(ends);
+fn put_arguments(out: &mut [u8], at: usize, bytes: &[u8], packet: Packet) -> usize {
     let mut next = at;
-    let mut i = 0;
-    while i < all {
-        next = put_argument(out, next, packet_read::argument(packet, ends, i));
-        i += 1;
+    for i in 0..count(packet) {
+        next = put_argument(out, next, packet_read::argument(bytes, packet.ends, i));
     }
     next
 }
 
-// Writes the packet anew from its type and arguments.
-fn written(out: &mut [u8], is_response: bool, packet: &[u8], kind: u32, ends: Ends) -> Written {
-    let a = packet_read::argument(packet, ends, 0);
-    let b = packet_read::argument(packet, ends, 1);
-    let c = packet_read::argument(packet, ends, 2);
-    let d = packet_read::argument(packet, ends, 3);
-    let e = packet_read::argument(packet, ends, 4);
-    if is_response {
-        return packet_write::write_response(out, kind, count(ends), a, b, c, d, e);
-    }
-    packet_write::write_request(out, kind, count(ends), a, b, c, d, e)
-}
-
-// Whether the packet written anew has the same bytes.
-fn is_same(is_response: bool, packet: &[u8], kind: u32, ends: Ends) -> bool {
+// Whether the packet, written anew from its type and arguments, has the same bytes.
+fn is_same(side: Side, bytes: &[u8], packet: Packet) -> bool {
+    let ends = packet.ends;
+    let arguments = [
+        packet_read::argument(bytes, ends, 0),
+        packet_read::argument(bytes, ends, 1),
+        packet_read::argument(bytes, ends, 2),
+        packet_read::argument(bytes, ends, 3),
+        packet_read::argument(bytes, ends, 4),
+    ];
+    let used = &arguments[..count(packet)];
     let mut again = [0u8; 1100];
-    let answer = written(&mut again, is_response, packet, kind, ends);
-    match answer {
-        Written::Refused(_) => false,
-        Written::Length(n) => octets::equal(lines::front(&again, n), packet),
+    match packet_write::write_side(&mut again, side, packet.kind, used) {
+        Err(_) => false,
+        Ok(length) => lines::front(&again, length) == bytes,
     }
 }
 
-// Lays the direction of a packet.
-fn put_direction(out: &mut [u8], at: usize, is_response: bool) -> usize {
-    if is_response {
-        return put_text(out, at, b"response ");
+// Lays the side of a packet.
+fn put_side(out: &mut [u8], at: usize, side: Side) -> usize {
+    match side {
+        Side::Request => put_text(out, at, b"request "),
+        Side::Response => put_text(out, at, b"response "),
     }
-    put_text(out, at, b"request ")
 }
 
 // Lays what a packet that was read says.
-fn put_packet(
-    out: &mut [u8],
-    at: usize,
-    is_response: bool,
-    packet: &[u8],
-    kind: u32,
-    ends: Ends,
-) -> usize {
-    let direction = put_direction(out, at, is_response);
-    let number = put_number(out, direction, kind);
-    let end = put_arguments(out, number, packet, ends);
-    if is_same(is_response, packet, kind, ends) {
-        return put_text(out, end, b" same");
+fn put_packet(out: &mut [u8], at: usize, side: Side, bytes: &[u8], packet: Packet) -> usize {
+    let kind = put_side(out, at, side);
+    let arguments = put_number(out, kind, packet.kind);
+    let end = put_arguments(out, arguments, bytes, packet);
+    if is_same(side, bytes, packet) {
+        put_text(out, end, b" same")
+    } else {
+        put_text(out, end, b" differs")
     }
-    put_text(out, end, b" differs")
 }
 
 // Lays what the packet reader finds. A packet with the response's magic is read as a response, any other as a request.
-fn put_found(out: &mut [u8], at: usize, packet: &[u8]) -> usize {
-    let is_response = octets::starts_with(packet, b"\0RES");
-    let found = if is_response {
-        packet_read::read_response(packet)
+fn put_found(out: &mut [u8], at: usize, bytes: &[u8]) -> usize {
+    let side = if bytes.starts_with(Side::Response.magic()) {
+        Side::Response
     } else {
-        packet_read::read_request(packet)
+        Side::Request
     };
-    match found {
-        Read::Refused(number) => {
+    match packet_read::read_side(bytes, side) {
+        Ok(packet) => put_packet(out, at, side, bytes, packet),
+        Err(refusal) => {
             let next = put_text(out, at, b"refused ");
-            put_number(out, next, number as u32)
+            put_number(out, next, u32::from(refusal.number()))
         }
-        Read::Packet { kind, ends } => put_packet(out, at, is_response, packet, kind, ends),
     }
 }
 
@@ -167,10 +143,9 @@ fn put_line(out: &mut [u8], digits: &[u8], overlong: bool) -> usize {
         return put_text(out, 0, b"not hexadecimal");
     }
     let mut packet = [0u8; 1100];
-    let spelled = hexadecimal::read_hex(digits, &mut packet);
-    match spelled {
-        Spelled::Bad => put_text(out, 0, b"not hexadecimal"),
-        Spelled::Bytes(n) => put_found(out, 0, lines::front(&packet, n)),
+    match hexadecimal::read_hex(digits, &mut packet) {
+        Some(count) => put_found(out, 0, lines::front(&packet, count)),
+        None => put_text(out, 0, b"not hexadecimal"),
     }
 }
 

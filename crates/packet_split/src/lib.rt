@@ -1,13 +1,22 @@
 // The arguments of a packet's data, read by the rules of its shape: after each zero byte the rest of the data goes to the next
-// argument's reader as a part. An inner crate of the packet layer; data that does not split as the shape asks is `Bad`.
+// argument's reader as a part. An inner crate of the packet layer; data that does not split as the shape asks is `None`.
 #![tactic(auto)]
 
 ghost use Rattle.std.specs.Prelude.{◌≡◌, [], ◌∷◌, ◌+◌, ◌<◌, ◌^◌, drop, length};
 ghost use Rattle.octets.specs.Bytes.{within};
 ghost use Rattle.packet.specs.Layout.{rules_of};
-ghost use Rattle.packet.specs.Arguments.{answered, fits, split, with_end};
+ghost use Rattle.packet.specs.Arguments.{answered, before_ends, fits, split};
 
-use packet::{Ends, Rule, Shape, Split};
+use packet::{Ends, Rule, Shape};
+
+// The ends where there is no argument.
+const NO_ENDS: Ends = Ends {
+    first: 0,
+    second: 0,
+    third: 0,
+    fourth: 0,
+    fifth: 0,
+};
 
 // Whether `n` lies between `least` and `most`, both included.
 fn between(least: usize, most: usize, n: usize) -> bool
@@ -44,7 +53,7 @@ pub fn fits(rule: Rule, a: &[u8]) -> bool
 }
 
 // Splits `d`, which starts at place `at` of its packet, by the rules of `shape` from number `i` on.
-pub fn split_from(shape: Shape, i: usize, at: usize, d: &[u8]) -> Split
+pub fn split_from(shape: Shape, i: usize, at: usize, d: &[u8]) -> Option<Ends>
     requires { (i < length (rules_of shape)) × (at + length d.now < 2 ^ 32) }
     ensures { result ≡ answered at (split (drop i (rules_of shape)) d.now) }
 {
@@ -55,17 +64,17 @@ pub fn split_from(shape: Shape, i: usize, at: usize, d: &[u8]) -> Split
     }
     let end = octets::first_zero(d);
     if end == d.len() {
-        return Split::Bad;
+        return None;
     }
     if !fits(rule, &d[..end]) {
-        return Split::Bad;
+        return None;
     }
-    let rest = split_from(shape, i + 1, at + end + 1, &d[end + 1..]);
-    pushed(at + end, rest)
+    let rest = split_from(shape, i + 1, at + end + 1, &d[end + 1..])?;
+    Some(pushed(at + end, rest))
 }
 
 // Splits a packet's data, from byte 12 of the packet on, by the rules of its shape.
-pub fn split(shape: Shape, d: &[u8]) -> Split
+pub fn split(shape: Shape, d: &[u8]) -> Option<Ends>
     requires { length d.now < 2 ^ 31 }
     ensures { result ≡ answered 12 (split (rules_of shape) d.now) }
 {
@@ -76,50 +85,38 @@ pub fn split(shape: Shape, d: &[u8]) -> Split
 }
 
 // No argument: the data is empty.
-fn split_none(d: &[u8]) -> Split
+fn split_none(d: &[u8]) -> Option<Ends>
     ensures { result ≡ answered 12 (split [] d.now) }
 {
     if d.len() != 0 {
-        return Split::Bad;
+        return None;
     }
-    Split::Good(Ends {
-        first: 0,
-        second: 0,
-        third: 0,
-        fourth: 0,
-        fifth: 0,
-    })
+    Some(NO_ENDS)
 }
 
 // The last argument is all that is left.
-fn split_last(rule: Rule, at: usize, d: &[u8]) -> Split
+fn split_last(rule: Rule, at: usize, d: &[u8]) -> Option<Ends>
     requires { at + length d.now < 2 ^ 32 }
     ensures { result ≡ answered at (split (rule ∷ []) d.now) }
 {
     if !fits(rule, d) {
-        return Split::Bad;
+        return None;
     }
-    Split::Good(Ends {
+    Some(Ends {
         first: at + d.len(),
-        second: 0,
-        third: 0,
-        fourth: 0,
-        fifth: 0,
+        ..NO_ENDS
     })
 }
 
 // The ends of the rest, with the end of one more argument before them.
-fn pushed(end: usize, rest: Split) -> Split
-    ensures { result ≡ with_end end rest }
+fn pushed(end: usize, rest: Ends) -> Ends
+    ensures { result ≡ before_ends end rest }
 {
-    match rest {
-        Split::Bad => Split::Bad,
-        Split::Good(e) => Split::Good(Ends {
-            first: end,
-            second: e.first,
-            third: e.second,
-            fourth: e.third,
-            fifth: e.fourth,
-        }),
+    Ends {
+        first: end,
+        second: rest.first,
+        third: rest.second,
+        fourth: rest.third,
+        fifth: rest.fourth,
     }
 }

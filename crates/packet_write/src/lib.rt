@@ -3,122 +3,63 @@
 // by 1; a refusal writes nothing, and nothing is written beyond the packet.
 #![tactic(auto)]
 
-ghost use Rattle.std.specs.Prelude.{◌≡◌, ◌+◌, ◌≤◌, ◌<◌, length};
-ghost use Rattle.octets.specs.Put.{put};
+ghost use Rattle.std.specs.Prelude.{◌≡◌, length, map};
 ghost use Rattle.packet.specs.Arguments.{join};
-ghost use Rattle.packet.specs.Packet.{given, packet, requests, responses, write_refusal};
-ghost use Rattle.packet.specs.Answers.{writing};
+ghost use Rattle.packet.specs.Packet.{direction_of, requests, responses, write_refusal};
+ghost use Rattle.packet.specs.Answers.{granted, writing};
 
-use packet::{Shape, Written};
+use packet::{Refusal, Shape, Side};
 
-// The refusal of these arguments, 0 where there is none.
-fn refusal(
-    most: usize,
+// How long the data of these arguments is, where a packet of this side and shape with them may be written into so much room.
+fn checked_size(
+    side: Side,
     room: usize,
     shape: Shape,
-    count: usize,
-    a: &[u8],
-    b: &[u8],
-    c: &[u8],
-    d: &[u8],
-    e: &[u8],
-) -> u8
-    requires { most < 65536 }
-    ensures { result ≡ write_refusal most room shape (given count a.now b.now c.now d.now e.now) }
+    arguments: &[&[u8]],
+) -> Result<usize, Refusal>
+    ensures { result ≡ granted (write_refusal (direction_of side).most room shape (map (λ a. a.now) arguments.now)) (length (join (map (λ a. a.now) arguments.now))) }
 {
     if !packet_kinds::is_own(shape) {
-        return 9;
+        return Err(Refusal::ForeignType);
     }
-    if !packet_join::fit_all(shape, count, a, b, c, d, e) {
-        return 10;
+    if !packet_join::fit_all(shape, arguments) {
+        return Err(Refusal::Arguments);
     }
-    let size = packet_join::joined_length(count, a, b, c, d, e);
-    if most < size {
-        return 7;
+    let size = packet_join::joined_length(arguments);
+    if side.most() < size {
+        return Err(Refusal::Size);
     }
     if room < 12 + size {
-        return 1;
+        return Err(Refusal::LittleRoom);
     }
-    0
+    Ok(size)
 }
 
-// Lays a packet over the start of `out`, and returns its length.
-fn put_packet(
+// Writes a packet of one side and of this type with these arguments, and answers its length.
+pub fn write_side(
     out: &mut [u8],
-    magic: &[u8],
+    side: Side,
     kind: u32,
-    count: usize,
-    a: &[u8],
-    b: &[u8],
-    c: &[u8],
-    d: &[u8],
-    e: &[u8],
-) -> usize
-    requires { (length magic.now ≡ 4) × (count ≤ 5) × (length (join (given count a.now b.now c.now d.now e.now)) < 65536)
-        × (12 + length (join (given count a.now b.now c.now d.now e.now)) ≤ length out.old) }
-    ensures { (result ≡ length (packet magic.now kind (join (given count a.now b.now c.now d.now e.now))))
-        × (out.new ≡ put 0 (packet magic.now kind (join (given count a.now b.now c.now d.now e.now))) out.old) }
+    arguments: &[&[u8]],
+) -> Result<usize, Refusal>
+    ensures { record { answer = result; output = out.new } ≡ writing (direction_of side).magic (direction_of side).most ((direction_of side).shape kind) out.old kind (map (λ a. a.now) arguments.now) }
 {
-    let size = packet_join::joined_length(count, a, b, c, d, e);
-    let data = packet_join::put_header(out, 0, magic, kind, size as u32);
-    packet_join::put_joined(out, data, count, a, b, c, d, e)
+    let shape = packet_kinds::shape_of(kind, side);
+    let size = checked_size(side, out.len(), shape, arguments)?;
+    let data = packet_join::put_header(out, 0, side.magic(), kind, size as u32);
+    Ok(packet_join::put_joined(out, data, arguments))
 }
 
-// Writes a packet of this shape and magic.
-fn write(
-    out: &mut [u8],
-    magic: &[u8],
-    most: usize,
-    shape: Shape,
-    kind: u32,
-    count: usize,
-    a: &[u8],
-    b: &[u8],
-    c: &[u8],
-    d: &[u8],
-    e: &[u8],
-) -> Written
-    requires { (length magic.now ≡ 4) × (most < 65536) }
-    ensures { record { answer = result; output = out.new } ≡ writing magic.now most shape out.old kind (given count a.now b.now c.now d.now e.now) }
+// Writes a request of this type with these arguments.
+pub fn write_request(out: &mut [u8], kind: u32, arguments: &[&[u8]]) -> Result<usize, Refusal>
+    ensures { record { answer = result; output = out.new } ≡ writing requests.magic requests.most (requests.shape kind) out.old kind (map (λ a. a.now) arguments.now) }
 {
-    let number = refusal(most, out.len(), shape, count, a, b, c, d, e);
-    if number != 0 {
-        return Written::Refused(number);
-    }
-    let length = put_packet(out, magic, kind, count, a, b, c, d, e);
-    Written::Length(length)
+    write_side(out, Side::Request, kind, arguments)
 }
 
-// Writes a request of this type with the first `count` of five arguments.
-pub fn write_request(
-    out: &mut [u8],
-    kind: u32,
-    count: usize,
-    a: &[u8],
-    b: &[u8],
-    c: &[u8],
-    d: &[u8],
-    e: &[u8],
-) -> Written
-    ensures { record { answer = result; output = out.new } ≡ writing requests.magic requests.most (requests.shape kind) out.old kind (given count a.now b.now c.now d.now e.now) }
+// Writes a response of this type with these arguments.
+pub fn write_response(out: &mut [u8], kind: u32, arguments: &[&[u8]]) -> Result<usize, Refusal>
+    ensures { record { answer = result; output = out.new } ≡ writing responses.magic responses.most (responses.shape kind) out.old kind (map (λ a. a.now) arguments.now) }
 {
-    let shape = packet_kinds::request_shape(kind);
-    write(out, b"\0REQ", 1024, shape, kind, count, a, b, c, d, e)
-}
-
-// Writes a response of this type with the first `count` of five arguments.
-pub fn write_response(
-    out: &mut [u8],
-    kind: u32,
-    count: usize,
-    a: &[u8],
-    b: &[u8],
-    c: &[u8],
-    d: &[u8],
-    e: &[u8],
-) -> Written
-    ensures { record { answer = result; output = out.new } ≡ writing responses.magic responses.most (responses.shape kind) out.old kind (given count a.now b.now c.now d.now e.now) }
-{
-    let shape = packet_kinds::response_shape(kind);
-    write(out, b"\0RES", 1088, shape, kind, count, a, b, c, d, e)
+    write_side(out, Side::Response, kind, arguments)
 }

@@ -3,7 +3,7 @@
 use Prim.Native.Nat.{ℕ, suc, ◌^◌, ◌<◌, ◌≤◌}
 use mathlib.Core.Path.{◌≡◌, refl, ap, ap₂, sym, ◌∙◌}
 use mathlib.Core.Bool.{Bool, true, false, not, cond, ◌&&◌}
-use mathlib.Core.Option.{Option, none, some}
+use Rattle.std.specs.Prelude.{Option, Some, None}
 use mathlib.Core.List.{List, [], ◌∷◌, map}
 use native.Mathlib.Nat.{zero-add}
 use native.Mathlib.Omega.{arith}
@@ -13,7 +13,6 @@ use lib.Dec.{leb, eqb}
 use Rattle.octets.specs.Bytes.{Bytes, same}
 use Rattle.octets.proofs.Strings.{and_false, and_left, and_right}
 use Rattle.handle.specs.Handle.{handle, serial_of}
-use Rattle.handle.specs.declared.Serial.TheVariants.{Of, None}
 use Rattle.handle.proofs.Handles.{same_serial, other_serial, no_handle}
 use Rattle.sets.specs.Sets.{is_empty}
 use Rattle.lists.specs.Lists.{all, up, find, map_from}
@@ -73,7 +72,7 @@ wanted_values t q h =
 
 -- ---- jobs by handle: where the definitions compare texts, the numbers compare serials
 
-module _ (hub h : Bytes) (s : ℕ) (e : serial_of hub h ≡ Of s) where
+module _ (hub h : Bytes) (s : ℕ) (e : serial_of hub h ≡ Some s) where
   same_as_serial : (n : ℕ) → 1 ≤ n → n < 2 ^ 32 → same (handle hub n) h ≡ eqb n s
   same_as_serial n l k = go (eqb n s) refl
     where
@@ -111,9 +110,9 @@ module _ (p q : JobRow → Bool) (n : ℕ) (f : (r : JobRow) → r.serial ≤ n 
   find_same [] a = refl
   find_same (j ∷ js) a =
       let h = leb-true j.row.serial n (and_left (leb j.row.serial n) _ a) in
-      ap₂ (λ (b : Bool) (o : Option ℕ). cond b (some 0) (up o)) (f j.row h) (find_same js (and_right (leb j.row.serial n) _ a))
+      ap₂ (λ (b : Bool) (o : Option ℕ). cond b (Some 0) (up o)) (f j.row h) (find_same js (and_right (leb j.row.serial n) _ a))
 
-find_nothing : (rs : List JobRow) → find (λ r. false) rs ≡ none
+find_nothing : (rs : List JobRow) → find (λ r. false) rs ≡ None
 find_nothing [] = refl
 find_nothing (r ∷ rs) = ap up (find_nothing rs)
 
@@ -121,20 +120,20 @@ module _ (t : Table) (h : Bytes) (small : next_small t ≡ true) (below : serial
   fits : (r : JobRow) → r.serial ≤ t.last → r.serial < 2 ^ 32
   fits r l = let k = ltb-true t.last 4294967296 small in omega arith
 
-  pub serial_values : (s : ℕ) → serial_of t.hub h ≡ Of s → job_of t h ≡ serial_row s (rows_of t)
+  pub serial_values : (s : ℕ) → serial_of t.hub h ≡ Some s → job_of t h ≡ serial_row s (rows_of t)
   unfolding serial_row
   serial_values s e = find_same (has_handle t.hub h) (λ r. live r && eqb r.serial s) t.last (λ r l. has_serial t.hub h s e r (fits r l)) t.jobs below
 
-  pub held_values : (c s : ℕ) → serial_of t.hub h ≡ Of s → held_job_of t c h ≡ held_row c s (rows_of t)
+  pub held_values : (c s : ℕ) → serial_of t.hub h ≡ Some s → held_job_of t c h ≡ held_row c s (rows_of t)
   unfolding held_row
   held_values c s e =
       find_same (holds_handle t.hub c h) (λ r. held_by c r && eqb r.serial s) t.last (λ r l. holds_serial t.hub h s e c r (fits r l)) t.jobs below
 
   module _ (e : serial_of t.hub h ≡ None) where
-    pub serial_none : job_of t h ≡ none
+    pub serial_none : job_of t h ≡ None
     serial_none = find_same (has_handle t.hub h) (λ r. false) t.last (λ r l. no_serial_lem t.hub h e r (fits r l)) t.jobs below ∙ find_nothing (rows_of t)
 
-    pub held_none : (c : ℕ) → held_job_of t c h ≡ none
+    pub held_none : (c : ℕ) → held_job_of t c h ≡ None
     unfolding holds_handle
     held_none c =
         find_same (holds_handle t.hub c h) (λ r. false) t.last (λ r l. ap (λ (b : Bool). held_by c r && b) (no_serial_lem t.hub h e r (fits r l)) ∙ and_false (held_by c r)) t.jobs below

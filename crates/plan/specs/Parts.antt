@@ -1,7 +1,6 @@
 -- The parts of a plan: numbers put anew, the texts after a change, the packets of an order, and the table that numbers and texts make
 -- once it is settled. Assumes nothing.
-use Rattle.std.specs.Prelude.{ℕ, suc, cond, Bool, List, [], ◌∷◌, map, get_or, set}
-use Rattle.std.proofs.Math.Option.{none, some}
+use Rattle.std.specs.Prelude.{ℕ, suc, cond, Bool, List, [], ◌∷◌, map, get_or, set, Some, None}
 use Rattle.octets.specs.Bytes.{Bytes}
 use Rattle.sets.specs.Sets.{has, remove, members}
 use Rattle.server.specs.declared.Connection.{Connection}
@@ -93,6 +92,6 @@ ordered (OV.Assign uniq p) n c kind h t = assign uniq c p ∷ []
 ordered (OV.Copies to) n c kind h t = map (λ l. copy l kind) (members n to)
 ordered (OV.Told to heard serial) n c kind h t = map (λ l. cond (has heard l) (copy l kind) (failure t.hub serial l)) (members n to)
 ordered OV.Echo n c kind h t = copy c 17 ∷ []
-ordered (OV.Status p) n c kind h t = plain c 20 (status_of (some p) h t) ∷ []
-ordered OV.Unknown n c kind h t = plain c 20 (status_of none h t) ∷ []
+ordered (OV.Status p) n c kind h t = plain c 20 (status_of (Some p) h t) ∷ []
+ordered OV.Unknown n c kind h t = plain c 20 (status_of None h t) ∷ []
 ordered OV.Optioned n c kind h t = plain c 27 (exceptions_name ∷ []) ∷ []

@@ -1,6 +1,5 @@
 -- The plan of each event, on a connection that may bring it. Each follows the server's definition of the same name. Assumes nothing.
-use Rattle.std.specs.Prelude.{ℕ, suc, Bool, true, false, cond, get_or, ltb}
-use Rattle.std.proofs.Math.Option.{Option, none, some}
+use Rattle.std.specs.Prelude.{ℕ, suc, Bool, true, false, cond, get_or, ltb, Option, Some, None}
 use Rattle.octets.specs.Bytes.{same}
 use Rattle.sets.specs.Sets.{insert, remove}
 use Rattle.server.specs.declared.Connection.{Connection}
@@ -29,21 +28,21 @@ abbrev pub sleeping_row : Bool → ℕ → V'.Values → Connection
 sleeping_row b c v = with_asleep b (connection_in v c)
 
 unfoldable pub plan_can_do : Option ℕ → ℕ → V'.Values → Plan
-plan_can_do none c v = refusal 11
-plan_can_do (some q) c v = done (SV.Able q (insert (get_or v.able q 0) c)) (CV.Name q) OV.Nothing
+plan_can_do None c v = refusal 11
+plan_can_do (Some q) c v = done (SV.Able q (insert (get_or v.able q 0) c)) (CV.Name q) OV.Nothing
 
 unfoldable pub plan_cant_do : Option ℕ → ℕ → V'.Values → Plan
-plan_cant_do none c v = done SV.Nothing CV.Nothing OV.Nothing
-plan_cant_do (some q) c v = done (SV.Able q (remove (get_or v.able q 0) c)) CV.Nothing OV.Nothing
+plan_cant_do None c v = done SV.Nothing CV.Nothing OV.Nothing
+plan_cant_do (Some q) c v = done (SV.Able q (remove (get_or v.able q 0) c)) CV.Nothing OV.Nothing
 
 unfoldable pub plan_grab : Option ℕ → Bool → ℕ → V'.Values → Plan
-plan_grab none uniq c v = done (SV.Flags c (sleeping_row false c v)) CV.Nothing OV.NoJob
-plan_grab (some p) uniq c v = done (SV.Grab p (with_holder (suc c) (row_in v p)) c (sleeping_row false c v)) CV.Nothing (OV.Assign uniq p)
+plan_grab None uniq c v = done (SV.Flags c (sleeping_row false c v)) CV.Nothing OV.NoJob
+plan_grab (Some p) uniq c v = done (SV.Grab p (with_holder (suc c) (row_in v p)) c (sleeping_row false c v)) CV.Nothing (OV.Assign uniq p)
 
 unfoldable pub plan_new : Option ℕ → Option ℕ → ℕ → ℕ → Bool → ℕ → V'.Values → Plan
-plan_new none place c priority background size v = refusal 11
-plan_new (some q) none c priority background size v = refusal 12
-plan_new (some q) (some p) c priority background size v =
+plan_new None place c priority background size v = refusal 11
+plan_new (Some q) None c priority background size v = refusal 12
+plan_new (Some q) (Some p) c priority background size v =
     cond (ltb v.last 4294967295)
     (done (SV.New p (new_row c priority background q size (suc v.last))) (CV.Job p q) (OV.Created (suc v.last)))
     (refusal 13)
@@ -52,19 +51,19 @@ unfoldable pub plan_join : ℕ → ℕ → Bool → V'.Values → Plan
 plan_join p c background v = done (SV.Row p (submitted_by c background (row_in v p))) CV.Nothing (OV.Created (row_in v p).serial)
 
 unfoldable pub plan_submit : Option ℕ → Option ℕ → Option ℕ → ℕ → ℕ → Bool → ℕ → V'.Values → Plan
-plan_submit (some p) room free c priority background size v = plan_join p c background v
-plan_submit none room free c priority background size v = plan_new room free c priority background size v
+plan_submit (Some p) room free c priority background size v = plan_join p c background v
+plan_submit None room free c priority background size v = plan_new room free c priority background size v
 
 unfoldable pub plan_work : Option ℕ → Work → V'.Values → Plan
-plan_work none how v = refusal 14
-plan_work (some p) tells v = done SV.Nothing CV.Nothing (OV.Copies (row_in v p).listeners)
-plan_work (some p) reports v = done SV.Nothing (CV.Texts p) (OV.Copies (row_in v p).listeners)
-plan_work (some p) ends v = done (SV.End p) CV.Nothing (OV.Copies (row_in v p).listeners)
-plan_work (some p) throws v = done (SV.End p) CV.Nothing (OV.Told (row_in v p).listeners (heard v.connections (row_in v p).listeners) (row_in v p).serial)
+plan_work None how v = refusal 14
+plan_work (Some p) tells v = done SV.Nothing CV.Nothing (OV.Copies (row_in v p).listeners)
+plan_work (Some p) reports v = done SV.Nothing (CV.Texts p) (OV.Copies (row_in v p).listeners)
+plan_work (Some p) ends v = done (SV.End p) CV.Nothing (OV.Copies (row_in v p).listeners)
+plan_work (Some p) throws v = done (SV.End p) CV.Nothing (OV.Told (row_in v p).listeners (heard v.connections (row_in v p).listeners) (row_in v p).serial)
 
 abbrev pub plan_status : Option ℕ → Plan
-plan_status none = done SV.Nothing CV.Nothing OV.Unknown
-plan_status (some p) = done SV.Nothing CV.Nothing (OV.Status p)
+plan_status None = done SV.Nothing CV.Nothing OV.Unknown
+plan_status (Some p) = done SV.Nothing CV.Nothing (OV.Status p)
 
 abbrev pub plan_option : Bool → ℕ → V'.Values → Plan
 plan_option false c v = refusal 15

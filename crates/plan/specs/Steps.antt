@@ -1,14 +1,12 @@
 -- A step on the numbers, and on the table: what it changes before the table is settled; and what the end of the event does beyond it.
 -- Assumes nothing.
-use Rattle.std.specs.Prelude.{ℕ, ◌≤◌, ◌<◌, ◌≡◌, Bool, true, false, not, cond, ◌&&◌, ◌||◌, List, map, length, get_or, set, eqb}
+use Rattle.std.specs.Prelude.{ℕ, ◌≤◌, ◌<◌, ◌≡◌, Bool, true, false, not, cond, ◌&&◌, ◌||◌, List, map, length, get_or, set, eqb, Option, Some, None}
 use Rattle.sets.specs.Sets.{has, insert, remove, is_empty, members}
 use Rattle.server.specs.declared.JobRow.{JobRow}
 use Rattle.lists.specs.Lists.{any, map_from}
 use Rattle.server.specs.Sizes.{connection_count, function_count, job_count}
 use Rattle.server.specs.Table.{Function, Table, no_row, no_job, no_function, job_at, function_at, set_connection, set_function, set_job, with_row, queued, names, grabbable, with_last_serial, with_connections, with_functions, with_able}
 use Rattle.server.specs.Events.{awake, to_wake_in}
-use Rattle.lists.specs.declared.Place.{Place}
-use Rattle.lists.specs.declared.Place.TheVariants.{At, Nowhere}
 use Rattle.plan.specs.declared.Values as V'
 use Rattle.plan.specs.Values.{values_of, with_last, with_ables}
 use Rattle.plan.specs.Settling.{dropped_rows}
@@ -75,38 +73,38 @@ abbrev pub waits : ℕ → JobRow → Bool
 waits q r = queued r && eqb r.function q
 
 -- the function at place q, if nobody is able to do it and no job names it
-abbrev pub unwanted : ℕ → ℕ → List JobRow → Place
-unwanted q s rs = cond (not (is_empty s) || any (names q) rs) Nowhere (At q)
+abbrev pub unwanted : ℕ → ℕ → List JobRow → Option ℕ
+unwanted q s rs = cond (not (is_empty s) || any (names q) rs) None (Some q)
 
 -- how an event that obeys the rules ends beyond a lean step, from the numbers before it. An ended job may leave its function unwanted.
 -- A new job wakes the sleepers able to do it; who goes to sleep beside a job that it can do wakes at once; new abilities wake a sleeper
 -- if their function has a queued job
 unfoldable pub ending : S'.Step → V'.Values → Ending
-ending SV.Nothing v = record { woken = 0; forgotten = Nowhere }
-ending (SV.Row p r) v = record { woken = 0; forgotten = Nowhere }
+ending SV.Nothing v = record { woken = 0; forgotten = None }
+ending (SV.Row p r) v = record { woken = 0; forgotten = None }
 ending (SV.End p) v =
     record { woken = 0; forgotten = unwanted (row_in v p).function (get_or v.able (row_in v p).function 0) (set v.rows p no_row) }
-ending (SV.Grab p r c x) v = record { woken = 0; forgotten = Nowhere }
-ending (SV.New p r) v = record { woken = to_wake_set (get_or v.able r.function 0) v.connections; forgotten = Nowhere }
-ending (SV.Flags c x) v = record { woken = cond (x.asleep && any (grabbable v.able c) v.rows) (insert 0 c) 0; forgotten = Nowhere }
+ending (SV.Grab p r c x) v = record { woken = 0; forgotten = None }
+ending (SV.New p r) v = record { woken = to_wake_set (get_or v.able r.function 0) v.connections; forgotten = None }
+ending (SV.Flags c x) v = record { woken = cond (x.asleep && any (grabbable v.able c) v.rows) (insert 0 c) 0; forgotten = None }
 ending (SV.Able q s) v =
     record { woken = cond (any (waits q) v.rows) (to_wake_set s v.connections) 0; forgotten = unwanted q s v.rows }
-ending (SV.Reset c) v = record { woken = 0; forgotten = Nowhere }
-ending (SV.Leave c) v = record { woken = 0; forgotten = Nowhere }
+ending (SV.Reset c) v = record { woken = 0; forgotten = None }
+ending (SV.Leave c) v = record { woken = 0; forgotten = None }
 
 -- the functions without the forgotten one
-abbrev pub without : Place → List Function → List Function
-without Nowhere fs = fs
-without (At q) fs = set fs q no_function
+abbrev pub without : Option ℕ → List Function → List Function
+without None fs = fs
+without (Some q) fs = set fs q no_function
 
 -- what an ending leaves of a table
 unfoldable pub ended : Ending → Table → Table
 ended e t = with_connections (map_from (λ c x. cond (has e.woken c) (awake x) x) 0 t.connections) (with_functions (without e.forgotten t.functions) t)
 
 -- a place among n, if it is one
-abbrev pub Within : ℕ → Place → Type 0
-Within n Nowhere = 0 ≤ 0
-Within n (At q) = q < n
+abbrev pub Within : ℕ → Option ℕ → Type 0
+Within n None = 0 ≤ 0
+Within n (Some q) = q < n
 
 -- The step and the ending are all that the event leaves. t is the table before it, and s has the texts after its change.
 pub record Lean (step : S'.Step) (t s : Table) : Type 0 where

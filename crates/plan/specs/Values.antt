@@ -1,6 +1,5 @@
 -- The numbers of a table by value, and jobs found by their serials. Assumes nothing.
-use Rattle.std.specs.Prelude.{ℕ, suc, ◌&&◌, List, eqb}
-use Rattle.std.proofs.Math.Option.{Option}
+use Rattle.std.specs.Prelude.{ℕ, suc, ◌&&◌, List, eqb, Option}
 use Rattle.lists.specs.Lists.{find}
 use Rattle.server.specs.declared.Connection.{Connection}
 use Rattle.server.specs.declared.JobRow.{JobRow}

@@ -3,7 +3,6 @@
 // and their meaning in specs/; there is no code.
 #![tactic(auto)]
 
-use lists::Place;
 use server::{CONNECTIONS, Connection, FUNCTIONS, JOBS, JobRow};
 
 // The numbers of a table, by value: the last serial given out, the connections, the connections able to do each function, and the
@@ -16,7 +15,8 @@ pub struct Values {
     pub rows: [JobRow; JOBS],
 }
 
-// The texts that an event changes.
+// The texts that an event changes. Here and below Nothing is one of the cases: `changed`, `ordered` and `stepped` of specs/ say what each
+// comes to.
 #[derive(Clone, Copy)]
 pub enum Change {
     Nothing,
@@ -94,5 +94,5 @@ pub struct Plan {
 #[derive(Clone, Copy)]
 pub struct Ending {
     pub woken: u32,
-    pub forgotten: Place,
+    pub forgotten: Option<usize>,
 }

@@ -2,20 +2,18 @@
 // function that is forgotten. An inner crate: its callers lend a table's bytes and a step inside it, and it refuses nothing.
 #![tactic(auto)]
 
-ghost use Rattle.std.specs.Prelude.{◌≡◌, cond, ◌&&◌, ◌≤◌, ◌<◌, length, get_or, set};
+ghost use Rattle.std.specs.Prelude.{◌≡◌, cond, ◌&&◌, ◌≤◌, ◌<◌, length, get_or, set, None};
 ghost use Rattle.sets.specs.Sets.{insert};
 ghost use Rattle.lists.specs.Lists.{any};
 ghost use Rattle.server.specs.Sizes.{connection_count, job_count};
 ghost use Rattle.server.specs.Table.{names, no_row, grabbable};
 ghost use Rattle.server.specs.Layout.{table_of, table_size};
-ghost use Rattle.lists.specs.declared.Place.TheVariants as PV;
 ghost use Rattle.plan.specs.Values.{values_of};
 ghost use Rattle.plan.specs.Parts.{row_in};
 ghost use Rattle.plan.specs.Busy.{to_wake_set};
 ghost use Rattle.plan.specs.Steps.{Inside, is_lean, unwanted};
 ghost use Rattle.plan.specs.Steps as S;
 
-use lists::Place;
 use plan::{Ending, Step};
 use server::{CONNECTIONS, JOBS, JobRow};
 
@@ -25,13 +23,11 @@ fn sleepers(table: &[u8], able: u32) -> u32
     ensures { result ≡ to_wake_set able (values_of (table_of connection_count table.now)).connections }
 {
     let mut s = 0;
-    let mut c = 0;
-    while c < CONNECTIONS {
+    for c in 0..CONNECTIONS {
         s = sets::union(
             s,
             plan_settle::waking(table_rows::connection_at(table, c), able, c),
         );
-        c += 1;
     }
     s
 }
@@ -49,10 +45,8 @@ fn some_wait(table: &[u8], q: usize) -> bool
     ensures { result ≡ any (S.waits q) (values_of (table_of connection_count table.now)).rows }
 {
     let mut found = false;
-    let mut i = 0;
-    while i < JOBS {
+    for i in 0..JOBS {
         found = found | waits(table_rows::row_at(table, i), q);
-        i += 1;
     }
     found
 }
@@ -75,10 +69,8 @@ fn some_name(table: &[u8], q: usize, over: usize) -> bool
     ensures { result ≡ any (names q) (set (values_of (table_of connection_count table.now)).rows over no_row) }
 {
     let mut found = false;
-    let mut i = 0;
-    while i < JOBS {
+    for i in 0..JOBS {
         found = found | names_still(table, q, over, i);
-        i += 1;
     }
     found
 }
@@ -99,35 +91,33 @@ fn some_grab(table: &[u8], c: usize) -> bool
     ensures { result ≡ any (grabbable (values_of (table_of connection_count table.now)).able c) (values_of (table_of connection_count table.now)).rows }
 {
     let mut found = false;
-    let mut i = 0;
-    while i < JOBS {
+    for i in 0..JOBS {
         found = found | grabs(table, c, i);
-        i += 1;
     }
     found
 }
 
 // The function, if nobody is able to do it and no job but the one at place `over` names it.
-fn forgotten(table: &[u8], q: usize, able: u32, over: usize) -> Place
+fn forgotten(table: &[u8], q: usize, able: u32, over: usize) -> Option<usize>
     requires { table_size connection_count ≤ length table.now }
     ensures { result ≡ unwanted q able (set (values_of (table_of connection_count table.now)).rows over no_row) }
 {
     if able != 0 {
-        return Place::Nowhere;
+        return None;
     }
     if some_name(table, q, over) {
-        return Place::Nowhere;
+        return None;
     }
-    Place::At(q)
+    Some(q)
 }
 
 // The ending that forgets nothing.
 fn woken(s: u32) -> Ending
-    ensures { result ≡ record { woken = s; forgotten = PV.Nowhere } }
+    ensures { result ≡ record { woken = s; forgotten = None } }
 {
     Ending {
         woken: s,
-        forgotten: Place::Nowhere,
+        forgotten: None,
     }
 }
 
@@ -164,20 +154,9 @@ pub fn is_lean(step: Step) -> bool
     ensures { result ≡ is_lean step }
 {
     match step {
-        Step::Nothing => true,
-        Step::Row { place, row } => true,
-        Step::End { place } => true,
-        Step::Grab {
-            place,
-            row,
-            connection,
-            flags,
-        } => true,
-        Step::New { place, row } => true,
-        Step::Flags { connection, flags } => true,
-        Step::Able { function, set } => true,
-        Step::Reset { connection } => false,
-        Step::Leave { connection } => false,
+        Step::Reset { .. } => false,
+        Step::Leave { .. } => false,
+        _ => true,
     }
 }
 
@@ -187,8 +166,6 @@ pub fn of_step(table: &[u8], step: Step) -> Ending
     ensures { result ≡ S.ending step (values_of (table_of connection_count table.now)) }
 {
     match step {
-        Step::Nothing => woken(0),
-        Step::Row { place, row } => woken(0),
         Step::End { place } => {
             let r = table_rows::row_at(table, place);
             let q = r.function as usize;
@@ -197,13 +174,7 @@ pub fn of_step(table: &[u8], step: Step) -> Ending
                 forgotten: forgotten(table, q, table_rows::able_at(table, q), place),
             }
         }
-        Step::Grab {
-            place,
-            row,
-            connection,
-            flags,
-        } => woken(0),
-        Step::New { place, row } => woken(sleepers(
+        Step::New { row, .. } => woken(sleepers(
             table,
             table_rows::able_at(table, row.function as usize),
         )),
@@ -212,7 +183,6 @@ pub fn of_step(table: &[u8], step: Step) -> Ending
             woken: enabled(table, function, set),
             forgotten: forgotten(table, function, set, JOBS),
         },
-        Step::Reset { connection } => woken(0),
-        Step::Leave { connection } => woken(0),
+        _ => woken(0),
     }
 }

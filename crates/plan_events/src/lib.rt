@@ -8,7 +8,6 @@ ghost use Rattle.server.specs.Sizes.{connection_count};
 ghost use Rattle.server.specs.Layout.{table_of, table_size};
 ghost use Rattle.plan.specs.declared.Change.TheVariants as CV;
 ghost use Rattle.plan.specs.declared.Order.TheVariants as OV;
-ghost use Rattle.lists.specs.Places.{unplaced};
 ghost use Rattle.plan.specs.Values.{values_of};
 ghost use Rattle.plan.specs.Parts as P;
 ghost use Rattle.plan.specs.declared.Step.TheVariants as SV;
@@ -16,7 +15,6 @@ ghost use Rattle.plan.specs.Plans.{plan_closing, plan_identify, plan_opening, pl
 ghost use Rattle.plan.specs.Plans as B;
 ghost use Rattle.plan_events.specs.Works.{work_of};
 
-use lists::Place;
 use plan::{Change, Order, Plan, Step};
 use server::{CONNECTIONS, Connection};
 
@@ -91,13 +89,13 @@ pub fn close(c: usize) -> Plan
 
 // What a worker says of the job at a place: 14 where the connection holds no such job. WORK_STATUS stores its two texts; WORK_COMPLETE,
 // WORK_FAIL and WORK_EXCEPTION end the job; only listeners with the option hear the last, and the others are told of a failure.
-pub fn worked(table: &[u8], held: Place, how: Work) -> Plan
+pub fn worked(table: &[u8], held: Option<usize>, how: Work) -> Plan
     requires { table_size connection_count ≤ length table.now }
-    ensures { result ≡ plan_work (unplaced held) (work_of how) (values_of (table_of connection_count table.now)) }
+    ensures { result ≡ plan_work held (work_of how) (values_of (table_of connection_count table.now)) }
 {
     match held {
-        Place::Nowhere => plan_jobs::refused(14),
-        Place::At(p) => {
+        None => plan_jobs::refused(14),
+        Some(p) => {
             let row = table_rows::row_at(table, p);
             let to = row.listeners;
             match how {
@@ -134,11 +132,9 @@ fn heard(table: &[u8], listeners: u32) -> u32
     ensures { result ≡ P.heard (values_of (table_of connection_count table.now)).connections listeners }
 {
     let mut s = listeners;
-    let mut i = 0;
-    while i < CONNECTIONS {
+    for i in 0..CONNECTIONS {
         let x = table_rows::connection_at(table, i);
         s = kept(s, i, x.exceptions);
-        i += 1;
     }
     s
 }
@@ -155,12 +151,12 @@ fn kept(s: u32, c: usize, stays: bool) -> u32
 }
 
 // GET_STATUS, from the place of the job.
-pub fn status(found: Place) -> Plan
-    ensures { result ≡ plan_status (unplaced found) }
+pub fn status(found: Option<usize>) -> Plan
+    ensures { result ≡ plan_status found }
 {
     match found {
-        Place::Nowhere => plan_jobs::done(Step::Nothing, Change::Nothing, Order::Unknown),
-        Place::At(p) => plan_jobs::done(Step::Nothing, Change::Nothing, Order::Status { place: p }),
+        None => plan_jobs::done(Step::Nothing, Change::Nothing, Order::Unknown),
+        Some(p) => plan_jobs::done(Step::Nothing, Change::Nothing, Order::Status { place: p }),
     }
 }
 

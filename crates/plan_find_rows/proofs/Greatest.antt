@@ -3,7 +3,7 @@
 use Prim.Native.Nat.{ℕ, ◌+◌, ◌<◌, ◌≤◌, max}
 use mathlib.Core.Path.{◌≡◌, refl, ap, ◌∙◌}
 use mathlib.Core.Bool.{Bool, true, false, not, cond, ◌&&◌, ◌||◌}
-use mathlib.Core.Option.{Option, some}
+use Rattle.std.specs.Prelude.{Option, Some}
 use mathlib.Core.List.{List, [], ◌∷◌, ◌++◌, map}
 use native.Mathlib.Numerals.{add-one}
 use native.Mathlib.Omega.{arith}
@@ -26,7 +26,7 @@ found_before p [] x h = rw (h refl)
 found_before p (y ∷ l) x h = go (p y) refl (found_before p l x)
   where
     go : (b : Bool) → p y ≡ b → ((any p l ≡ false → p x ≡ false) → find p (l ++ (x ∷ [])) ≡ find p l)
-        → cond b (some 0) (up (find p (l ++ (x ∷ [])))) ≡ cond b (some 0) (up (find p l))
+        → cond b (Some 0) (up (find p (l ++ (x ∷ [])))) ≡ cond b (Some 0) (up (find p l))
     go true e r = refl
     go false e r = ap up (r (λ n. h (rw (e, n))))
 
@@ -56,12 +56,12 @@ module _ {A : Type 0} (f : A → ℕ) where
   top_more (y ∷ l) x = let r = top_more l x in omega arith
 
   -- a rank above every other is first found there
-  above : (m : ℕ) (l : List A) (x : A) → top l < m → f x ≡ m → find (ranks m) (l ++ (x ∷ [])) ≡ some (length l)
+  above : (m : ℕ) (l : List A) (x : A) → top l < m → f x ≡ m → find (ranks m) (l ++ (x ∷ [])) ≡ Some (length l)
   above m [] x h e = let z : eqb m 0 ≡ false = ne_eqb m 0 (λ q. omega arith) in rw (z, eq-eqb (f x) m e)
   above m (y ∷ l) x h e =
       let z : eqb m 0 ≡ false = ne_eqb m 0 (λ q. omega arith) in
       let n : eqb (f y) m ≡ false = ne_eqb (f y) m (λ q. omega arith) in
-      let r : find (ranks m) (l ++ (x ∷ [])) ≡ some (length l) = above m l x (omega arith) e in
+      let r : find (ranks m) (l ++ (x ∷ [])) ≡ Some (length l) = above m l x (omega arith) e in
       rw (n, r) (rw z)
 
   -- any other is not
@@ -72,10 +72,10 @@ module _ {A : Type 0} (f : A → ℕ) where
       go true z n = refl
       go false z n = absurd (eqb-false m 0 z (reached m l n e))
 
-  best_more : (l : List A) (x : A) → best (l ++ (x ∷ [])) ≡ cond (ltb (top l) (f x)) (some (length l)) (best l)
+  best_more : (l : List A) (x : A) → best (l ++ (x ∷ [])) ≡ cond (ltb (top l) (f x)) (Some (length l)) (best l)
   best_more l x = go (ltb (top l) (f x)) refl
     where
-      go : (b : Bool) → ltb (top l) (f x) ≡ b → best (l ++ (x ∷ [])) ≡ cond b (some (length l)) (best l)
+      go : (b : Bool) → ltb (top l) (f x) ≡ b → best (l ++ (x ∷ [])) ≡ cond b (Some (length l)) (best l)
       go true h =
           let g = ltb-true (top l) (f x) h in
           let e : top (l ++ (x ∷ [])) ≡ f x = top_more l x ∙ omega arith in
@@ -104,15 +104,15 @@ module _ {A : Type 0} (f : A → ℕ) where
       pub top_rises : f (get_or l i d) ≡ top (take (i + 1) l)
       top_rises = rw more (omega (arith, top_more (take i l) (get_or l i d)))
 
-      pub best_moves : best (take (i + 1) l) ≡ some i
+      pub best_moves : best (take (i + 1) l) ≡ Some i
       best_moves =
           rw (more, best_more (take i l) (get_or l i d), lt-ltb (top (take i l)) (f (get_or l i d)) (omega arith))
-          (ap some (length-take-le i l (omega arith)))
+          (ap Some (length-take-le i l (omega arith)))
 
   -- where there is a best entry, its rank is the greatest, and not 0
-  pub best_says : (d : A) (l : List A) (p : ℕ) → best l ≡ some p → (p < length l) × (f (get_or l p d) ≡ top l) × (top l ≡ 0 → ⊥)
+  pub best_says : (d : A) (l : List A) (p : ℕ) → best l ≡ Some p → (p < length l) × (f (get_or l p d) ≡ top l) × (top l ≡ 0 → ⊥)
   best_says d l p e =
-      let hit = found (ranks (top l)) d l (some p) e in
+      let hit = found (ranks (top l)) d l (Some p) e in
       let z : not (eqb (top l) 0) ≡ true = and_left (not (eqb (top l) 0)) _ hit.passes in (
         hit.inside,
         eqb-true _ _ (and_right (not (eqb (top l) 0)) _ hit.passes),

@@ -1,9 +1,9 @@
 -- Rows by their columns: a search in the column of serials is the search among the rows, and since serials are distinct the job that a
 -- connection holds is the one with its serial or none. Assumes nothing.
 use Prim.Native.Nat.{ℕ, suc, ◌+◌, ◌*◌, ◌<◌}
-use mathlib.Core.Path.{◌≡◌, refl, sym, ap, ◌∙◌}
+use mathlib.Core.Path.{◌≡◌, refl, sym, ◌∙◌}
 use mathlib.Core.Bool.{Bool, true, false, not, cond, ◌&&◌}
-use mathlib.Core.Option.{none, some}
+use Rattle.std.specs.Prelude.{Option, Some, None}
 use mathlib.Core.List.{List, map}
 use native.Mathlib.Numerals.{add-one}
 use native.Mathlib.Omega.{arith}
@@ -12,7 +12,6 @@ use lib.ListN.{length, get_or, length-map, get_or-map}
 use lib.Dec.{eqb}
 use Rattle.octets.specs.Bytes.{Bytes}
 use Rattle.octets.proofs.Strings.{and_false, and_left, and_right}
-use Rattle.sets.specs.Sets.{has}
 use Rattle.server.specs.declared.JobRow.{JobRow}
 use Rattle.lists.specs.Lists.{find, numbers}
 use Rattle.server.specs.Sizes.{connection_count, job_count}
@@ -24,13 +23,10 @@ use Rattle.table_laws.proofs.Columns.{length_places}
 use Rattle.lists.proofs.Searches.{found}
 use Rattle.lists.proofs.Rows.{clash, all_at, pairwise_at}
 use Rattle.server_laws.proofs.Obeyed.{obeyed}
-use Rattle.lists.specs.declared.Place.{Place}
-use Rattle.lists.specs.declared.Place.TheVariants.{At, Nowhere}
-use Rattle.lists.specs.Places.{placed}
 use Rattle.plan.specs.Values.{serial_row, held_row, values_of}
 use Rattle.plan.specs.Parts as P
-use Rattle.table_rows.proofs.Reading.{rows_are, column_at}
-use Rattle.lists.proofs.Alike.{placed_at, placed_nowhere, find_numbers, find_by, find_nothing, find_narrow}
+use Rattle.table_rows.proofs.Reading.{rows_are}
+use Rattle.lists.proofs.Alike.{find_places, find_by, find_nothing, find_narrow}
 
 -- ---- by serial
 
@@ -54,31 +50,30 @@ neither true = refl
 neither false = refl
 
 -- no job has serial 0
-pub none_numbered : (rs : List JobRow) (s : ℕ) → s ≡ 0 → Nowhere ≡ placed (serial_row s rs)
+pub none_numbered : (rs : List JobRow) (s : ℕ) → s ≡ 0 → None ≡ serial_row s rs
 unfolding serial_row
 none_numbered rs s e =
-    let q : find (numbered s) rs ≡ none = rw e (find_nothing (numbered 0) no_row rs (λ i h. neither (eqb (get_or rs i no_row).serial 0))) in
-    ap placed (sym q)
+    let q : find (numbered s) rs ≡ None = rw e (find_nothing (numbered 0) no_row rs (λ i h. neither (eqb (get_or rs i no_row).serial 0))) in
+    sym q
 
 -- the column of serials, searched
-module _ (b : Bytes) (s : ℕ) (l : List ℕ) (p : Place) (e : l ≡ map (λ k. little_at 4 b (serials_at + 4 * k)) (numbers 0 job_count)) (g : p ≡ placed (find (λ k. eqb (get_or l k 0) s) (numbers 0 job_count))) where
-  in_column : p ≡ placed (find (λ r. eqb r.serial s) (rows_of (table_of connection_count b)))
+module _ (b : Bytes) (s : ℕ) (l : List ℕ) (p : Option ℕ) (e : l ≡ map (λ k. little_at 4 b (serials_at + 4 * k)) (numbers 0 job_count)) (g : p ≡ find (λ k. eqb k s) l) where
+  in_column : p ≡ find (λ r. eqb r.serial s) (rows_of (table_of connection_count b))
   in_column =
-      let q : find (λ k. eqb (get_or l k 0) s) (numbers 0 job_count) ≡ find (λ r. eqb r.serial s) (rows_of (table_of connection_count b))
-      = rw (rows_are b) (find_numbers (λ k. eqb (get_or l k 0) s) (λ (r : JobRow). eqb r.serial s) (row_in connection_count b) 32
-      (λ k h. ap (λ (x : ℕ). eqb x s) (column_at (λ k. little_at 4 b (serials_at + 4 * k)) 0 32 l k e h))) in
-      g ∙ ap placed q
+      let q : find (λ k. eqb k s) l ≡ find (λ r. eqb r.serial s) (rows_of (table_of connection_count b))
+      = rw (e, rows_are b) (find_places (λ k. eqb k s) (λ (r : JobRow). eqb r.serial s) (λ k. little_at 4 b (serials_at + 4 * k)) (row_in connection_count b) 32 (λ k h. refl)) in
+      g ∙ q
 
-  pub free_found : s ≡ 0 → p ≡ placed (free_row (rows_of (table_of connection_count b)))
+  pub free_found : s ≡ 0 → p ≡ free_row (rows_of (table_of connection_count b))
   unfolding free_row
   free_found z =
       let q : find (λ r. eqb r.serial s) (rows_of (table_of connection_count b)) ≡ find (λ r. not (live r)) (rows_of (table_of connection_count b))
       = rw z (find_by (λ r. eqb r.serial 0) (λ r. not (live r)) (λ r. not_not (eqb r.serial 0)) (rows_of (table_of connection_count b))) in
-      in_column ∙ ap placed q
+      in_column ∙ q
 
-  pub serial_found : (s ≡ 0 → ⊥) → p ≡ placed (serial_row s (rows_of (table_of connection_count b)))
+  pub serial_found : (s ≡ 0 → ⊥) → p ≡ serial_row s (rows_of (table_of connection_count b))
   unfolding serial_row
-  serial_found n = in_column ∙ ap placed (find_by (λ r. eqb r.serial s) (numbered s) (λ r. serial_some r.serial s n) (rows_of (table_of connection_count b)))
+  serial_found n = in_column ∙ find_by (λ r. eqb r.serial s) (numbered s) (λ r. serial_some r.serial s n) (rows_of (table_of connection_count b))
 
 -- ---- by serial and holder
 
@@ -88,10 +83,6 @@ reordered true true false = refl
 reordered true false true = refl
 reordered true false false = refl
 reordered false y z = refl
-
-placed_if : (b : Bool) (p : ℕ) → placed (cond b (some p) none) ≡ cond b (At p) Nowhere
-placed_if true p = refl
-placed_if false p = refl
 
 module _ (b : Bytes) where
   thirty_two : length (table_of connection_count b).jobs ≡ 32
@@ -128,7 +119,7 @@ module _ (b : Bytes) (sound : is_sound connection_count b ≡ true) where
       let q : k < i → ⊥ = λ l. serials_clash s k i l h g f in
       omega arith
 
-  module _ (c s : ℕ) (o : Place) (e : o ≡ placed (serial_row s (rows_of (table_of connection_count b)))) where
+  module _ (c s : ℕ) (o : Option ℕ) (e : o ≡ serial_row s (rows_of (table_of connection_count b))) where
     abbrev rs : List JobRow
     rs = rows_of (table_of connection_count b)
 
@@ -136,21 +127,21 @@ module _ (b : Bytes) (sound : is_sound connection_count b ≡ true) where
     unfolding held_row
     held = find_by _ _ (λ r. reordered (live r) (eqb r.holder (suc c)) (eqb r.serial s)) rs
 
-    pub held_nowhere : o ≡ Nowhere → Nowhere ≡ placed (held_row c s rs)
+    pub held_nowhere : o ≡ None → None ≡ held_row c s rs
     unfolding serial_row
     held_nowhere g =
-        let q : serial_row s rs ≡ none = placed_nowhere _ (sym e ∙ g) in
-        let n : find (λ r. numbered s r && eqb r.holder (suc c)) rs ≡ none
+        let q : serial_row s rs ≡ None = sym e ∙ g in
+        let n : find (λ r. numbered s r && eqb r.holder (suc c)) rs ≡ None
         = find_nothing (λ r. numbered s r && eqb r.holder (suc c)) no_row rs
-        (λ i h. rw (not-true (numbered s (get_or rs i no_row)) (all_at (λ r. not (numbered s r)) rs i no_row (found (numbered s) no_row rs none q) h))) in
-        ap placed (sym (held ∙ n))
+        (λ i h. rw (not-true (numbered s (get_or rs i no_row)) (all_at (λ r. not (numbered s r)) rs i no_row (found (numbered s) no_row rs None q) h))) in
+        sym (held ∙ n)
 
-    pub held_at : (p : ℕ) (row : JobRow) (r : Place) → o ≡ At p → row ≡ P.row_in (values_of (table_of connection_count b)) p → r ≡ cond (eqb row.holder (c + 1)) (At p) Nowhere
-        → r ≡ placed (held_row c s rs)
+    pub held_at : (p : ℕ) (row : JobRow) (r : Option ℕ) → o ≡ Some p → row ≡ P.row_in (values_of (table_of connection_count b)) p → r ≡ cond (eqb row.holder (c + 1)) (Some p) None
+        → r ≡ held_row c s rs
     unfolding serial_row values_of
     held_at p row r g k m =
-        let q : serial_row s rs ≡ some p = placed_at _ p (sym e ∙ g) in
-        let hit = found (numbered s) no_row rs (some p) q in
+        let q : serial_row s rs ≡ Some p = sym e ∙ g in
+        let hit = found (numbered s) no_row rs (Some p) q in
         let n : length rs ≡ 32 = rows_long b in
         let one = find_narrow (numbered s) (λ r. eqb r.holder (suc c)) no_row rs p q (λ i h t. one_row s p i (omega (arith, hit.inside)) (omega arith) hit.passes t) in
-        m ∙ rw (k, add-one) (sym (ap placed (held ∙ one) ∙ placed_if (eqb (get_or rs p no_row).holder (suc c)) p))
+        m ∙ rw (k, add-one) (sym (held ∙ one))

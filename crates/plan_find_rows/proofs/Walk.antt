@@ -1,6 +1,7 @@
 -- The walk for the best row: what a row, or several that are no better, leave of it; what the best so far says; where it ends; and where
 -- it need not begin. Assumes nothing.
 use Prim.Native.Nat.{ℕ, zero, suc, ◌+◌, ◌*◌, ◌<◌, ◌≤◌}
+use Rattle.std.specs.Prelude.{Some, None}
 use mathlib.Core.Path.{◌≡◌, refl, sym, ap, ◌∙◌}
 use mathlib.Core.Bool.{Bool, true, false, not, true≢false}
 use mathlib.Core.List.{List}
@@ -18,11 +19,8 @@ use Rattle.lists.specs.Lists.{all, numbers}
 use Rattle.server.specs.Sizes.{connection_count, function_count, job_count}
 use Rattle.server.specs.Table.{no_row, queued, ables_of, rows_of, rank, best_row}
 use Rattle.server.specs.Layout.{little_at, row_in, table_of, serials_at, able_at}
-use Rattle.lists.specs.declared.Place.TheVariants.{At, Nowhere}
-use Rattle.lists.specs.Places.{placed}
 use Rattle.plan.specs.Values.{values_of}
 use Rattle.table_rows.proofs.Reading.{row_place, able_inside, able_beyond}
-use Rattle.lists.proofs.Alike.{placed_at}
 use Rattle.table_passes.specs.Unions.{Joined}
 use Rattle.lists.proofs.Rows.{below_at}
 use Rattle.table_passes.proofs.Tests.{some_by}
@@ -53,14 +51,14 @@ module _ (b : Bytes) (c : ℕ) where
     unfolding best_row
     row_passed m =
         let k : rank_here (get_or rs i no_row) ≤ v.rank = rw (row_place b i h) m in
-        (top_kept rank_here rs i no_row here v.rank g.0 k, g.1 ∙ ap placed (sym (best_kept rank_here rs i no_row here v.rank g.0 k)))
+        (top_kept rank_here rs i no_row here v.rank g.0 k, g.1 ∙ sym (best_kept rank_here rs i no_row here v.rank g.0 k))
 
-    row_taken : (k : ℕ) → k ≡ rank_here (row_in connection_count b i) → v.rank < k → BestOf b c (i + 1) (record { place = At i; rank = k })
+    row_taken : (k : ℕ) → k ≡ rank_here (row_in connection_count b i) → v.rank < k → BestOf b c (i + 1) (record { place = Some i; rank = k })
     unfolding best_row
     row_taken k e m =
         let q : k ≡ rank_here (get_or rs i no_row) = rw (row_place b i h) e in
         let l : v.rank < rank_here (get_or rs i no_row) = omega arith in
-        (q ∙ top_rises rank_here rs i no_row here v.rank g.0 l, ap placed (sym (best_moves rank_here rs i no_row here v.rank g.0 l)))
+        (q ∙ top_rises rank_here rs i no_row here v.rank g.0 l, sym (best_moves rank_here rs i no_row here v.rank g.0 l))
 
     -- what the code asks of a row, in its order
     pub row_idle : (q : Bool) → q ≡ queued (row_in connection_count b i) → not q ≡ true → BestOf b c (i + 1) v
@@ -74,7 +72,7 @@ module _ (b : Bytes) (c : ℕ) where
       row_unable n = row_passed (rw (rank_unable ables c (row_in connection_count b i) (sym ea ∙ n)) (omega arith))
 
       pub row_best : (q : Bool) (k : ℕ) → q ≡ queued (row_in connection_count b i) → not q ≡ false → k ≡ rank_of (row_in connection_count b i) → v.rank < k → a ≡ true
-          → BestOf b c (i + 1) (record { place = At i; rank = k })
+          → BestOf b c (i + 1) (record { place = Some i; rank = k })
       row_best q k eq n ek m t = row_taken k (ek ∙ sym (rank_able ables c (row_in connection_count b i) (sym eq ∙ not-false q n) (sym ea ∙ t))) m
 
   -- n rows that are no better
@@ -91,18 +89,18 @@ module _ (b : Bytes) (c : ℕ) where
     free_passed z = rows_passed 8 p v h g (λ k l. rw (rank_idle ables c (row_in connection_count b (p + k)) (rw (free_rows b p z k l))) (omega arith))
 
     -- the best so far
-    pub best_there : (i : ℕ) → v.place ≡ At i → (i < job_count) × (v.rank ≡ rank_of (row_in connection_count b i))
+    pub best_there : (i : ℕ) → v.place ≡ Some i → (i < job_count) × (v.rank ≡ rank_of (row_in connection_count b i))
     unfolding best_row
     best_there i e =
         let n : length (take p rs) ≡ p = length-take-le p rs (omega (arith, rows_long b)) in
-        let (inside, same, some_rank) = best_says rank_here no_row (take p rs) i (placed_at _ i (sym g.1 ∙ e)) in
+        let (inside, same, some_rank) = best_says rank_here no_row (take p rs) i (sym g.1 ∙ e) in
         let l : i < p = omega arith in
         let r : get_or (take p rs) i no_row ≡ row_in connection_count b i = get_or-take p rs i no_row l ∙ row_place b i (omega arith) in
         let q : rank_here (row_in connection_count b i) ≡ v.rank = ap rank_here (sym r) ∙ same ∙ sym g.0 in
         (omega arith, sym q ∙ rank_some ables c (row_in connection_count b i) (λ z. some_rank (omega arith)))
 
     -- none of them goes before it
-    pub behind_passed : (i : ℕ) → v.place ≡ At i → all (λ k. stays_behind (row_in connection_count b i).priority (row_in connection_count b i).serial (row_in connection_count b (p + k))) (numbers 0 8) ≡ true
+    pub behind_passed : (i : ℕ) → v.place ≡ Some i → all (λ k. stays_behind (row_in connection_count b i).priority (row_in connection_count b i).serial (row_in connection_count b (p + k))) (numbers 0 8) ≡ true
         → BestOf b c (p + 8) v
     behind_passed i e a =
         rows_passed 8 p v h g
@@ -116,12 +114,12 @@ module _ (b : Bytes) (c : ℕ) where
 
   -- ---- the walk's start and end
 
-  pub best_start : BestOf b c 0 (record { place = Nowhere; rank = 0 })
+  pub best_start : BestOf b c 0 (record { place = None; rank = 0 })
   unfolding best_row
   best_start = (refl, refl)
 
-  pub best_end : (v : Q'.Best) → BestOf b c 32 v → v.place ≡ placed (best_row ables rs c)
-  best_end v g = g.1 ∙ ap (λ (l : List JobRow). placed (best_row ables l c)) (take_all 32 rs (omega (arith, rows_long b)))
+  pub best_end : (v : Q'.Best) → BestOf b c 32 v → v.place ≡ best_row ables rs c
+  best_end v g = g.1 ∙ ap (λ (l : List JobRow). best_row ables l c) (take_all 32 rs (omega (arith, rows_long b)))
 
   -- ---- a connection that can do nothing: no function's set has it, so that every row is passed
 
@@ -140,8 +138,8 @@ module _ (b : Bytes) (c : ℕ) where
             ap (λ (x : ℕ). has x c) (sym (able_inside b q _ h refl)) ∙ lacks _ refl h
         go false e = ap (λ (x : ℕ). has x c) (sym (able_beyond b q 0 (ltb-false q 16 e) refl)) ∙ zero_has c
 
-    pub unable_nowhere : Nowhere ≡ placed (best_row ables rs c)
+    pub unable_nowhere : None ≡ best_row ables rs c
     unable_nowhere =
-        best_end (record { place = Nowhere; rank = 0 })
-        (rows_passed 32 0 (record { place = Nowhere; rank = 0 }) (omega arith) best_start
+        best_end (record { place = None; rank = 0 })
+        (rows_passed 32 0 (record { place = None; rank = 0 }) (omega arith) best_start
         (λ k l. rw (rank_unable ables c (row_in connection_count b (0 + k)) (unable (row_in connection_count b (0 + k)).function)) (omega arith)))

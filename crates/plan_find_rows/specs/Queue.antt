@@ -6,7 +6,6 @@ use Rattle.server.specs.declared.JobRow.{JobRow}
 use Rattle.server.specs.Sizes.{connection_count}
 use Rattle.server.specs.Table.{greatest, ables_of, rows_of, rank, best_row}
 use Rattle.server.specs.Layout.{table_of}
-use Rattle.lists.specs.Places.{placed}
 use Rattle.plan_find_rows.specs.declared.queue.Best as Q'
 
 -- the rank of a queued job for a connection that can do it. 01: "the highest priority, then the lowest serial"
@@ -21,4 +20,4 @@ stays_behind priority serial r = ltb r.priority priority || (eqb r.priority prio
 abbrev pub BestOf : Bytes → ℕ → ℕ → Q'.Best → Type 0
 BestOf b c i v =
     (v.rank ≡ greatest (map (rank (ables_of (table_of connection_count b)) c) (take i (rows_of (table_of connection_count b)))))
-    × (v.place ≡ placed (best_row (ables_of (table_of connection_count b)) (take i (rows_of (table_of connection_count b))) c))
+    × (v.place ≡ best_row (ables_of (table_of connection_count b)) (take i (rows_of (table_of connection_count b))) c)

@@ -5,96 +5,70 @@
 
 mod queue;
 
-ghost use Rattle.std.specs.Prelude.{◌≡◌, cond, true, ◌≤◌, ◌<◌, length, get_or, eqb};
-ghost use Rattle.std.proofs.Math.Option.{some};
-ghost use Rattle.lists.specs.Lists.{find, numbers};
+ghost use Rattle.std.specs.Prelude.{◌≡◌, cond, true, ◌≤◌, ◌<◌, length, get_or, eqb, Some};
+ghost use Rattle.lists.specs.Lists.{find};
 ghost use Rattle.server.specs.Sizes.{connection_count, job_count};
 ghost use Rattle.server.specs.Layout.{table_of, table_size};
 ghost use Rattle.server.specs.Call.{is_sound};
-ghost use Rattle.lists.specs.Places.{placed};
 ghost use Rattle.plan.specs.Values.{held_row, serial_row};
 ghost use Rattle.server.specs.Table.{ables_of, best_row, free_row, rows_of};
 
-use lists::Place;
 use queue::Best;
 use server::{ABLE_AT, FUNCTIONS, JOBS, SERIALS_AT};
 
 // The lowest place where the number stands.
-fn lowest(column: &[u32; JOBS], x: u32) -> Place
-    ensures { result ≡ placed (find (λ k. eqb (get_or column.now k 0) x) (numbers 0 job_count)) }
+fn lowest(column: &[u32; JOBS], x: u32) -> Option<usize>
+    ensures { result ≡ find (λ k. eqb k x) column.now }
 {
-    let mut i = 0;
-    while i < JOBS {
-        if column[i] == x {
-            return Place::At(i);
-        }
-        i += 1;
-    }
-    Place::Nowhere
+    column.iter().position(|k| *k == x)
 }
 
 // The lowest free place: a free row has serial 0.
-pub fn free_row(table: &[u8]) -> Place
+pub fn free_row(table: &[u8]) -> Option<usize>
     requires { table_size connection_count ≤ length table.now }
-    ensures { result ≡ placed (free_row (rows_of (table_of connection_count table.now))) }
+    ensures { result ≡ free_row (rows_of (table_of connection_count table.now)) }
 {
     let serials = table_columns::fours(table, SERIALS_AT);
     lowest(&serials, 0)
 }
 
 // The place of the unfinished job with this serial: no job has serial 0.
-pub fn serial_row(table: &[u8], serial: u32) -> Place
+pub fn serial_row(table: &[u8], serial: u32) -> Option<usize>
     requires { table_size connection_count ≤ length table.now }
-    ensures { result ≡ placed (serial_row serial (rows_of (table_of connection_count table.now))) }
+    ensures { result ≡ serial_row serial (rows_of (table_of connection_count table.now)) }
 {
     if serial == 0 {
-        return Place::Nowhere;
+        return None;
     }
     let serials = table_columns::fours(table, SERIALS_AT);
     lowest(&serials, serial)
 }
 
 // The place of the job with this serial, if connection c holds it. Serials are distinct, so no other row is asked.
-pub fn held_row(table: &[u8], c: usize, serial: u32) -> Place
+pub fn held_row(table: &[u8], c: usize, serial: u32) -> Option<usize>
     requires { (is_sound connection_count table.now ≡ true) × (table_size connection_count ≤ length table.now) × (c < connection_count) }
-    ensures { result ≡ placed (held_row c serial (rows_of (table_of connection_count table.now))) }
+    ensures { result ≡ held_row c serial (rows_of (table_of connection_count table.now)) }
 {
-    match serial_row(table, serial) {
-        Place::Nowhere => Place::Nowhere,
-        Place::At(p) => {
-            let row = table_rows::row_at(table, p);
-            either(row.holder as usize == c + 1, p, Place::Nowhere)
-        }
-    }
-}
-
-// The place, or else the one before it.
-fn either(new: bool, i: usize, before: Place) -> Place
-    ensures { result ≡ cond new (placed (some i)) before }
-{
-    if new {
-        return Place::At(i);
-    }
-    before
+    let p = serial_row(table, serial)?;
+    let row = table_rows::row_at(table, p);
+    (row.holder as usize == c + 1).then_some(p)
 }
 
 // The place of the job that connection c is given: of the highest priority, then of the lowest serial. A connection that can do nothing is
 // given none, and no row is looked at.
-pub fn best_row(table: &[u8], c: usize) -> Place
+pub fn best_row(table: &[u8], c: usize) -> Option<usize>
     requires { (table_size connection_count ≤ length table.now) × (c < connection_count) }
-    ensures { result ≡ placed (best_row (ables_of (table_of connection_count table.now)) (rows_of (table_of connection_count table.now)) c) }
+    ensures { result ≡ best_row (ables_of (table_of connection_count table.now)) (rows_of (table_of connection_count table.now)) c }
 {
     if !sets::has(table_columns::joined(table, ABLE_AT, FUNCTIONS), c) {
-        return Place::Nowhere;
+        return None;
     }
     let mut v = Best {
-        place: Place::Nowhere,
+        place: None,
         rank: 0,
     };
-    let mut p = 0;
-    while p < JOBS {
-        v = queue::next_group(v, table, p, c);
-        p += 8;
+    for group in 0..JOBS / 8 {
+        v = queue::next_group(v, table, 8 * group, c);
     }
     v.place
 }

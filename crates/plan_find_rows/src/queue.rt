@@ -9,13 +9,13 @@ ghost use Rattle.server.specs.Table.{queued, ables_of};
 ghost use Rattle.server.specs.Layout.{row_in, table_of, table_size};
 ghost use Rattle.plan_find_rows.specs.Queue.{BestOf, rank_of, stays_behind};
 
-use lists::Place;
 use server::{FUNCTIONS_AT, PRIORITIES_AT, SERIALS_AT};
 
-// The best job of the rows passed: its place, and its rank, which is 0 where there is none.
+// The best job of the rows passed: its place, and its rank, which is 0 where there is none. The rank stands beside the Option and not in it:
+// 0 lies below every queued job's, so that one comparison serves each row and nothing is tested twice.
 #[derive(Clone, Copy)]
 pub struct Best {
-    pub place: Place,
+    pub place: Option<usize>,
     pub rank: u64,
 }
 
@@ -61,7 +61,7 @@ fn next_row(v: Best, table: &[u8], p: usize, c: usize) -> Best
     }
     if is_able(table, p, c) {
         return Best {
-            place: Place::At(p),
+            place: Some(p),
             rank: k,
         };
     }
@@ -76,10 +76,8 @@ fn next_rows(start: Best, table: &[u8], p: usize, c: usize) -> Best
     ensures { BestOf table.now c (p + 8) result }
 {
     let mut v = start;
-    let mut i = p;
-    while i < p + 8 {
+    for i in p..p + 8 {
         v = next_row(v, table, i, c);
-        i += 1;
     }
     v
 }
@@ -91,12 +89,10 @@ fn none_before(table: &[u8], p: usize, priority: u8, serial: u32) -> bool
     ensures { result ≡ all (λ k. stays_behind priority serial (row_in connection_count table.now (p + k))) (numbers 0 8) }
 {
     let mut ok = true;
-    let mut k = 0;
-    while k < 8 {
+    for k in 0..8 {
         let x = table[PRIORITIES_AT + (p + k)];
         ok = ok
             & ((x < priority) | ((x == priority) & (serial <= table_fields::serial(table, p + k))));
-        k += 1;
     }
     ok
 }
@@ -110,7 +106,7 @@ pub fn next_group(v: Best, table: &[u8], p: usize, c: usize) -> Best
         return v;
     }
     let place = v.place;
-    if let Place::At(i) = place {
+    if let Some(i) = place {
         if none_before(
             table,
             p,

@@ -3,7 +3,7 @@
 use Prim.Native.Nat.{ℕ, ◌+◌, ◌*◌, ◌<◌, ◌≤◌}
 use mathlib.Core.Path.{◌≡◌, refl, sym, ap, ◌∙◌}
 use mathlib.Core.Bool.{Bool, true, false, not, ◌&&◌, ◌||◌}
-use mathlib.Core.Option.{Option, none, some}
+use Rattle.std.specs.Prelude.{Option, Some, None}
 use mathlib.Core.List.{[], ◌∷◌}
 use native.Mathlib.Omega.{arith}
 use borrow.Author.Tests.{eqb-true, eq-eqb, not-true}
@@ -17,10 +17,6 @@ use Rattle.server.specs.Table.{Table, no_function, no_job, function_at, job_at, 
 use Rattle.server.specs.Rules.{row_has_meaning, names_apart}
 use Rattle.server.specs.Layout.{table_of, row_in, job_in, uniques_at}
 use Rattle.server.specs.Call.{is_sound}
-use Rattle.lists.specs.declared.Place.{Place}
-use Rattle.lists.specs.declared.Place.TheVariants.{Nowhere}
-use Rattle.lists.specs.Places.{placed, unplaced}
-use Rattle.lists.proofs.Places.{searched}
 use Rattle.table_texts.specs.Places.{agree}
 use Rattle.lists.proofs.Searches.{found}
 use Rattle.lists.proofs.Rows.{and_swap, clash, iff, all_at, pairwise_at}
@@ -47,14 +43,14 @@ same_if true a x y h = ap (λ (z : Bool). a && z) (h refl)
 same_if false a x y h = refl
 
 -- the search in the bytes is the search among the jobs
-pub unique_found : (b : Bytes) (sound : is_sound connection_count b ≡ true) (q : ℕ) (u w : Bytes) (r : Place) → length u ≤ 64 → zero_free u ≡ true → w ≡ fit unique_size u
-    → r ≡ placed (find (lies_for b q w) (numbers 0 job_count)) → r ≡ placed (find (is_for q u) (table_of connection_count b).jobs)
+pub unique_found : (b : Bytes) (sound : is_sound connection_count b ≡ true) (q : ℕ) (u w : Bytes) (r : Option ℕ) → length u ≤ 64 → zero_free u ≡ true → w ≡ fit unique_size u
+    → r ≡ find (lies_for b q w) (numbers 0 job_count) → r ≡ find (is_for q u) (table_of connection_count b).jobs
 unfolding table_of lies_for is_for
 unique_found b sound q u w r h z e g =
     let k : find (lies_for b q w) (numbers 0 job_count) ≡ find (is_for q u) (table_of connection_count b).jobs = rw e (find_numbers (lies_for b q (fit unique_size u)) (is_for q u) (job_in connection_count b) 32
     (λ p i. same_if (live (job_in connection_count b p).row) (eqb (job_in connection_count b p).row.function q) _ _
     (λ v. place_agrees 64 _ (job_in connection_count b p).unique u (unique_place b sound p i) (unique_within b sound p i v) (within_by 64 u h z)))) in
-    g ∙ ap placed k
+    g ∙ k
 
 -- ---- tests in two orders
 
@@ -91,18 +87,18 @@ module _ (t : Table) (ok : Sound t) where
       let m : row_has_meaning t (job_at t i) ≡ true = rw v at (all_at (row_means t) t.jobs i no_job ok.rows l) in
       (in_range (length t.functions) (length t.connections) (job_at t i).row m).function
 
-  joined_unknown : (f u : Bytes) → known t.functions f ≡ none → joined t f u ≡ none
+  joined_unknown : (f u : Bytes) → known t.functions f ≡ None → joined t f u ≡ None
   unfolding joined
   joined_unknown f u e =
       find_nothing (joins t.functions f u) no_job t.jobs
       (λ i l. never_joins (live (job_at t i).row) (not (same u [])) (same (job_at t i).unique u) _
       (λ v. not-true _ (all_at (λ x. not (same x.name f)) t.functions (job_at t i).row.function no_function
-      (found (λ x. same x.name f) no_function t.functions none e) (function_place i l v))))
+      (found (λ x. same x.name f) no_function t.functions None e) (function_place i l v))))
 
-  joined_known : (f u : Bytes) (q : ℕ) → 1 ≤ length f → (length u ≡ 0 → ⊥) → known t.functions f ≡ some q → find (is_for q u) t.jobs ≡ joined t f u
+  joined_known : (f u : Bytes) (q : ℕ) → 1 ≤ length f → (length u ≡ 0 → ⊥) → known t.functions f ≡ Some q → find (is_for q u) t.jobs ≡ joined t f u
   unfolding joined is_for
   joined_known f u q h n e =
-      let hit = found (λ x. same x.name f) no_function t.functions (some q) e in
+      let hit = found (λ x. same x.name f) no_function t.functions (Some q) e in
       find_same (is_for q u) no_job (joins t.functions f u) t.jobs
       (λ i l. alike (live (job_at t i).row) (eqb (job_at t i).row.function q) (same (job_at t i).unique u) (not (same u [])) (same (function_at t (job_at t i).row.function).name f)
       (λ v. iff (eqb (job_at t i).row.function q) (same (function_at t (job_at t i).row.function).name f)
@@ -112,7 +108,7 @@ module _ (t : Table) (ok : Sound t) where
 
 -- ---- the outcomes
 
-joined_empty : (t : Table) (f : Bytes) → joined t f [] ≡ none
+joined_empty : (t : Table) (f : Bytes) → joined t f [] ≡ None
 unfolding joined
 joined_empty t f = find_nothing (joins t.functions f []) no_job t.jobs (λ i l. rw (same_refl []) (and_false (live (job_at t i).row)))
 
@@ -122,22 +118,22 @@ unfolding joined_at
 joined_is t ok f u h = go (known t.functions f) refl u
   where
     go : (o : Option ℕ) → known t.functions f ≡ o → (u : Bytes) → joined_at o u t ≡ joined t f u
-    go none e u = sym (joined_unknown t ok f u e)
-    go (some q) e [] = rw (same_refl []) (sym (joined_empty t f))
-    go (some q) e (x ∷ u) = rw (same_lengths (x ∷ u) [] (λ z. omega arith)) (joined_known t ok f (x ∷ u) q h (λ z. omega arith) e)
+    go None e u = sym (joined_unknown t ok f u e)
+    go (Some q) e [] = rw (same_refl []) (sym (joined_empty t f))
+    go (Some q) e (x ∷ u) = rw (same_lengths (x ∷ u) [] (λ z. omega arith)) (joined_known t ok f (x ∷ u) q h (λ z. omega arith) e)
 
 -- what the code answers of the two cases
-pub no_unique : (t : Table) (o : Option ℕ) (u : Bytes) → length u ≡ 0 → Nowhere ≡ placed (joined_at o u t)
+pub no_unique : (t : Table) (o : Option ℕ) (u : Bytes) → length u ≡ 0 → None ≡ joined_at o u t
 unfolding joined_at
-no_unique t none u e = refl
-no_unique t (some q) [] e = rw (same_refl [])
-no_unique t (some q) (x ∷ u) e = absurd (omega arith)
+no_unique t None u e = refl
+no_unique t (Some q) [] e = rw (same_refl [])
+no_unique t (Some q) (x ∷ u) e = absurd (omega arith)
 
-pub some_unique_lem : (t : Table) (u : Bytes) (q : ℕ) (r : Place) → (length u ≡ 0 → ⊥) → r ≡ placed (find (is_for q u) t.jobs) → r ≡ placed (joined_at (some q) u t)
+pub some_unique_lem : (t : Table) (u : Bytes) (q : ℕ) (r : Option ℕ) → (length u ≡ 0 → ⊥) → r ≡ find (is_for q u) t.jobs → r ≡ joined_at (Some q) u t
 unfolding joined_at
 some_unique_lem t u q r n g = g ∙ rw (same_lengths u [] n)
 
-pub joined_found : (b : Bytes) → is_sound connection_count b ≡ true → (f u : Bytes) (p r : Place) → 1 ≤ length f → p ≡ placed (known (table_of connection_count b).functions f)
-    → r ≡ placed (joined_at (unplaced p) u (table_of connection_count b)) → r ≡ placed (joined (table_of connection_count b) f u)
+pub joined_found : (b : Bytes) → is_sound connection_count b ≡ true → (f u : Bytes) (p r : Option ℕ) → 1 ≤ length f → p ≡ known (table_of connection_count b).functions f
+    → r ≡ joined_at p u (table_of connection_count b) → r ≡ joined (table_of connection_count b) f u
 joined_found b sound f u p r h e g =
-    g ∙ rw (searched (known (table_of connection_count b).functions f) p e) (ap placed (joined_is (table_of connection_count b) (sound_table b sound) f u h))
+    g ∙ rw e (joined_is (table_of connection_count b) (sound_table b sound) f u h)

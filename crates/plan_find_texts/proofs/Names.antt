@@ -1,6 +1,7 @@
 -- Texts in a table that obeys the rules: a place of the table holds its text followed by zeros, so to compare places is to compare
 -- texts. A name has room where it stands, or else at the lowest free place. Assumes nothing.
 use Prim.Native.Nat.{ℕ, ◌+◌, ◌*◌, ◌<◌, ◌≤◌}
+use Rattle.std.specs.Prelude.{Option}
 use mathlib.Core.Path.{◌≡◌, refl, sym, ap, ◌∙◌}
 use mathlib.Core.Bool.{true}
 use mathlib.Core.List.{List, [], ◌++◌}
@@ -24,9 +25,6 @@ use Rattle.table_laws.proofs.Image.{image_is}
 use Rattle.lists.proofs.Rows.{iff, implies_use, all_at}
 use Rattle.server_laws.proofs.Sound.{Sound}
 use Rattle.server_laws.proofs.Obeyed.{obeyed}
-use Rattle.lists.specs.declared.Place.{Place}
-use Rattle.lists.specs.Places.{placed, unplaced}
-use Rattle.lists.proofs.Places.{searched}
 use Rattle.lists.proofs.Alike.{find_numbers}
 use Rattle.table_texts.specs.Places.{agree, name_in, names_in, place_of}
 use Rattle.table_texts.proofs.Names.{agree_same}
@@ -117,13 +115,13 @@ module _ (b : Bytes) (sound : is_sound connection_count b ≡ true) where
 -- ---- what the code finds among the names that it reads
 
 module _ (b : Bytes) (names : List Bytes) (sound : is_sound connection_count b ≡ true) (e : names ≡ names_in b)
-    (f name : Bytes) (h : length f ≤ 32) (z : zero_free f ≡ true) (g : name ≡ fit name_size f) (p : Place) (k : p ≡ placed (place_of names name)) where
-  pub known_place : p ≡ placed (known (table_of connection_count b).functions f)
-  known_place = k ∙ rw (e, g) (ap placed (name_found b sound f (within_by 32 f h z)))
+    (f name : Bytes) (h : length f ≤ 32) (z : zero_free f ≡ true) (g : name ≡ fit name_size f) (p : Option ℕ) (k : p ≡ place_of names name) where
+  pub known_place : p ≡ known (table_of connection_count b).functions f
+  known_place = k ∙ rw (e, g) (name_found b sound f (within_by 32 f h z))
 
   -- a free place is one with the empty name
-  pub room_place : (r : Place) → r ≡ placed (or_else (unplaced p) (place_of names (fit name_size []))) → r ≡ placed (room_for (table_of connection_count b).functions f)
+  pub room_place : (r : Option ℕ) → r ≡ or_else p (place_of names (fit name_size [])) → r ≡ room_for (table_of connection_count b).functions f
   unfolding first_zero
   room_place r m =
       let free : place_of names (fit name_size []) ≡ known (table_of connection_count b).functions [] = rw e (name_found b sound [] refl) in
-      m ∙ rw (searched (known (table_of connection_count b).functions f) p known_place, free)
+      m ∙ rw (known_place, free)

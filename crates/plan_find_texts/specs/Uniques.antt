@@ -1,6 +1,5 @@
 -- The job that a submission joins, once the place of its function is known. Assumes nothing.
-use Rattle.std.specs.Prelude.{ℕ, ◌+◌, ◌*◌, Bool, not, cond, ◌&&◌, [], take, drop, eqb}
-use Rattle.std.proofs.Math.Option.{Option, none, some}
+use Rattle.std.specs.Prelude.{ℕ, ◌+◌, ◌*◌, Bool, not, cond, ◌&&◌, [], take, drop, eqb, Option, Some, None}
 use Rattle.octets.specs.Bytes.{Bytes, same}
 use Rattle.lists.specs.Lists.{find}
 use Rattle.server.specs.Sizes.{unique_size, connection_count}
@@ -18,5 +17,5 @@ lies_for b q w p = (not (eqb (row_in connection_count b p).serial 0) && eqb (row
 
 -- the job that a submission with the unique u joins, if its function has a place: none, if the unique is empty
 unfoldable pub joined_at : Option ℕ → Bytes → Table → Option ℕ
-joined_at none u t = none
-joined_at (some q) u t = cond (same u []) none (find (is_for q u) t.jobs)
+joined_at None u t = None
+joined_at (Some q) u t = cond (same u []) None (find (is_for q u) t.jobs)

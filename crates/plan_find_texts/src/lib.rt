@@ -10,50 +10,45 @@ ghost use Rattle.server.specs.Sizes.{connection_count, job_count, name_size, uni
 ghost use Rattle.server.specs.Table.{joined, known, or_else, room_for};
 ghost use Rattle.server.specs.Layout.{row_in, table_of, table_size};
 ghost use Rattle.server.specs.Call.{is_sound};
-ghost use Rattle.lists.specs.Places.{placed, unplaced};
 ghost use Rattle.table_texts.specs.Places.{place_of};
 ghost use Rattle.plan_find_texts.specs.Uniques.{is_for, joined_at, lies_for};
 
-use lists::Place;
 use server::{FUNCTIONS, FUNCTIONS_AT, JOBS, NAME_SIZE, SERIALS_AT, UNIQUE_SIZE, UNIQUES_AT};
 
 // Where a submission goes: the job that it joins, and the place that its function has or would take.
 #[derive(Clone, Copy)]
 pub struct Places {
-    pub joined: Place,
-    pub room: Place,
+    pub joined: Option<usize>,
+    pub room: Option<usize>,
 }
 
 // The place of the function's name.
-pub fn known(table: &[u8], name: &[u8]) -> Place
+pub fn known(table: &[u8], name: &[u8]) -> Option<usize>
     requires { (is_sound connection_count table.now ≡ true) × (table_size connection_count ≤ length table.now) × (length name.now ≤ name_size) × (zero_free name.now ≡ true) }
-    ensures { result ≡ placed (known (table_of connection_count table.now).functions name.now) }
+    ensures { result ≡ known (table_of connection_count table.now).functions name.now }
 {
     let names = table_texts::read_names(table);
-    let place = table_texts::padded_name(name);
+    let place = table_texts::padded(name);
     table_texts::place_of(&names, &place)
 }
 
 // The place, or else the lowest free one: a free place is all zeros.
-fn or_free(names: &[[u8; NAME_SIZE]; FUNCTIONS], known: Place) -> Place
-    ensures { result ≡ placed (or_else (unplaced known) (place_of names.now (fit name_size []))) }
+fn or_free(names: &[[u8; NAME_SIZE]; FUNCTIONS], known: Option<usize>) -> Option<usize>
+    ensures { result ≡ or_else known (place_of names.now (fit name_size [])) }
 {
-    match known {
-        Place::At(place) => Place::At(place),
-        Place::Nowhere => {
-            let free: [u8; NAME_SIZE] = [0; NAME_SIZE];
-            table_texts::place_of(names, &free)
-        }
-    }
+    known.or_else(|| {
+        let free: [u8; NAME_SIZE] = [0; NAME_SIZE];
+        table_texts::place_of(names, &free)
+    })
 }
 
 // The place of the function's name, or else the lowest free one.
-pub fn room_for(table: &[u8], f: &[u8]) -> Place
+pub fn room_for(table: &[u8], f: &[u8]) -> Option<usize>
     requires { (is_sound connection_count table.now ≡ true) × (table_size connection_count ≤ length table.now) × (length f.now ≤ name_size) × (zero_free f.now ≡ true) }
-    ensures { result ≡ placed (room_for (table_of connection_count table.now).functions f.now) }
+    ensures { result ≡ room_for (table_of connection_count table.now).functions f.now }
 {
     let names = table_texts::read_names(table);
-    let name = table_texts::padded_name(f);
+    let name = table_texts::padded(f);
     or_free(&names, table_texts::place_of(&names, &name))
 }
 
@@ -77,45 +72,41 @@ fn has_unique(
 }
 
 // The lowest unfinished job for the function at place `function`, with this unique.
-fn with_unique(table: &[u8], function: usize, unique: &[u8]) -> Place
+fn with_unique(table: &[u8], function: usize, unique: &[u8]) -> Option<usize>
     requires { (is_sound connection_count table.now ≡ true) × (table_size connection_count ≤ length table.now) × (length unique.now ≤ unique_size) × (zero_free unique.now ≡ true) }
-    ensures { result ≡ placed (find (is_for function unique.now) (table_of connection_count table.now).jobs) }
+    ensures { result ≡ find (is_for function unique.now) (table_of connection_count table.now).jobs }
 {
     let serials = table_columns::fours(table, SERIALS_AT);
-    let place = table_texts::padded_unique(unique);
-    let mut i = 0;
-    while i < JOBS {
+    let place = table_texts::padded(unique);
+    for i in 0..JOBS {
         if has_unique(table, i, serials[i], function, &place) {
-            return Place::At(i);
+            return Some(i);
         }
-        i += 1;
     }
-    Place::Nowhere
+    None
 }
 
 // The unfinished job that a submission with this unique joins, from the place of its function: none, if the unique is empty.
-fn joined_at(table: &[u8], known: Place, u: &[u8]) -> Place
+fn joined_at(table: &[u8], known: Option<usize>, u: &[u8]) -> Option<usize>
     requires { (is_sound connection_count table.now ≡ true) × (table_size connection_count ≤ length table.now) × (length u.now ≤ unique_size) × (zero_free u.now ≡ true) }
-    ensures { result ≡ placed (joined_at (unplaced known) u.now (table_of connection_count table.now)) }
+    ensures { result ≡ joined_at known u.now (table_of connection_count table.now) }
 {
     if u.len() == 0 {
-        return Place::Nowhere;
+        return None;
     }
-    match known {
-        Place::At(function) => with_unique(table, function, u),
-        Place::Nowhere => Place::Nowhere,
-    }
+    let function = known?;
+    with_unique(table, function, u)
 }
 
 // Where a submission of the function with this unique goes: the names are read once.
 pub fn places_for(table: &[u8], f: &[u8], u: &[u8]) -> Places
     requires { (is_sound connection_count table.now ≡ true) × (table_size connection_count ≤ length table.now) × (1 ≤ length f.now) × (length f.now ≤ name_size)
         × (zero_free f.now ≡ true) × (length u.now ≤ unique_size) × (zero_free u.now ≡ true) }
-    ensures { (result.joined ≡ placed (joined (table_of connection_count table.now) f.now u.now))
-        × (result.room ≡ placed (room_for (table_of connection_count table.now).functions f.now)) }
+    ensures { (result.joined ≡ joined (table_of connection_count table.now) f.now u.now)
+        × (result.room ≡ room_for (table_of connection_count table.now).functions f.now) }
 {
     let names = table_texts::read_names(table);
-    let name = table_texts::padded_name(f);
+    let name = table_texts::padded(f);
     let known = table_texts::place_of(&names, &name);
     let joined = joined_at(table, known, u);
     let room = or_free(&names, known);

@@ -2,16 +2,13 @@
 // An inner crate: it asks for all of the table's bytes, and refuses nothing; a plan carries the number of a refusal.
 #![tactic(auto)]
 
-ghost use Rattle.std.specs.Prelude.{◌≡◌, ℕ, ◌≤◌, ◌<◌, length};
-ghost use Rattle.std.proofs.Math.Option.{some};
+ghost use Rattle.std.specs.Prelude.{◌≡◌, ℕ, ◌≤◌, ◌<◌, length, Some};
 ghost use Rattle.server.specs.Sizes.{connection_count, function_count};
 ghost use Rattle.server.specs.Layout.{table_of, table_size};
-ghost use Rattle.lists.specs.Places.{unplaced};
 ghost use Rattle.plan.specs.Values.{values_of};
 ghost use Rattle.plan.specs.Plans.{plan_can_do, plan_cant_do, plan_grab, plan_join, plan_new, plan_submit, sleeping_row};
 ghost use Rattle.plan.specs.Plans as B;
 
-use lists::Place;
 use plan::{Change, Order, Plan, Step};
 use server::{Connection, JobRow};
 
@@ -40,13 +37,13 @@ pub fn done(step: Step, change: Change, order: Order) -> Plan
 }
 
 // CAN_DO, from the place that the function has or would take: 11 where there is none.
-pub fn can_do(table: &[u8], room: Place, c: usize) -> Plan
+pub fn can_do(table: &[u8], room: Option<usize>, c: usize) -> Plan
     requires { (table_size connection_count ≤ length table.now) × (c < connection_count) }
-    ensures { result ≡ plan_can_do (unplaced room) c (values_of (table_of connection_count table.now)) }
+    ensures { result ≡ plan_can_do room c (values_of (table_of connection_count table.now)) }
 {
     match room {
-        Place::Nowhere => refused(11),
-        Place::At(q) => {
+        None => refused(11),
+        Some(q) => {
             let s = sets::insert(table_rows::able_at(table, q), c);
             done(
                 Step::Able {
@@ -61,13 +58,13 @@ pub fn can_do(table: &[u8], room: Place, c: usize) -> Plan
 }
 
 // CANT_DO, from the place of the function: an unknown one changes nothing.
-pub fn cant_do(table: &[u8], known: Place, c: usize) -> Plan
+pub fn cant_do(table: &[u8], known: Option<usize>, c: usize) -> Plan
     requires { (table_size connection_count ≤ length table.now) × (c < connection_count) }
-    ensures { result ≡ plan_cant_do (unplaced known) c (values_of (table_of connection_count table.now)) }
+    ensures { result ≡ plan_cant_do known c (values_of (table_of connection_count table.now)) }
 {
     match known {
-        Place::Nowhere => done(Step::Nothing, Change::Nothing, Order::Nothing),
-        Place::At(q) => {
+        None => done(Step::Nothing, Change::Nothing, Order::Nothing),
+        Some(q) => {
             let s = sets::remove(table_rows::able_at(table, q), c);
             done(
                 Step::Able {
@@ -91,13 +88,13 @@ pub fn sleeping(table: &[u8], c: usize, asleep: bool) -> Connection
 }
 
 // GRAB_JOB and GRAB_JOB_UNIQ, from the place of the job that is given.
-pub fn grab(table: &[u8], best: Place, uniq: bool, c: usize) -> Plan
+pub fn grab(table: &[u8], best: Option<usize>, uniq: bool, c: usize) -> Plan
     requires { (table_size connection_count ≤ length table.now) × (c < connection_count) }
-    ensures { result ≡ plan_grab (unplaced best) uniq c (values_of (table_of connection_count table.now)) }
+    ensures { result ≡ plan_grab best uniq c (values_of (table_of connection_count table.now)) }
 {
     let awake = sleeping(table, c, false);
     match best {
-        Place::Nowhere => done(
+        None => done(
             Step::Flags {
                 connection: c,
                 flags: awake,
@@ -105,7 +102,7 @@ pub fn grab(table: &[u8], best: Place, uniq: bool, c: usize) -> Plan
             Change::Nothing,
             Order::NoJob,
         ),
-        Place::At(p) => {
+        Some(p) => {
             let held = server::with_holder(table_rows::row_at(table, p), (c + 1) as u16);
             done(
                 Step::Grab {
@@ -124,20 +121,20 @@ pub fn grab(table: &[u8], best: Place, uniq: bool, c: usize) -> Plan
 // A submission, from the job that it joins, the place of its function and the lowest free place.
 pub fn submit(
     table: &[u8],
-    joined: Place,
-    room: Place,
-    free: Place,
+    joined: Option<usize>,
+    room: Option<usize>,
+    free: Option<usize>,
     c: usize,
     priority: u8,
     background: bool,
     size: u16,
 ) -> Plan
-    requires { (table_size connection_count ≤ length table.now) × (c < connection_count) × ((q : ℕ) → unplaced room ≡ some q → q < function_count) }
-    ensures { result ≡ plan_submit (unplaced joined) (unplaced room) (unplaced free) c priority background size (values_of (table_of connection_count table.now)) }
+    requires { (table_size connection_count ≤ length table.now) × (c < connection_count) × ((q : ℕ) → room ≡ Some q → q < function_count) }
+    ensures { result ≡ plan_submit joined room free c priority background size (values_of (table_of connection_count table.now)) }
 {
     match joined {
-        Place::At(p) => join(table, p, c, background),
-        Place::Nowhere => submit_new(table, room, free, c, priority, background, size),
+        Some(p) => join(table, p, c, background),
+        None => submit_new(table, room, free, c, priority, background, size),
     }
 }
 
@@ -161,21 +158,21 @@ fn join(table: &[u8], p: usize, c: usize, background: bool) -> Plan
 // A new job: refusals 11 to 13 in order.
 fn submit_new(
     table: &[u8],
-    room: Place,
-    free: Place,
+    room: Option<usize>,
+    free: Option<usize>,
     c: usize,
     priority: u8,
     background: bool,
     size: u16,
 ) -> Plan
-    requires { (table_size connection_count ≤ length table.now) × (c < connection_count) × ((q : ℕ) → unplaced room ≡ some q → q < function_count) }
-    ensures { result ≡ plan_new (unplaced room) (unplaced free) c priority background size (values_of (table_of connection_count table.now)) }
+    requires { (table_size connection_count ≤ length table.now) × (c < connection_count) × ((q : ℕ) → room ≡ Some q → q < function_count) }
+    ensures { result ≡ plan_new room free c priority background size (values_of (table_of connection_count table.now)) }
 {
     match room {
-        Place::Nowhere => refused(11),
-        Place::At(q) => match free {
-            Place::Nowhere => refused(12),
-            Place::At(p) => accept(table, q, p, c, priority, background, size),
+        None => refused(11),
+        Some(q) => match free {
+            None => refused(12),
+            Some(p) => accept(table, q, p, c, priority, background, size),
         },
     }
 }
@@ -191,7 +188,7 @@ fn accept(
     size: u16,
 ) -> Plan
     requires { (table_size connection_count ≤ length table.now) × (c < connection_count) × (q < function_count) }
-    ensures { result ≡ plan_new (some q) (some p) c priority background size (values_of (table_of connection_count table.now)) }
+    ensures { result ≡ plan_new (Some q) (Some p) c priority background size (values_of (table_of connection_count table.now)) }
 {
     let last = table_rows::last(table);
     if last < 4294967295 {

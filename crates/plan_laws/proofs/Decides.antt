@@ -3,7 +3,7 @@
 use Prim.Native.Nat.{ℕ, suc, ◌≤◌}
 use mathlib.Core.Path.{◌≡◌, refl, ap, ap₂, sym, ◌∙◌, subst}
 use mathlib.Core.Bool.{Bool, true, false, not, cond}
-use mathlib.Core.Option.{Option, none, some}
+use Rattle.std.specs.Prelude.{Option, Some, None}
 use mathlib.Core.List.{List, [], ◌∷◌, ◌++◌, map}
 use native.Mathlib.Omega.{arith}
 use lib.ListN.{length, get_or, set}
@@ -154,8 +154,8 @@ module _ (w : Words) (c : ℕ) (t : Table) (ok : obeys t ≡ true) where
   other_rows : (v : V'.Values) (p : ℕ) (j : Job) (r : JobRow) → j.row ≡ r → with_rows (map (λ (k : Job). k.row) (set t.jobs p j)) v ≡ with_rows (set (rows_of t) p r) v
   other_rows v p j r e = ap (λ (l : List JobRow). with_rows l v) (map_set (λ (k : Job). k.row) t.jobs p j ∙ ap (set (rows_of t) p) e)
 
-  p_work : {how : Work} {n d : Bytes} (h : Bytes) → Says w how n d → (p : ℕ) → held_job_of t c h ≡ some p
-      → Planned w c t (plan_work (some p) how (values_of t)) (settle (to_listeners how w.kind t (job_at t p).row) (set_job t p (worked how n d (job_at t p))))
+  p_work : {how : Work} {n d : Bytes} (h : Bytes) → Says w how n d → (p : ℕ) → held_job_of t c h ≡ Some p
+      → Planned w c t (plan_work (Some p) how (values_of t)) (settle (to_listeners how w.kind t (job_at t p).row) (set_job t p (worked how n d (job_at t p))))
   unfolding plan_work changed ordered values_of stepped to_listeners
   p_work h (that_tells n d) p e =
       by_parts w c t (set_job t p (job_at t p)) _ SV.Nothing CV.Nothing _ (same_rows p (job_at t p) refl)
@@ -176,8 +176,8 @@ module _ (w : Words) (c : ℕ) (t : Table) (ok : obeys t ≡ true) where
 
   p_status : (o : Option ℕ) → Planned w c t (plan_status o) (settle (plain c 20 (status_of o w.job t) ∷ []) t)
   unfolding changed ordered stepped
-  p_status none = by_parts w c t t _ SV.Nothing CV.Nothing OV.Unknown refl texts refl
-  p_status (some p) = by_parts w c t t _ SV.Nothing CV.Nothing (OV.Status p) refl texts refl
+  p_status None = by_parts w c t t _ SV.Nothing CV.Nothing OV.Unknown refl texts refl
+  p_status (Some p) = by_parts w c t t _ SV.Nothing CV.Nothing (OV.Status p) refl texts refl
 
   change_planned : {a : Request} {ss : List Send} {u : Table} (m : Change c t a ss u) → Suits w a → Planned w c t (plan_of c t m) (settle ss u)
   unfolding plan_can_do plan_cant_do plan_grab plan_join sleeping unable_to_all changed ordered values_of stepped

@@ -1,6 +1,7 @@
 -- What the end of an event does to a table, place by place: a connection wakes or sleeps on, a function is forgotten or stays. And who
 -- wakes and what is forgotten where one job, one connection or one function of a table that obeys the rules is changed. Assumes nothing.
 use Prim.Native.Nat.{ℕ, ◌<◌}
+use Rattle.std.specs.Prelude.{Option, Some, None}
 use mathlib.Core.Path.{◌≡◌, refl, ap, sym, ◌∙◌, subst}
 use mathlib.Core.Bool.{Bool, true, false, not, cond, ◌&&◌, ◌||◌}
 use mathlib.Core.List.{List}
@@ -13,8 +14,6 @@ use Rattle.octets.proofs.Strings.{and_left, and_right, and_both, and_false}
 use Rattle.sets.specs.Sets.{has, is_empty, members}
 use Rattle.sets.proofs.Laws.{zero_has}
 use Rattle.lists.specs.Lists.{any, map_from, implies}
-use Rattle.lists.specs.declared.Place.{Place}
-use Rattle.lists.specs.declared.Place.TheVariants.{At, Nowhere}
 use Rattle.lists.proofs.Cases.{cond_both}
 use Rattle.lists.proofs.Maps.{map_set}
 use Rattle.lists.proofs.Rows.{clash, never, iff, all_set, any_at, any_where, length_map_from, map_from_at}
@@ -43,9 +42,9 @@ pub record Settles (u : Table) (e : Ending) : Type 0 where
   pub rouses : (c : ℕ) → c < length u.connections → wakes (ables_of u) (rows_of u) c (connection_at u c) ≡ has e.woken c
   pub keeps : (q : ℕ) → q < length u.functions → kept u q ≡ get_or (without e.forgotten u.functions) q no_function
 
-length_without : (o : Place) (fs : List Function) → length (without o fs) ≡ length fs
-length_without Nowhere fs = refl
-length_without (At q) fs = length-set fs q no_function
+length_without : (o : Option ℕ) (fs : List Function) → length (without o fs) ≡ length fs
+length_without None fs = refl
+length_without (Some q) fs = length-set fs q no_function
 
 module _ (u : Table) (e : Ending) (s : Settles u e) where
   abbrev roused : ℕ → Connection → Connection
@@ -119,13 +118,13 @@ module _ (t : Table) (o : Obeyed t) where
   -- ---- nothing
 
   -- but client ids
-  pub nothing_settles : (is : List Bytes) → Settles (with_ids is t) (record { woken = 0; forgotten = Nowhere })
+  pub nothing_settles : (is : List Bytes) → Settles (with_ids is t) (record { woken = 0; forgotten = None })
   nothing_settles is =
       record { awaited = o.awaited; rouses = λ c l. sleeps (with_ids is t) c l (λ e. e) (λ e. e); keeps = λ q h. all_kept (rows_of t) q refl }
 
   -- ---- one job, which is no more grabbable than before; and a connection may stop sleeping
 
-  pub job_settles : (cs : List Connection) (p : ℕ) (k : Job) (place : Place) → length cs ≡ length t.connections
+  pub job_settles : (cs : List Connection) (p : ℕ) (k : Job) (place : Option ℕ) → length cs ≡ length t.connections
       → ((c : ℕ) → (get_or cs c closed).asleep ≡ true → (connection_at t c).asleep ≡ true)
       → p < length t.jobs → NoMore (job_at t p) k → Awaited k.row
       → ((q : ℕ) → cond (wanted (set (rows_of t) p k.row) q (function_at t q).able) (function_at t q) no_function ≡ get_or (without place t.functions) q no_function)
@@ -145,7 +144,7 @@ module _ (t : Table) (o : Obeyed t) where
 
   module _ (c : ℕ) (x : Connection) (woken' : ℕ)
       (own : x.asleep && any (grabbable (ables_of t) c) (rows_of t) ≡ has woken' c) (others : (k : ℕ) → ¬ (k ≡ c) → has woken' k ≡ false) where
-    pub connection_settles : Settles (set_connection t c x) (record { woken = woken'; forgotten = Nowhere })
+    pub connection_settles : Settles (set_connection t c x) (record { woken = woken'; forgotten = None })
     connection_settles =
         record {
           awaited = o.awaited;
@@ -162,13 +161,13 @@ module _ (t : Table) (o : Obeyed t) where
   module _ (u : Table) (q : ℕ) (here : q < length u.functions) (others : (k : ℕ) → ¬ (k ≡ q) → function_at u k ≡ function_at t k) where
     -- and so are the jobs that name them: only the one at q may be forgotten
     pub one_kept : ((k : ℕ) → ¬ (k ≡ q) → any (names k) (rows_of u) ≡ any (names k) (rows_of t))
-        → (b : Bool) → wanted (rows_of u) q (function_at u q).able ≡ b → (k : ℕ) → kept u k ≡ get_or (without (cond b Nowhere (At q)) u.functions) k no_function
+        → (b : Bool) → wanted (rows_of u) q (function_at u q).able ≡ b → (k : ℕ) → kept u k ≡ get_or (without (cond b None (Some q)) u.functions) k no_function
     one_kept named b w k = go (ℕ_discrete k q) b w
       where
         elsewhere : ¬ (k ≡ q) → kept u k ≡ function_at u k
         elsewhere d = rw (others k d) (all_kept (rows_of u) k (named k d))
 
-        go : Dec (k ≡ q) → (b : Bool) → wanted (rows_of u) q (function_at u q).able ≡ b → kept u k ≡ get_or (without (cond b Nowhere (At q)) u.functions) k no_function
+        go : Dec (k ≡ q) → (b : Bool) → wanted (rows_of u) q (function_at u q).able ≡ b → kept u k ≡ get_or (without (cond b None (Some q)) u.functions) k no_function
         go (yes e) true w = rw (e, w)
         go (yes e) false w = rw (e, w) (sym (get_or-set_same u.functions q no_function no_function here))
         go (no d) true w = elsewhere d

@@ -3,7 +3,7 @@
 use Prim.Native.Nat.{ℕ, zero, suc, ◌<◌, zero-le}
 use mathlib.Core.Path.{◌≡◌, refl, ap, ap₂, sym, ◌∙◌, subst}
 use mathlib.Core.Bool.{Bool, true, false, not, cond, ◌&&◌, ◌||◌}
-use mathlib.Core.Option.{Option, none, some}
+use Rattle.std.specs.Prelude.{Option, Some, None}
 use mathlib.Core.List.{List, [], ◌∷◌}
 use native.Mathlib.Decide.{ℕ_discrete}
 use borrow.Author.Tests.{not-true, eq-eqb, ne_eqb}
@@ -15,7 +15,6 @@ use Rattle.octets.proofs.Strings.{and_left, and_right, and_both, and_false}
 use Rattle.sets.specs.Sets.{has, is_empty, insert, remove, members}
 use Rattle.sets.proofs.Laws.{has_only}
 use Rattle.lists.specs.Lists.{any, implies}
-use Rattle.lists.specs.declared.Place.TheVariants.{At, Nowhere}
 use Rattle.lists.proofs.Cases.{cond_both}
 use Rattle.lists.proofs.Maps.{map_set, any_set_same}
 use Rattle.lists.proofs.Rows.{clash, or_right, set_own, all_row, all_at, all_set, row_set}
@@ -138,7 +137,7 @@ module _ (w : Words) (c : ℕ) (t : Table) (ok : obeys t ≡ true) where
       and_true true = refl
       and_true false = refl
 
-  held_leans : (p : ℕ) → best t c ≡ some p → Lean (SV.Grab p (with_holder (suc c) (row_in (values_of t) p)) c (sleeping_row false c (values_of t))) t t
+  held_leans : (p : ℕ) → best t c ≡ Some p → Lean (SV.Grab p (with_holder (suc c) (row_in (values_of t) p)) c (sleeping_row false c (values_of t))) t t
   unfolding stepped sparse ending values_of
   held_leans p e =
       let r : JobRow = with_holder (suc c) (job_at t p).row in
@@ -150,7 +149,7 @@ module _ (w : Words) (c : ℕ) (t : Table) (ok : obeys t ≡ true) where
       (ap (λ (l : List JobRow). with_rows l (values_of u)) (map_set (λ (j : Job). j.row) t.jobs p k))
       (length-set t.connections c x)
       (record { ids = refl; hub = refl; functions = texts.functions; jobs = left_set SameJob p no_job k (rowed_same (job_at t p) r (grabbed_live t c p e)) texts.jobs })
-      (job_settles t o (set t.connections c x) p k Nowhere (length-set t.connections c x)
+      (job_settles t o (set t.connections c x) p k None (length-set t.connections c x)
       (λ i. row_set (λ (y : Connection). y.asleep ≡ true → (connection_at t i).asleep ≡ true) t.connections c x i closed (λ s. clash s refl) (λ s. s))
       (best_found t c p e).0
       (λ ables y g. clash (and_right (live (job_at t p).row) _ (and_left (live (job_at t p).row && eqb (suc c) 0) _ g)) (eqb-suc-zero c))
@@ -190,32 +189,32 @@ module _ (w : Words) (c : ℕ) (t : Table) (ok : obeys t ≡ true) where
 
   -- ---- a submission
 
-  join_leans : (f u : Bytes) (p : ℕ) (background : Bool) → joined t f u ≡ some p → Leans (plan_join p c background (values_of t))
+  join_leans : (f u : Bytes) (p : ℕ) (background : Bool) → joined t f u ≡ Some p → Leans (plan_join p c background (values_of t))
   unfolding plan_join stepped sparse changed ending values_of joined
   join_leans f u p background e l =
       let r : JobRow = submitted_by c background (job_at t p).row in
       let k : Job = with_row r (job_at t p) in
-      let i : p < length t.jobs = (found _ no_job t.jobs (some p) e).inside in
+      let i : p < length t.jobs = (found _ no_job t.jobs (Some p) e).inside in
       subst (λ (x : JobRow). Lean (SV.Row p (submitted_by c background x)) t t) (sym (row_at t p))
       (lean_by (SV.Row p r) t t (set_job t p k)
       (ap (λ (l : List JobRow). with_rows l (values_of t)) (map_set (λ (j : Job). j.row) t.jobs p k))
       refl
       (record { ids = refl; hub = refl; functions = texts.functions; jobs = left_set SameJob p no_job k (rowed_same (job_at t p) r (submitted_live c background (job_at t p).row ∙ joined_found t f u p e)) texts.jobs })
-      (job_settles t o t.connections p k Nowhere refl (λ x s. s) i (λ ables x g. sym (submitted_grabbable c background (job_at t p).row ables x) ∙ g) (submitted_awaited c background (job_at t p).row)
+      (job_settles t o t.connections p k None refl (λ x s. s) i (λ ables x g. sym (submitted_grabbable c background (job_at t p).row ables x) ∙ g) (submitted_awaited c background (job_at t p).row)
       (λ q. all_kept t o (set (rows_of t) p r) q (names_same p q r (submitted_names c background (job_at t p).row q))))
       refl zero-le)
 
-  free_found : (p : ℕ) → free_row (rows_of t) ≡ some p → (p < length t.jobs) × (live (job_at t p).row ≡ false)
+  free_found : (p : ℕ) → free_row (rows_of t) ≡ Some p → (p < length t.jobs) × (live (job_at t p).row ≡ false)
   unfolding free_row
   free_found p e =
-      let f = found (λ r. not (live r)) no_row (rows_of t) (some p) e in
+      let f = found (λ r. not (live r)) no_row (rows_of t) (Some p) e in
       (rw (rows_long t) at f.inside, ap live (sym (row_at t p)) ∙ not-true (live (get_or (rows_of t) p no_row)) f.passes)
 
   module _ (priority : ℕ) (background : Bool) (size : ℕ) where
     abbrev new : ℕ → JobRow
     new q = new_row c priority background q size (suc t.last)
 
-    module _ (q p : ℕ) (er : room_for t.functions w.first ≡ some q) (ef : free_place t ≡ some p) where
+    module _ (q p : ℕ) (er : room_for t.functions w.first ≡ Some q) (ef : free_place t ≡ Some p) where
       abbrev bare : JobRow
       bare = fresh_row (suc t.last) q priority size
 
@@ -303,10 +302,10 @@ module _ (w : Words) (c : ℕ) (t : Table) (ok : obeys t ≡ true) where
 
   -- ---- worker packets
 
-  work_inside : (h : Bytes) (p : ℕ) → held_job_of t c h ≡ some p → p < length t.jobs
-  work_inside h p e = (found (λ j. holds_handle t.hub c h j.row) no_job t.jobs (some p) e).inside
+  work_inside : (h : Bytes) (p : ℕ) → held_job_of t c h ≡ Some p → p < length t.jobs
+  work_inside h p e = (found (λ j. holds_handle t.hub c h j.row) no_job t.jobs (Some p) e).inside
 
-  report_leans : (h : Bytes) (p : ℕ) (order : O'.Order) → held_job_of t c h ≡ some p → Leans (done SV.Nothing (CV.Texts p) order)
+  report_leans : (h : Bytes) (p : ℕ) (order : O'.Order) → held_job_of t c h ≡ Some p → Leans (done SV.Nothing (CV.Texts p) order)
   unfolding stepped sparse changed ending values_of
   report_leans h p order e l =
       let k : Job = with_texts w.second w.third (job_at t p) in
@@ -314,13 +313,13 @@ module _ (w : Words) (c : ℕ) (t : Table) (ok : obeys t ≡ true) where
       (ap (λ (l : List JobRow). with_rows l (values_of t)) (map-set_same (λ (j : Job). j.row) t.jobs p k no_job refl))
       refl
       (record { ids = refl; hub = refl; functions = texts.functions; jobs = both_set SameJob p k k (live_same k (held_found t c h p e)) texts.jobs })
-      (job_settles t o t.connections p k Nowhere refl (λ x s. s) (work_inside h p e) (λ ables x g. g)
+      (job_settles t o t.connections p k None refl (λ x s. s) (work_inside h p e) (λ ables x g. g)
       (all_row (λ j. implies (queued j.row) (j.row.background || not (is_empty j.row.listeners))) t.jobs p no_job o.awaited refl)
       (λ q. all_kept t o (set (rows_of t) p k.row) q (names_same p q k.row refl)))
       refl zero-le
 
   -- its function may be forgotten
-  end_leans : (h : Bytes) (p : ℕ) (order : O'.Order) → held_job_of t c h ≡ some p → Leans (done (SV.End p) CV.Nothing order)
+  end_leans : (h : Bytes) (p : ℕ) (order : O'.Order) → held_job_of t c h ≡ Some p → Leans (done (SV.End p) CV.Nothing order)
   unfolding stepped sparse changed ending values_of
   end_leans h p order e l =
       let q : ℕ = (get_or (rows_of t) p no_row).function in
@@ -334,7 +333,7 @@ module _ (w : Words) (c : ℕ) (t : Table) (ok : obeys t ≡ true) where
       (ap (λ (l : List JobRow). with_rows l (values_of t)) (map_set (λ (j : Job). j.row) t.jobs p no_job))
       refl
       (record { ids = refl; hub = refl; functions = texts.functions; jobs = left_set SameJob p no_job no_job (gone_same (job_at t p)) texts.jobs })
-      (job_settles t o t.connections p no_job (cond b Nowhere (At q)) refl (λ x s. s) (work_inside h p e) (λ ables x g. clash g refl) refl
+      (job_settles t o t.connections p no_job (cond b None (Some q)) refl (λ x s. s) (work_inside h p e) (λ ables x g. clash g refl) refl
       (λ k. ap (λ (rs : List JobRow). cond (wanted rs k (function_at t k).able) (function_at t k) no_function) (sym rows)
       ∙ one_kept t o (set_job t p no_job) q here (λ k d. refl)
       (λ k d. ap (any (names k)) rows ∙ names_same p k no_row (sym (names_other k (job_at t p).row (λ (z : (job_at t p).row.function ≡ k). d (sym z ∙ is)))))
@@ -342,7 +341,7 @@ module _ (w : Words) (c : ℕ) (t : Table) (ok : obeys t ≡ true) where
       refl
       (cond_both (Within (length t.functions)) b zero-le here)
 
-  work_leans : {how : Work} {n d : Bytes} (h : Bytes) → Says w how n d → (p : ℕ) → held_job_of t c h ≡ some p → Leans (plan_work (some p) how (values_of t))
+  work_leans : {how : Work} {n d : Bytes} (h : Bytes) → Says w how n d → (p : ℕ) → held_job_of t c h ≡ Some p → Leans (plan_work (Some p) how (values_of t))
   unfolding plan_work
   work_leans h (that_tells n d) p e = nothing_leans 0 (OV.Copies (row_in (values_of t) p).listeners)
   work_leans h that_reports p e = report_leans h p (OV.Copies (row_in (values_of t) p).listeners) e
@@ -350,8 +349,8 @@ module _ (w : Words) (c : ℕ) (t : Table) (ok : obeys t ≡ true) where
   work_leans h (that_throws n d) p e = end_leans h p (OV.Told (row_in (values_of t) p).listeners (heard (values_of t).connections (row_in (values_of t) p).listeners) (row_in (values_of t) p).serial) e
 
   status_leans : (o : Option ℕ) → Leans (plan_status o)
-  status_leans none = nothing_leans 0 OV.Unknown
-  status_leans (some p) = nothing_leans 0 (OV.Status p)
+  status_leans None = nothing_leans 0 OV.Unknown
+  status_leans (Some p) = nothing_leans 0 (OV.Status p)
 
   -- ---- every event
 
@@ -367,7 +366,7 @@ module _ (w : Words) (c : ℕ) (t : Table) (ok : obeys t ≡ true) where
   change_leans (O.able f q e) for_can = λ l. able_leans q (insert (get_or (ables_of t) q 0) c) f _ (room t f q e).inside refl
   change_leans (unknown f e) s = nothing_leans 0 OV.Nothing
   change_leans (disabled f q e) s =
-      λ l. able_leans q (remove (get_or (ables_of t) q 0) c) (function_at t q).name t (found (λ x. same x.name f) no_function t.functions (some q) e).inside
+      λ l. able_leans q (remove (get_or (ables_of t) q 0) c) (function_at t q).name t (found (λ x. same x.name f) no_function t.functions (Some q) e).inside
       (λ i. with_functions (sym (set_own t.functions q no_function) i) t)
   change_leans (identified i) s = id_leans OV.Nothing
   change_leans cleared s = λ e. clash e refl

@@ -41,11 +41,8 @@ fn left_rows(rows: [JobRow; JOBS], c: usize) -> [JobRow; JOBS]
     ensures { result ≡ map (P.left_row c) rows }
 {
     let mut next = rows;
-    let mut i = 0;
-    while i < JOBS {
-        let row = rows[i];
-        next[i] = left_row(row, c);
-        i += 1;
+    for i in 0..JOBS {
+        next[i] = left_row(rows[i], c);
     }
     next
 }
@@ -56,11 +53,8 @@ fn unable_all(able: [u32; FUNCTIONS], c: usize) -> [u32; FUNCTIONS]
     ensures { result ≡ map (λ s. S.remove s c) able }
 {
     let mut next = able;
-    let mut i = 0;
-    while i < FUNCTIONS {
-        let s = able[i];
-        next[i] = sets::remove(s, c);
-        i += 1;
+    for i in 0..FUNCTIONS {
+        next[i] = sets::remove(able[i], c);
     }
     next
 }
@@ -83,13 +77,12 @@ fn left(v: Values, c: usize) -> Values
     let able = v.able;
     let rows = v.rows;
     let connections = plan_rows::set_connection(old, c, server::closed());
-    let without = unable_all(able, c);
-    let after = left_rows(rows, c);
-    let mut next = v;
-    next.connections = connections;
-    next.able = without;
-    next.rows = after;
-    next
+    Values {
+        connections,
+        able: unable_all(able, c),
+        rows: left_rows(rows, c),
+        ..v
+    }
 }
 
 // All numbers after a step that is not lean.
@@ -98,19 +91,8 @@ pub fn stepped(step: Step, v: Values) -> Values
     ensures { result ≡ stepped step v }
 {
     match step {
-        Step::Nothing => v,
-        Step::Row { place, row } => v,
-        Step::End { place } => v,
-        Step::Grab {
-            place,
-            row,
-            connection,
-            flags,
-        } => v,
-        Step::New { place, row } => v,
-        Step::Flags { connection, flags } => v,
-        Step::Able { function, set } => v,
         Step::Reset { connection } => reset(v, connection),
         Step::Leave { connection } => left(v, connection),
+        _ => v,
     }
 }

@@ -12,11 +12,10 @@ use mir.Val.{has_key}
 use types.Run.{OneOf, hit}
 use Rattle.octets.specs.Bytes.{Bytes}
 use Rattle.packet.specs.declared.Ends.{Ends}
-use Rattle.packet.specs.declared.Read.TheVariants as RV
 use Rattle.packet.specs.Layout.{function, is_own, request_shape, rules_of, separators_of, priority_of, background_of}
 use Rattle.packet.specs.Arguments.{ends_of, fits, fit_all, join}
 use Rattle.packet.specs.Packet.{got, read, requests}
-use Rattle.packet.specs.Answers.{answer_of, argument_at}
+use Rattle.packet.specs.Answers.{answer_of, argument_at, found}
 use Rattle.packet.specs.Opaque.{ends_opaque, opaque, masked, with_last, with_opaque}
 use Rattle.packet_laws.proofs.Splitting.{split_join, fit_length}
 use Rattle.packet_laws.proofs.Packets.{Headed, header_good, Got, read_got, requests_well}
@@ -119,7 +118,7 @@ fit_read p kind args r =
     let h : Headed requests.magic 1024 p = header_good requests.magic 1024 p g.headed in
     (j.1, omega (arith, ap length j.0, length-drop 12 p, h.whole, h.limited))
 
-module _ (p : Bytes) (ends : Ends) (kind : ℕ) (e : answer_of (read requests p) ≡ RV.Packet kind ends) where
+module _ (p : Bytes) (ends : Ends) (kind : ℕ) (e : answer_of (read requests p) ≡ found kind ends) where
   -- its arguments as they came
   shown : (args : List Bytes) × (read requests p ≡ got kind args) × (ends ≡ ends_of 12 args)
   shown = read_answer (read requests p) kind ends e
@@ -163,7 +162,7 @@ module _ (p : Bytes) (ends : Ends) (kind : ℕ) (e : answer_of (read requests p)
       subst Good (sym (asks_shown kind)) (good_requested kind shown.0 f.1 f.0)
 
 -- CANT_DO names a function as CAN_DO does
-pub cant_do_fits : (p : Bytes) (ends : Ends) → answer_of (read requests p) ≡ RV.Packet 2 ends → fits function (argument_at p ends 0) ≡ true
+pub cant_do_fits : (p : Bytes) (ends : Ends) → answer_of (read requests p) ≡ found 2 ends → fits function (argument_at p ends 0) ≡ true
 unfolding requested request_shape
 cant_do_fits p ends e =
     let s = shown p ends 2 e in
@@ -171,7 +170,7 @@ cant_do_fits p ends e =
     subst Good (sym (asks_shown p ends 2 e 1)) (good_requested 1 s.0 f.1 f.0)
 
 -- what the packet asks, from the arguments where they lie: masked or not, it is the same
-pub asks : (p : Bytes) (ends : Ends) (kind : ℕ) → answer_of (read requests p) ≡ RV.Packet kind ends
+pub asks : (p : Bytes) (ends : Ends) (kind : ℕ) → answer_of (read requests p) ≡ found kind ends
     → request_in p ≡ requested kind (argument_at p ends 0) (argument_at p ends 1) (argument_at p ends 2)
 unfolding request_in
 asks p ends kind e =

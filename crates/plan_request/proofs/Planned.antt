@@ -2,7 +2,7 @@
 use Prim.Native.Nat.{ℕ, zero, suc, ◌+◌, ◌<◌, ◌≤◌}
 use mathlib.Core.Path.{◌≡◌, refl, ap, sym, subst, ◌∙◌}
 use mathlib.Core.Bool.{Bool, true, false}
-use mathlib.Core.Option.{some}
+use Rattle.std.specs.Prelude.{Option, Some, None}
 use mathlib.Core.List.{[], ◌∷◌}
 use mathlib.Core.Logic.{⊎_elim}
 use native.Mathlib.Nat.{eq-or-lt_of_le}
@@ -14,17 +14,14 @@ use borrow.Author.Tests.{leb-true}
 use Rattle.octets.specs.Bytes.{Bytes, same, within, zero_free}
 use Rattle.octets.proofs.Strings.{and_left, and_right}
 use Rattle.handle.specs.Handle.{serial_of}
-use Rattle.handle.specs.declared.Serial.{Serial}
-use Rattle.handle.specs.declared.Serial.TheVariants.{Of, None}
 use Rattle.packet.specs.declared.Ends.{Ends}
-use Rattle.packet.specs.declared.Read.TheVariants as RV
 use Rattle.packet.specs.declared.Kind.{Kind}
 use Rattle.packet.specs.declared.Rule.TheVariants.{Text}
 use Rattle.packet.specs.declared.Shape.TheVariants.{Foreign}
 use Rattle.packet.specs.Layout.{function, unique, is_own, kind_of, priority_of, request_shape}
 use Rattle.packet.specs.Arguments.{fits}
 use Rattle.packet.specs.Packet.{read, requests}
-use Rattle.packet.specs.Answers.{answer_of, argument_at}
+use Rattle.packet.specs.Answers.{answer_of, argument_at, found}
 use Rattle.lists.specs.Lists.{find, numbers}
 use Rattle.server.specs.Sizes.{connection_count, function_count}
 use Rattle.server.specs.Table.{Table, known, room_for, joined, ables_of, rows_of, free_row, best_row, job_of}
@@ -33,15 +30,11 @@ use Rattle.server.specs.Requests as A
 use Rattle.server.specs.Events.{exceptions_name, held_job_of}
 use Rattle.server.specs.Layout.{table_of}
 use Rattle.server.specs.Call.{is_sound}
-use Rattle.lists.proofs.Places.{searched}
-use Rattle.lists.specs.declared.Place.{Place}
-use Rattle.lists.specs.declared.Place.TheVariants.{Nowhere}
 use Rattle.plan.specs.declared.Step.TheVariants as SV
 use Rattle.plan.specs.declared.Plan.{Plan}
 use Rattle.plan.specs.declared.Values as V'
 use Rattle.plan.specs.declared.Change.TheVariants as CV
 use Rattle.plan.specs.declared.Order.TheVariants as OV
-use Rattle.lists.specs.Places.{placed, unplaced}
 use Rattle.plan.specs.Values.{values_of, serial_row, held_row}
 use Rattle.plan.specs.Plans.{sleeping_row, done, plan_can_do, plan_cant_do, plan_grab, plan_identify, plan_submit, plan_work, plan_status, plan_option, plan_served}
 use Rattle.plan.proofs.Numbers.{serial_values, held_values, serial_none, held_none}
@@ -72,13 +65,13 @@ module _ (least most : ℕ) (s : Bytes) (e : fits (Text least most) s ≡ true) 
 -- ---- places
 
 -- the grab of the job that the search found
-pub best_grabbed : (t : Table) (uniq : Bool) (c : ℕ) (p : Place) (r : Plan) → p ≡ placed (best_row (ables_of t) (rows_of t) c) → r ≡ plan_grab (unplaced p) uniq c (values_of t)
+pub best_grabbed : (t : Table) (uniq : Bool) (c : ℕ) (p : Option ℕ) (r : Plan) → p ≡ best_row (ables_of t) (rows_of t) c → r ≡ plan_grab p uniq c (values_of t)
     → r ≡ plan_grab (best_row (ables_of t) (rows_of t) c) uniq c (values_of t)
-best_grabbed t uniq c p r g h = h ∙ rw (searched (best_row (ables_of t) (rows_of t) c) p g)
+best_grabbed t uniq c p r g h = h ∙ rw g
 
 -- a function's place is one of the sixteen
-pub room_inside : (b f : Bytes) (p : Place) → p ≡ placed (room_for (table_of connection_count b).functions f) → (q : ℕ) → unplaced p ≡ some q → q < function_count
-room_inside b f p e q h = omega (arith, sixteen b, (F.room (table_of connection_count b) f q (sym (searched _ p e) ∙ h)).inside)
+pub room_inside : (b f : Bytes) (p : Option ℕ) → p ≡ room_for (table_of connection_count b).functions f → (q : ℕ) → p ≡ Some q → q < function_count
+room_inside b f p e q h = omega (arith, sixteen b, (F.room (table_of connection_count b) f q (sym e ∙ h)).inside)
 
 -- ---- jobs by handle: the handle's serial is looked for among the rows
 
@@ -87,32 +80,32 @@ module _ (b hub h : Bytes) (is : hub ≡ (table_of connection_count b).hub) (sou
   abbrev table : Table
   table = table_of connection_count b
 
-  own : (r : Serial) → serial_of hub h ≡ r → serial_of table.hub h ≡ r
+  own : (r : Option ℕ) → serial_of hub h ≡ r → serial_of table.hub h ≡ r
   own r e = ap (λ (name : Bytes). serial_of name h) (sym is) ∙ e
 
-  pub job_found : (s : ℕ) (p : Place) → serial_of hub h ≡ Of s → p ≡ placed (serial_row s (rows_of table)) → p ≡ placed (job_of table h)
-  job_found s p e g = g ∙ ap placed (sym (serial_values table h (sound_table b sound).small (sound_table b sound).below s (own (Of s) e)))
+  pub job_found : (s : ℕ) (p : Option ℕ) → serial_of hub h ≡ Some s → p ≡ serial_row s (rows_of table) → p ≡ job_of table h
+  job_found s p e g = g ∙ sym (serial_values table h (sound_table b sound).small (sound_table b sound).below s (own (Some s) e))
 
-  pub job_none : serial_of hub h ≡ None → Nowhere ≡ placed (job_of table h)
-  job_none e = ap placed (sym (serial_none table h (sound_table b sound).small (sound_table b sound).below (own None e)))
+  pub job_none : serial_of hub h ≡ None → None ≡ job_of table h
+  job_none e = sym (serial_none table h (sound_table b sound).small (sound_table b sound).below (own None e))
 
   module _ (c : ℕ) where
-    pub held_found : (s : ℕ) (p : Place) → serial_of hub h ≡ Of s → p ≡ placed (held_row c s (rows_of table)) → p ≡ placed (held_job_of table c h)
-    held_found s p e g = g ∙ ap placed (sym (held_values table h (sound_table b sound).small (sound_table b sound).below c s (own (Of s) e)))
+    pub held_found : (s : ℕ) (p : Option ℕ) → serial_of hub h ≡ Some s → p ≡ held_row c s (rows_of table) → p ≡ held_job_of table c h
+    held_found s p e g = g ∙ sym (held_values table h (sound_table b sound).small (sound_table b sound).below c s (own (Some s) e))
 
-    pub held_nothing : serial_of hub h ≡ None → Nowhere ≡ placed (held_job_of table c h)
-    held_nothing e = ap placed (sym (held_none table h (sound_table b sound).small (sound_table b sound).below (own None e) c))
+    pub held_nothing : serial_of hub h ≡ None → None ≡ held_job_of table c h
+    held_nothing e = sym (held_none table h (sound_table b sound).small (sound_table b sound).below (own None e) c)
 
 -- ---- names and sizes in a packet that was read
 
-module _ (p : Bytes) (ends : Ends) (kind : ℕ) (e : answer_of (read requests p) ≡ RV.Packet kind ends) where
+module _ (p : Bytes) (ends : Ends) (kind : ℕ) (e : answer_of (read requests p) ≡ found kind ends) where
   pub can_do_name : (f : Bytes) → kind ≡ 1 → f ≡ argument_at p ends 0 → fits function f ≡ true
   unfolding requested
   can_do_name f q g =
       rw g (subst (λ (k : ℕ). Good (requested k (argument_at p ends 0) (argument_at p ends 1) (argument_at p ends 2))) q (good_arguments p ends kind e))
 
   pub cant_do_name : (f : Bytes) → kind ≡ 2 → f ≡ argument_at p ends 0 → fits function f ≡ true
-  cant_do_name f q g = rw g (cant_do_fits p ends (e ∙ ap (λ (k : ℕ). RV.Packet k ends) q))
+  cant_do_name f q g = rw g (cant_do_fits p ends (e ∙ ap (λ (k : ℕ). found k ends) q))
 
   module _ (submits : Submits kind) where
     submitted : Submitted (priority_of kind) (argument_at p ends 0) (argument_at p ends 1) (length (argument_at p ends 2))
@@ -149,7 +142,7 @@ Says how k = (a b d : Bytes) → requested k a b d ≡ work how k a [] []
 
 -- ---- the plan of a request that was read
 
-module _ (b p : Bytes) (c kind : ℕ) (ends : Ends) (e : answer_of (read requests p) ≡ RV.Packet kind ends) where
+module _ (b p : Bytes) (c kind : ℕ) (ends : Ends) (e : answer_of (read requests p) ≡ found kind ends) where
   abbrev v : V'.Values
   v = values_of (table_of connection_count b)
 
@@ -193,56 +186,56 @@ module _ (b p : Bytes) (c kind : ℕ) (ends : Ends) (e : answer_of (read request
   plan_echo r q h = typed 16 r q h
 
   module _ (first : Bytes) (ef : first ≡ argument 0) where
-    pub plan_can_do_lem : (place : Place) (r : Plan) → kind ≡ 1 → place ≡ placed (room_for (table_of connection_count b).functions first) → r ≡ plan_can_do (unplaced place) c v → Answers r
+    pub plan_can_do_lem : (place : Option ℕ) (r : Plan) → kind ≡ 1 → place ≡ room_for (table_of connection_count b).functions first → r ≡ plan_can_do place c v → Answers r
     unfolding requested plan_served
-    plan_can_do_lem place r q g h = typed 1 r q (h ∙ rw (searched (room_for (table_of connection_count b).functions first) place g, ef))
+    plan_can_do_lem place r q g h = typed 1 r q (h ∙ rw (g, ef))
 
-    pub plan_cant_do_lem : (place : Place) (r : Plan) → kind ≡ 2 → place ≡ placed (known (table_of connection_count b).functions first) → r ≡ plan_cant_do (unplaced place) c v → Answers r
+    pub plan_cant_do_lem : (place : Option ℕ) (r : Plan) → kind ≡ 2 → place ≡ known (table_of connection_count b).functions first → r ≡ plan_cant_do place c v → Answers r
     unfolding requested plan_served
-    plan_cant_do_lem place r q g h = typed 2 r q (h ∙ rw (searched (known (table_of connection_count b).functions first) place g, ef))
+    plan_cant_do_lem place r q g h = typed 2 r q (h ∙ rw (g, ef))
 
     pub plan_option_lem : (served : Bool) (r : Plan) → kind ≡ 26 → served ≡ same first exceptions_name → r ≡ plan_option served c v → Answers r
     unfolding requested plan_served
     plan_option_lem served r q g h = typed 26 r q (h ∙ rw (g, ef))
 
-    pub plan_status_lem : (place : Place) (r : Plan) → kind ≡ 15 → place ≡ placed (job_of (table_of connection_count b) first) → r ≡ plan_status (unplaced place) → Answers r
+    pub plan_status_lem : (place : Option ℕ) (r : Plan) → kind ≡ 15 → place ≡ job_of (table_of connection_count b) first → r ≡ plan_status place → Answers r
     unfolding requested plan_served
-    plan_status_lem place r q g h = typed 15 r q (h ∙ rw (searched (job_of (table_of connection_count b) first) place g, ef))
+    plan_status_lem place r q g h = typed 15 r q (h ∙ rw (g, ef))
 
     -- what a worker says of its job, held by the connection at this place
-    module _ (place : Place) (held : place ≡ placed (held_job_of (table_of connection_count b) c first)) (r : Plan) where
+    module _ (place : Option ℕ) (held : place ≡ held_job_of (table_of connection_count b) c first) (r : Plan) where
       plan_work_lem : (how : Work) (numerator denominator : Bytes) → requested kind (argument 0) (argument 1) (argument 2) ≡ work how kind (argument 0) numerator denominator
-          → r ≡ plan_work (unplaced place) how v → Answers r
+          → r ≡ plan_work place how v → Answers r
       unfolding plan_served
       plan_work_lem how numerator denominator q h =
-          typed kind r refl (h ∙ rw (searched (held_job_of (table_of connection_count b) c first) place held, q, ef))
+          typed kind r refl (h ∙ rw (held, q, ef))
 
-      pub plan_reports : kind ≡ 12 → r ≡ plan_work (unplaced place) A.reports v → Answers r
+      pub plan_reports : kind ≡ 12 → r ≡ plan_work place A.reports v → Answers r
       unfolding requested
       plan_reports q = plan_work_lem A.reports (argument 1) (argument 2) (rw q)
 
-      pub plan_throws : kind ≡ 25 → r ≡ plan_work (unplaced place) A.throws v → Answers r
+      pub plan_throws : kind ≡ 25 → r ≡ plan_work place A.throws v → Answers r
       unfolding requested
       plan_throws q = plan_work_lem A.throws [] [] (rw q)
 
-      pub plan_ends : 12 ≤ kind → (kind ≡ 12 → ⊥) → kind < 15 → r ≡ plan_work (unplaced place) A.ends v → Answers r
+      pub plan_ends : 12 ≤ kind → (kind ≡ 12 → ⊥) → kind < 15 → r ≡ plan_work place A.ends v → Answers r
       unfolding requested
       plan_ends h n l = plan_work_lem A.ends [] [] (in_run (Says A.ends) 13 2 ((λ a b d. refl), ((λ a b d. refl), tt)) kind (omega arith) l (argument 0) (argument 1) (argument 2))
 
-      pub plan_tells : 28 ≤ kind → kind < 30 → r ≡ plan_work (unplaced place) A.tells v → Answers r
+      pub plan_tells : 28 ≤ kind → kind < 30 → r ≡ plan_work place A.tells v → Answers r
       unfolding requested
       plan_tells h l = plan_work_lem A.tells [] [] (in_run (Says A.tells) 28 2 ((λ a b d. refl), ((λ a b d. refl), tt)) kind h l (argument 0) (argument 1) (argument 2))
 
   -- a submission, from the three places and the type's row
-  pub plan_submit_lem : Submits kind → (f u w : Bytes) (joins room free : Place) (row : Kind) (r : Plan) → f ≡ argument 0 → u ≡ argument 1 → w ≡ argument 2 → row ≡ kind_of kind
-      → joins ≡ placed (joined (table_of connection_count b) f u) → room ≡ placed (room_for (table_of connection_count b).functions f) → free ≡ placed (free_row (rows_of (table_of connection_count b)))
-      → r ≡ plan_submit (unplaced joins) (unplaced room) (unplaced free) c row.3 row.4 (length w) v → Answers r
+  pub plan_submit_lem : Submits kind → (f u w : Bytes) (joins room free : Option ℕ) (row : Kind) (r : Plan) → f ≡ argument 0 → u ≡ argument 1 → w ≡ argument 2 → row ≡ kind_of kind
+      → joins ≡ (joined (table_of connection_count b) f u) → room ≡ (room_for (table_of connection_count b).functions f) → free ≡ (free_row (rows_of (table_of connection_count b)))
+      → r ≡ plan_submit joins room free c row.priority row.background (length w) v → Answers r
   unfolding plan_served kind_of
   plan_submit_lem submits f u w joins room free row r ef eu ew er gj gr gf h =
       typed kind r refl (h ∙ rw (
-        searched (joined (table_of connection_count b) f u) joins gj,
-        searched (room_for (table_of connection_count b).functions f) room gr,
-        searched (free_row (rows_of (table_of connection_count b))) free gf,
+        gj,
+        gr,
+        gf,
         submits,
         er,
         ef,

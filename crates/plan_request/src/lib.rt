@@ -3,52 +3,48 @@
 #![tactic(auto)]
 
 ghost use Rattle.std.specs.Prelude.{◌≡◌, true, ◌≤◌, ◌<◌, length};
-ghost use Rattle.packet.specs.declared.Read.TheVariants as RV;
 ghost use Rattle.packet.specs.Packet.{read, requests};
-ghost use Rattle.packet.specs.Answers.{answer_of};
+ghost use Rattle.packet.specs.Answers.{answer_of, found};
 ghost use Rattle.server.specs.Sizes.{connection_count};
 ghost use Rattle.server.specs.Table.{best, job_of};
 ghost use Rattle.server.specs.Requests.{request_in};
 ghost use Rattle.server.specs.Events.{held_job_of};
 ghost use Rattle.server.specs.Layout.{table_of, table_size};
 ghost use Rattle.server.specs.Call.{is_sound};
-ghost use Rattle.lists.specs.Places.{placed};
 ghost use Rattle.plan.specs.Values.{values_of};
 ghost use Rattle.plan.specs.Plans.{plan_grab, plan_served};
 ghost use Rattle.plan_request.specs.Submissions.{Submits};
 
-use handle::Serial;
-use lists::Place;
 use packet::Ends;
 use plan::{Change, Order, Plan, Step};
 use plan_events::Work;
 
 // The place of the job that connection c holds under this handle: nowhere, where the text is no handle of this hub.
-fn held(table: &[u8], c: usize, handle: &[u8]) -> Place
+fn held(table: &[u8], c: usize, handle: &[u8]) -> Option<usize>
     requires { (is_sound connection_count table.now ≡ true) × (table_size connection_count ≤ length table.now) × (c < connection_count) }
-    ensures { result ≡ placed (held_job_of (table_of connection_count table.now) c handle.now) }
+    ensures { result ≡ held_job_of (table_of connection_count table.now) c handle.now }
 {
     match handle::serial_of(table_texts::hub_of(table), handle) {
-        Serial::Of(serial) => plan_find_rows::held_row(table, c, serial),
-        Serial::None => Place::Nowhere,
+        Some(serial) => plan_find_rows::held_row(table, c, serial),
+        None => None,
     }
 }
 
 // The place of the unfinished job with this handle, whoever holds it: nowhere, where the text is no handle of this hub.
-fn found(table: &[u8], handle: &[u8]) -> Place
+fn found(table: &[u8], handle: &[u8]) -> Option<usize>
     requires { (is_sound connection_count table.now ≡ true) × (table_size connection_count ≤ length table.now) }
-    ensures { result ≡ placed (job_of (table_of connection_count table.now) handle.now) }
+    ensures { result ≡ job_of (table_of connection_count table.now) handle.now }
 {
     match handle::serial_of(table_texts::hub_of(table), handle) {
-        Serial::Of(serial) => plan_find_rows::serial_row(table, serial),
-        Serial::None => Place::Nowhere,
+        Some(serial) => plan_find_rows::serial_row(table, serial),
+        None => None,
     }
 }
 
 // The plan of a submission: it joins an unfinished job, or is a new one.
 fn submit(table: &[u8], c: usize, kind: u32, packet: &[u8], ends: Ends) -> Plan
     requires { (is_sound connection_count table.now ≡ true) × (table_size connection_count ≤ length table.now) × (c < connection_count)
-        × (answer_of (read requests packet.now) ≡ RV.Packet kind ends) × Submits kind }
+        × (answer_of (read requests packet.now) ≡ found kind ends) × Submits kind }
     ensures { result ≡ plan_served c (request_in packet.now) (table_of connection_count table.now) }
 {
     let f = packet_read::argument(packet, ends, 0);
@@ -65,8 +61,8 @@ fn submit(table: &[u8], c: usize, kind: u32, packet: &[u8], ends: Ends) -> Plan
         room,
         free,
         c,
-        row.3,
-        row.4,
+        row.priority,
+        row.background,
         workload.len() as u16,
     )
 }
@@ -81,7 +77,7 @@ fn grab(table: &[u8], uniq: bool, c: usize) -> Plan
 
 // The plan of a request that was read.
 pub fn plan_request(table: &[u8], c: usize, kind: u32, packet: &[u8], ends: Ends) -> Plan
-    requires { (is_sound connection_count table.now ≡ true) × (table_size connection_count ≤ length table.now) × (c < connection_count) × (answer_of (read requests packet.now) ≡ RV.Packet kind ends) }
+    requires { (is_sound connection_count table.now ≡ true) × (table_size connection_count ≤ length table.now) × (c < connection_count) × (answer_of (read requests packet.now) ≡ found kind ends) }
     ensures { result ≡ plan_served c (request_in packet.now) (table_of connection_count table.now) }
 {
     let first = packet_read::argument(packet, ends, 0);

@@ -15,10 +15,7 @@ use server::{CONNECTIONS, Connection, FUNCTIONS, JOBS, JobRow};
 pub fn row_at(rows: [JobRow; JOBS], p: usize) -> JobRow
     ensures { result ≡ get_or rows p no_row }
 {
-    if JOBS <= p {
-        return server::no_row();
-    }
-    rows[p]
+    rows.get(p).copied().unwrap_or(server::no_row())
 }
 
 // The connections with another row at a place.
@@ -41,9 +38,7 @@ pub fn set_connection(
 pub fn with_able(v: Values, able: [u32; FUNCTIONS]) -> Values
     ensures { result ≡ with_ables able v }
 {
-    let mut next = v;
-    next.able = able;
-    next
+    Values { able, ..v }
 }
 
 // The row with a submitter more: in the background, or among the listeners.

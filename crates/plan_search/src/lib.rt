@@ -3,10 +3,8 @@
 
 ghost use Rattle.std.specs.Prelude.{◌≡◌, ◌&&◌, get_or, eqb};
 ghost use Rattle.server.specs.Table.{live, queued};
-ghost use Rattle.lists.specs.Places.{placed};
 ghost use Rattle.plan.specs.Values.{serial_row};
 
-use lists::Place;
 use server::{FUNCTIONS, JOBS, JobRow};
 
 // Whether an unfinished job stands here.
@@ -34,24 +32,12 @@ fn has_serial(r: JobRow, serial: u32) -> bool
 pub fn able_to(able: [u32; FUNCTIONS], q: u8) -> u32
     ensures { result ≡ get_or able q 0 }
 {
-    let i = q as usize;
-    if FUNCTIONS <= i {
-        return 0;
-    }
-    able[i]
+    able.get(q as usize).copied().unwrap_or(0)
 }
 
 // The place of the unfinished job with this serial.
-pub fn serial_row(rows: [JobRow; JOBS], serial: u32) -> Place
-    ensures { result ≡ placed (serial_row serial rows) }
+pub fn serial_row(rows: [JobRow; JOBS], serial: u32) -> Option<usize>
+    ensures { result ≡ serial_row serial rows }
 {
-    let mut i = 0;
-    while i < JOBS {
-        let r = rows[i];
-        if has_serial(r, serial) {
-            return Place::At(i);
-        }
-        i += 1;
-    }
-    Place::Nowhere
+    rows.iter().position(|r| has_serial(*r, serial))
 }

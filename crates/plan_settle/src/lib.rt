@@ -35,11 +35,8 @@ pub fn dropped(rows: [JobRow; JOBS]) -> [JobRow; JOBS]
     ensures { result ≡ dropped_rows rows }
 {
     let mut kept = rows;
-    let mut i = 0;
-    while i < JOBS {
-        let r = rows[i];
-        kept[i] = unless_lost(r);
-        i += 1;
+    for i in 0..JOBS {
+        kept[i] = unless_lost(rows[i]);
     }
     kept
 }
@@ -59,11 +56,8 @@ pub fn busy(able: [u32; FUNCTIONS], rows: [JobRow; JOBS]) -> u32
     ensures { result ≡ busy_set able rows }
 {
     let mut s = 0;
-    let mut i = 0;
-    while i < JOBS {
-        let r = rows[i];
+    for r in rows {
         s = sets::union(s, able_for(able, r));
-        i += 1;
     }
     s
 }
@@ -80,11 +74,8 @@ pub fn woken(connections: [Connection; CONNECTIONS], busy: u32) -> [Connection; 
     ensures { result ≡ woken_by busy connections }
 {
     let mut next = connections;
-    let mut i = 0;
-    while i < CONNECTIONS {
-        let x = connections[i];
-        next[i] = roused(x, sets::has(busy, i));
-        i += 1;
+    for i in 0..CONNECTIONS {
+        next[i] = roused(connections[i], sets::has(busy, i));
     }
     next
 }
@@ -105,11 +96,8 @@ pub fn to_wake(connections: [Connection; CONNECTIONS], busy: u32) -> u32
     ensures { result ≡ to_wake_set busy connections }
 {
     let mut s = 0;
-    let mut i = 0;
-    while i < CONNECTIONS {
-        let x = connections[i];
-        s = sets::union(s, waking(x, busy, i));
-        i += 1;
+    for i in 0..CONNECTIONS {
+        s = sets::union(s, waking(connections[i], busy, i));
     }
     s
 }
@@ -130,11 +118,8 @@ fn named(rows: [JobRow; JOBS]) -> u32
     ensures { result ≡ named_set rows }
 {
     let mut s = 0;
-    let mut i = 0;
-    while i < JOBS {
-        let r = rows[i];
+    for r in rows {
         s = sets::union(s, name_of(r));
-        i += 1;
     }
     s
 }
@@ -145,10 +130,8 @@ pub fn wanted(able: [u32; FUNCTIONS], rows: [JobRow; JOBS]) -> [bool; FUNCTIONS]
 {
     let s = named(rows);
     let mut marks = [false; FUNCTIONS];
-    let mut i = 0;
-    while i < FUNCTIONS {
+    for i in 0..FUNCTIONS {
         marks[i] = (able[i] != 0) | sets::has(s, i);
-        i += 1;
     }
     marks
 }
@@ -157,13 +140,14 @@ pub fn wanted(able: [u32; FUNCTIONS], rows: [JobRow; JOBS]) -> [bool; FUNCTIONS]
 pub fn settled(v: Values) -> Values
     ensures { result ≡ settled_values v }
 {
-    let before = v.rows;
     let able = v.able;
+    let before = v.rows;
     let sleeping = v.connections;
     let rows = dropped(before);
     let connections = woken(sleeping, busy(able, rows));
-    let mut next = v;
-    next.connections = connections;
-    next.rows = rows;
-    next
+    Values {
+        connections,
+        rows,
+        ..v
+    }
 }

@@ -1,27 +1,15 @@
--- What is printed of a byte, by the tests of the code; and a text laid as it is printed, byte by byte: what the start, one turn and the end
--- of that loop add. Assumes nothing.
+-- A text laid as it is printed, byte by byte: what the start, one turn and the end of that loop add. Assumes nothing.
 use Prim.Native.Nat.{ℕ, zero, suc, ◌+◌, ◌<◌, ◌≤◌}
 use mathlib.Core.Path.{◌≡◌, refl, sym, ap, ◌∙◌}
 use mathlib.Core.List.{[], ◌∷◌}
 use native.Mathlib.Nat.{not-suc-le-zero, le_of_suc-le-suc}
 use native.Mathlib.Omega.{arith}
-use borrow.Author.Tests.{le-leb, lt-leb}
 use lib.ListN.{length, get_or, take, set}
 use Rattle.octets.specs.Bytes.{Bytes}
 use Rattle.octets.specs.Put.{put}
 use Rattle.octets.proofs.Laying.{copy_none, copy_more, copy_all}
 use Rattle.prints.specs.Printed.{printed, printed_byte}
 use Rattle.prints.proofs.Printed.{length_printed}
-
-module _ (x : ℕ) where
-  pub low_printed : x < 33 → 63 ≡ printed_byte x
-  low_printed h = rw (lt-leb 33 x h)
-
-  pub high_printed : 33 ≤ x → 126 < x → 63 ≡ printed_byte x
-  high_printed l h = rw (le-leb 33 x l, lt-leb x 126 h)
-
-  pub own_printed : 33 ≤ x → x ≤ 126 → x ≡ printed_byte x
-  own_printed l h = rw (le-leb 33 x l, le-leb x 126 h)
 
 printed_at : (s : Bytes) (i : ℕ) → i < length s → get_or (printed s) i 0 ≡ printed_byte (get_or s i 0)
 unfolding printed
@@ -39,9 +27,8 @@ module _ (b : Bytes) (at : ℕ) (s : Bytes) where
   laid_more o i x e h q =
       ap (λ (y : ℕ). set o (at + i) y) (q ∙ sym (printed_at s i h)) ∙ copy_more b at (printed s) o i e (omega (arith, length_printed s))
 
-  module _ (o : Bytes) (i : ℕ) (h : i ≤ length s) (k : length s ≤ i) where
-    pub laid_end : at + i ≡ at + length (printed s)
-    laid_end = omega (arith, length_printed s)
+  pub laid_end : at + length s ≡ at + length (printed s)
+  laid_end = omega (arith, length_printed s)
 
-    pub laid_all : o ≡ put at (take i (printed s)) b → o ≡ put at (printed s) b
-    laid_all e = copy_all b at (printed s) o i e (omega (arith, length_printed s)) (omega (arith, length_printed s))
+  pub laid_all : (o : Bytes) (i : ℕ) → i ≤ length s → length s ≤ i → o ≡ put at (take i (printed s)) b → o ≡ put at (printed s) b
+  laid_all o i h k e = copy_all b at (printed s) o i e (omega (arith, length_printed s)) (omega (arith, length_printed s))

@@ -22,13 +22,10 @@ pub fn put_number(out: &mut [u8], at: usize, number: u32) -> usize
 fn printed_byte(x: u8) -> u8
     ensures { result ≡ printed_byte x }
 {
-    if x < 33 {
-        return b'?';
+    match x {
+        33..=126 => x,
+        _ => b'?',
     }
-    if 126 < x {
-        return b'?';
-    }
-    x
 }
 
 // Lays a text as it is printed.
@@ -36,12 +33,10 @@ pub fn put_printed(out: &mut [u8], at: usize, text: &[u8]) -> usize
     requires { at + length (printed text.now) ≤ length out.old }
     ensures { (result ≡ at + length (printed text.now)) × (out.new ≡ put at (printed text.now) out.old) }
 {
-    let mut i = 0;
-    while i < text.len() {
-        out[at + i] = printed_byte(text[i]);
-        i += 1;
+    for (i, x) in text.iter().enumerate() {
+        out[at + i] = printed_byte(*x);
     }
-    at + i
+    at + text.len()
 }
 
 // Lays a text as it is printed, or what stands for the empty one.
@@ -50,7 +45,7 @@ pub fn put_printed_or(out: &mut [u8], at: usize, none: &[u8], text: &[u8]) -> us
     ensures { (result ≡ at + length (printed_or none.now text.now))
         × (out.new ≡ put at (printed_or none.now text.now) out.old) }
 {
-    if text.len() == 0 {
+    if text.is_empty() {
         return octets::put(out, at, none);
     }
     put_printed(out, at, text)

@@ -1,7 +1,7 @@
 -- How laying lines of digits meets the definition: one line, and the lines of an answer. Assumes nothing.
 use Prim.Native.Nat.{ℕ, ◌+◌, ◌*◌, ◌≤◌}
 use mathlib.Core.Path.{◌≡◌, refl, ap}
-use mathlib.Core.Option.{none}
+use Rattle.std.specs.Prelude.{None}
 use mathlib.Core.List.{List, [], ◌∷◌, ◌++◌}
 use native.Mathlib.Omega.{arith}
 use lib.ListN.{length, length-append}
@@ -45,7 +45,7 @@ unfolding answer_lines packet_lines hex
 lines_answer ps n = refl
 
 -- what isn't a frame is answered by 16 alone
-pub no_frame_digits : (u t : Table) → in_digits none [] 16 u t ≡ no_frame
+pub no_frame_digits : (u t : Table) → in_digits None [] 16 u t ≡ no_frame
 unfolding answer_lines
 no_frame_digits u t = refl
 

@@ -3,7 +3,7 @@
 use Prim.Native.Nat.{ℕ, suc, ◌<◌, ◌≤◌}
 use mathlib.Core.Path.{◌≡◌, refl, ap, ap₂, ◌∙◌}
 use mathlib.Core.Bool.{true}
-use mathlib.Core.Option.{Option, none, some}
+use Rattle.std.specs.Prelude.{Option, Some, None}
 use mathlib.Core.List.{List, [], ◌∷◌, ◌++◌}
 use native.Mathlib.Omega.{arith}
 use lib.ListN.{length, length-append}
@@ -32,8 +32,8 @@ digits_fit f ps n u t g a h =
 
 line_written : (f : Option Event) (s : Server) → spoken_to in_digits f s ≡ line_writes f s
 unfolding answer_lines
-line_written none s = refl
-line_written (some e) s = refl
+line_written None s = refl
+line_written (Some e) s = refl
 
 spoken_written : (k : ℕ) (lines : List Bytes) (s : Server) → spoken (λ m. in_digits) k lines s ≡ replay_from s lines
 unfolding spoken replay_from

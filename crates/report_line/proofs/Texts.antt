@@ -3,7 +3,7 @@
 use Prim.Native.Nat.{ℕ, ◌<◌, ◌≤◌}
 use mathlib.Core.Path.{◌≡◌, refl, ap, ap₂, ◌∙◌}
 use mathlib.Core.Bool.{true, false}
-use mathlib.Core.Option.{Option, none, some}
+use Rattle.std.specs.Prelude.{Option, Some, None}
 use mathlib.Core.List.{List, [], ◌∷◌, ◌++◌, map}
 use native.Mathlib.Omega.{arith}
 use borrow.Author.Tests.{le-ltb}
@@ -50,18 +50,18 @@ module _ (t w : Bytes) (lt : table_size connection_count ≤ length t) (lw : wor
 
     table_left_lem : (f : Option Event) → (leaves f).table ≡ table_with (server_after f s) t
     unfolding leaves answered_to refused_by performed
-    table_left_lem none = refl
-    table_left_lem (some e) = ap (λ (r : Result). r.table) (call_follows connection_count (omega arith) s h t w lt lw e o lo)
+    table_left_lem None = refl
+    table_left_lem (Some e) = ap (λ (r : Result). r.table) (call_follows connection_count (omega arith) s h t w lt lw e o lo)
 
     workloads_left_lem : (f : Option Event) → (leaves f).workloads ≡ workloads_with (server_after f s) w
     unfolding leaves answered_to refused_by performed
-    workloads_left_lem none = refl
-    workloads_left_lem (some e) = ap (λ (r : Result). r.workloads) (call_follows connection_count (omega arith) s h t w lt lw e o lo)
+    workloads_left_lem None = refl
+    workloads_left_lem (Some e) = ap (λ (r : Result). r.workloads) (call_follows connection_count (omega arith) s h t w lt lw e o lo)
 
     long_left : (f : Option Event) → output_size connection_count ≤ length (leaves f).output
     unfolding leaves answered_to refused_by performed
-    long_left none = lo
-    long_left (some e) = rw (call_follows connection_count (omega arith) s h t w lt lw e o lo, length_put) lo
+    long_left None = lo
+    long_left (Some e) = rw (call_follows connection_count (omega arith) s h t w lt lw e o lo, length_put) lo
 
   kept_follows : (lines : List Bytes) (s : Server) → Running connection_count s → (o : Bytes) → output_size connection_count ≤ length o
       → (kept_all lines (table_with s t) (workloads_with s w) o).table ≡ table_with (server_after_all lines s) t

@@ -1,7 +1,6 @@
 -- What is done: the number, the packets to send and the next table. 01, "Refusal numbers" and "Jobs and the queue"; 02, asks 1, 3 and 5.
 -- Nothing here sees an opaque byte. Assumes nothing.
-use Rattle.std.specs.Prelude.{ℕ, suc, ◌+◌, ◌/◌, ◌%◌, Bool, true, false, not, cond, ◌&&◌, List, [], ◌∷◌, ◌++◌, map, length, get_or, ltb, eqb}
-use Rattle.std.proofs.Math.Option.{Option, none, some}
+use Rattle.std.specs.Prelude.{ℕ, suc, ◌+◌, ◌/◌, ◌%◌, Bool, true, false, not, cond, ◌&&◌, List, [], ◌∷◌, ◌++◌, map, length, get_or, ltb, eqb, Option, Some, None}
 use Rattle.octets.specs.Bytes.{Bytes, same, text}
 use Rattle.handle.specs.Handle.{handle}
 use Rattle.sets.specs.Sets.{insert, remove, is_empty, members}
@@ -115,13 +114,13 @@ able_to c f x = with_name f (with_able (insert x.able c) x)
 -- 01: "11: CAN_DO or a new job names an unknown function while 16 are known"
 -- 01: "CAN_DO by a sleeper with such a job answers NOOP and wakes it": at the end of the event
 unfoldable pub can_do_at : Option ℕ → ℕ → Bytes → Table → Decision
-can_do_at none c f t = refuse c 11 t
-can_do_at (some q) c f t = settle [] (set_function t q (able_to c f (function_at t q)))
+can_do_at None c f t = refuse c 11 t
+can_do_at (Some q) c f t = settle [] (set_function t q (able_to c f (function_at t q)))
 
 -- 01: "Giving up an ability leaves held jobs."
 unfoldable pub cant_do_at : Option ℕ → ℕ → Table → Decision
-cant_do_at none c t = settle [] t
-cant_do_at (some q) c t = settle [] (set_function t q (unable c (function_at t q)))
+cant_do_at None c t = settle [] t
+cant_do_at (Some q) c t = settle [] (set_function t q (unable c (function_at t q)))
 
 unfoldable pub unable_to_all : ℕ → Table → Table
 unable_to_all c t = with_functions (map (unable c) t.functions) t
@@ -134,8 +133,8 @@ sleeping b c t = set_connection t c (with_asleep b (connection_at t c))
 
 -- 01: "Grabbing ends sleep." "NO_JOB exactly if there is none. A connection may hold several."
 unfoldable pub grab_at : Option ℕ → Bool → ℕ → Table → Decision
-grab_at none uniq c t = settle (plain c 10 [] ∷ []) t
-grab_at (some p) uniq c t = settle (assign uniq c p ∷ []) (set_job t p (with_row (with_holder (suc c) (job_at t p).row) (job_at t p)))
+grab_at None uniq c t = settle (plain c 10 [] ∷ []) t
+grab_at (Some p) uniq c t = settle (assign uniq c p ∷ []) (set_job t p (with_row (with_holder (suc c) (job_at t p).row) (job_at t p)))
 
 -- ---- submissions
 
@@ -158,18 +157,18 @@ accepted q f p j t = with_last_serial (suc t.last) (set_job (set_function t q (w
 -- refusals 11 to 13 in order: a place for the function, a place for the job, a serial. 01: "JOB_CREATED goes out first. For a new job, NOOP
 -- then goes to each sleeper able to do it": at the end of the event
 unfoldable pub submit_new : Option ℕ → Option ℕ → ℕ → ℕ → Bool → Bytes → Bytes → ℕ → Table → Decision
-submit_new none place c priority background f u size t = refuse c 11 t
-submit_new (some q) none c priority background f u size t = refuse c 12 t
-submit_new (some q) (some p) c priority background f u size t =
+submit_new None place c priority background f u size t = refuse c 11 t
+submit_new (Some q) None c priority background f u size t = refuse c 12 t
+submit_new (Some q) (Some p) c priority background f u size t =
     cond (ltb t.last 4294967295)
     (settle (created t.hub c (suc t.last) ∷ []) (accepted q f p (new_job c priority background q u size (suc t.last)) t))
     (refuse c 13 t)
 
 -- 01: a join: "its own workload and priority are dropped; refusals 11 to 13 don't apply"
 unfoldable pub submit_to : Option ℕ → ℕ → ℕ → Bool → Bytes → Bytes → ℕ → Table → Decision
-submit_to (some p) c priority background f u size t =
+submit_to (Some p) c priority background f u size t =
     settle (created t.hub c (job_at t p).row.serial ∷ []) (set_job t p (with_row (submitted_by c background (job_at t p).row) (job_at t p)))
-submit_to none c priority background f u size t = submit_new (room_for t.functions f) (free_place t) c priority background f u size t
+submit_to None c priority background f u size t = submit_new (room_for t.functions f) (free_place t) c priority background f u size t
 
 -- ---- worker packets
 
@@ -215,8 +214,8 @@ worked ends n d j = no_job
 worked throws n d j = no_job
 
 unfoldable pub work_at : Option ℕ → Work → ℕ → ℕ → Bytes → Bytes → Table → Decision
-work_at none how kind c n d t = refuse c 14 t
-work_at (some p) how kind c n d t =
+work_at None how kind c n d t = refuse c 14 t
+work_at (Some p) how kind c n d t =
     settle (to_listeners how kind t (job_at t p).row) (set_job t p (worked how n d (job_at t p)))
 
 -- ---- status, options
@@ -226,8 +225,8 @@ flag b = cond b 49 48 ∷ []
 
 -- 01: "for an unfinished job known 1, running 1 if held, and the stored texts [..]; otherwise 0, 0, 0, 0 with the handle as asked"
 abbrev pub status_of : Option ℕ → Bytes → Table → List Bytes
-status_of none h t = h ∷ flag false ∷ flag false ∷ flag false ∷ flag false ∷ []
-status_of (some p) h t = h ∷ flag true ∷ flag (not (eqb (job_at t p).row.holder 0)) ∷ (job_at t p).numerator ∷ (job_at t p).denominator ∷ []
+status_of None h t = h ∷ flag false ∷ flag false ∷ flag false ∷ flag false ∷ []
+status_of (Some p) h t = h ∷ flag true ∷ flag (not (eqb (job_at t p).row.holder 0)) ∷ (job_at t p).numerator ∷ (job_at t p).denominator ∷ []
 
 unfoldable pub status_at : Option ℕ → ℕ → Bytes → Table → Decision
 status_at o c h t = settle (plain c 20 (status_of o h t) ∷ []) t

@@ -1,6 +1,5 @@
 -- The replay program's lines. 01, "Replay program": lines of lowercase hexadecimal, one frame a line. Assumes nothing.
-use Rattle.std.specs.Prelude.{ℕ, cond, List, [], ◌∷◌, ◌++◌, map, length, leb, eqb}
-use Rattle.std.proofs.Math.Option.{Option, none, some}
+use Rattle.std.specs.Prelude.{ℕ, cond, List, [], ◌∷◌, ◌++◌, map, length, leb, eqb, Option, Some, None}
 use Rattle.octets.specs.Bytes.{Bytes}
 use Rattle.handle.specs.Handle.{lap}
 use Rattle.hexadecimal.specs.Hex.{unhex, hex_byte, hex}
@@ -14,11 +13,11 @@ use Rattle.server.specs.Server.{Server, addressed, answer, next, start}
 
 -- "a kind byte (01 open, 02 close, 03 packet), a connection byte, and for 03 alone the packet's bytes, none or more"
 abbrev pub framed : Option Bytes → Option Event
-framed none = none
-framed (some []) = none
-framed (some (k ∷ [])) = none
-framed (some (k ∷ (c ∷ []))) = cond (eqb k 1) (some (opens c)) (cond (eqb k 2) (some (closes c)) (cond (eqb k 3) (some (sends c [])) none))
-framed (some (k ∷ (c ∷ (x ∷ b)))) = cond (eqb k 3) (some (sends c (x ∷ b))) none
+framed None = None
+framed (Some []) = None
+framed (Some (k ∷ [])) = None
+framed (Some (k ∷ (c ∷ []))) = cond (eqb k 1) (Some (opens c)) (cond (eqb k 2) (Some (closes c)) (cond (eqb k 3) (Some (sends c [])) None))
+framed (Some (k ∷ (c ∷ (x ∷ b)))) = cond (eqb k 3) (Some (sends c (x ∷ b))) None
 
 -- "At most 2,080 digits."
 abbrev pub longest_line : ℕ
@@ -26,7 +25,7 @@ longest_line = 2080
 
 -- none: the line isn't a frame, 16
 unfoldable pub frame : Bytes → Option Event
-frame line = cond (leb (length line) longest_line) (framed (unhex line)) none
+frame line = cond (leb (length line) longest_line) (framed (unhex line)) None
 
 -- ---- an answer to its lines
 
@@ -42,13 +41,13 @@ no_frame = 49 ∷ 48 ∷ 10 ∷ []
 
 -- what a line writes: its event's answer; 16 alone, where it isn't a frame
 abbrev pub line_writes : Option Event → Server → Bytes
-line_writes none s = no_frame
-line_writes (some e) s = answer_lines (map addressed (answer e s).sent) (answer e s).number
+line_writes None s = no_frame
+line_writes (Some e) s = answer_lines (map addressed (answer e s).sent) (answer e s).number
 
 -- what isn't a frame the server does not see
 abbrev pub server_after : Option Event → Server → Server
-server_after none s = s
-server_after (some e) s = next e s
+server_after None s = s
+server_after (Some e) s = next e s
 
 unfoldable pub replay_from : Server → List Bytes → Bytes
 replay_from s [] = []

@@ -1,7 +1,6 @@
 -- The table: connections, known functions and unfinished jobs, and what can be read off it. 01, "Jobs and the queue".
 -- The number of connections is the length of their list: the product's number stands in `Sizes`. Assumes nothing.
-use Rattle.std.specs.Prelude.{ℕ, suc, ◌+◌, ◌-◌, ◌*◌, max, Bool, true, false, not, cond, ◌&&◌, ◌||◌, List, [], ◌∷◌, map, get_or, set, replicate, eqb}
-use Rattle.std.proofs.Math.Option.{Option, none, some}
+use Rattle.std.specs.Prelude.{ℕ, suc, ◌+◌, ◌-◌, ◌*◌, max, Bool, true, false, not, cond, ◌&&◌, ◌||◌, List, [], ◌∷◌, map, get_or, set, replicate, eqb, Option, Some, None}
 use Rattle.octets.specs.Bytes.{Bytes, same}
 use Rattle.handle.specs.Handle.{handle}
 use Rattle.sets.specs.Sets.{has, is_empty}
@@ -180,8 +179,8 @@ abbrev pub known : List Function → Bytes → Option ℕ
 known fs f = find (λ x. same x.name f) fs
 
 abbrev pub or_else : Option ℕ → Option ℕ → Option ℕ
-or_else (some q) o = some q
-or_else none o = o
+or_else (Some q) o = Some q
+or_else None o = o
 
 -- the lowest place without a name
 abbrev pub free_function : List Function → Option ℕ

@@ -80,7 +80,8 @@ pub struct Connection {
     pub exceptions: bool,
 }
 
-// The numbers of a job's row. A free row has serial 0 and is zero throughout.
+// The numbers of a job's row, as the table's bytes hold them and every definition of a row reads them: 0 is no job and no holder, and a
+// priority is a rank. A free row has serial 0 and is zero throughout.
 #[derive(Clone, Copy)]
 pub struct JobRow {
     pub serial: u32,
@@ -111,8 +112,7 @@ pub fn just_opened() -> Connection
 {
     Connection {
         opened: true,
-        asleep: false,
-        exceptions: false,
+        ..closed()
     }
 }
 
@@ -120,18 +120,14 @@ pub fn just_opened() -> Connection
 pub fn with_asleep(x: Connection, asleep: bool) -> Connection
     ensures { result ≡ with_asleep asleep x }
 {
-    let mut next = x;
-    next.asleep = asleep;
-    next
+    Connection { asleep, ..x }
 }
 
 // The connection with the option `exceptions` or without it.
 pub fn with_exceptions(x: Connection, exceptions: bool) -> Connection
     ensures { result ≡ with_exceptions exceptions x }
 {
-    let mut next = x;
-    next.exceptions = exceptions;
-    next
+    Connection { exceptions, ..x }
 }
 
 // A free row.
@@ -157,10 +153,8 @@ pub fn fresh_row(serial: u32, function: u8, priority: u8, size: u16) -> JobRow
         serial,
         function,
         priority,
-        background: false,
-        listeners: 0,
-        holder: 0,
         size,
+        ..no_row()
     }
 }
 
@@ -168,27 +162,24 @@ pub fn fresh_row(serial: u32, function: u8, priority: u8, size: u16) -> JobRow
 pub fn in_background(row: JobRow) -> JobRow
     ensures { result ≡ in_background row }
 {
-    let mut next = row;
-    next.background = true;
-    next
+    JobRow {
+        background: true,
+        ..row
+    }
 }
 
 // The row with other listeners.
 pub fn with_listeners(row: JobRow, listeners: u32) -> JobRow
     ensures { result ≡ with_listeners listeners row }
 {
-    let mut next = row;
-    next.listeners = listeners;
-    next
+    JobRow { listeners, ..row }
 }
 
 // The row with another holder: 0 for nobody, else one more than the connection's number.
 pub fn with_holder(row: JobRow, holder: u16) -> JobRow
     ensures { result ≡ with_holder holder row }
 {
-    let mut next = row;
-    next.holder = holder;
-    next
+    JobRow { holder, ..row }
 }
 
 // ---- the product's numbers

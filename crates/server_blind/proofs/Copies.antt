@@ -4,7 +4,7 @@
 use Prim.Native.Nat.{ℕ}
 use mathlib.Core.Path.{◌≡◌, refl, sym, subst}
 use mathlib.Core.Bool.{Bool, true}
-use mathlib.Core.Option.{some}
+use Rattle.std.specs.Prelude.{Some}
 use mathlib.Core.List.{List, map}
 use Rattle.octets.specs.Bytes.{Bytes}
 use Rattle.sets.specs.Sets.{has}
@@ -19,7 +19,7 @@ use Rattle.server_blind.proofs.Alike.{Alike, Like, decided_alike, like_render}
 -- connection l listens to the job with this handle, which connection c holds
 pub record Listens (c : ℕ) (t : Table) (h : Bytes) (l : ℕ) : Type 0 where
   pub place : ℕ
-  pub held : held_job_of t c h ≡ some place
+  pub held : held_job_of t c h ≡ Some place
   pub listens : has (job_at t place).row.listeners l ≡ true
 
 -- connection l may see the opaque bytes of what connection c asks: its own echo, and what is told of a job to which it listens; 02: "a

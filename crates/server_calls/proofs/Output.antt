@@ -3,7 +3,7 @@
 use Prim.Native.Nat.{ℕ, zero, suc, ◌+◌, ◌*◌, ◌<◌, ◌≤◌}
 use mathlib.Core.Path.{◌≡◌, refl, ap}
 use mathlib.Core.Bool.{Bool, true, false, not}
-use mathlib.Core.Option.{Option, none, some}
+use Rattle.std.specs.Prelude.{Option, Some, None}
 use mathlib.Core.List.{List, [], ◌∷◌, ◌++◌, map}
 use native.Mathlib.Nat.{mul-suc}
 use native.Mathlib.Omega.{arith}
@@ -174,10 +174,10 @@ module _ (n : ℕ) (few : n ≤ 256) (e : Event) (s : Server) (h : Running n s) 
   status_at_weight : (c : ℕ) (j : Bytes) (o : Option ℕ) → job_of s.table j ≡ o → length j ≤ 1024
       → decided e s ≡ status_at o c j s.table → weighs e s (status_at o c j s.table).packets ≤ output_size n
   unfolding status_at
-  status_at_weight c j none f l q = one_weight _ s.table q (status_weight e s c j false false (flag false) (flag false) l (omega arith) (omega arith))
-  status_at_weight c j (some p) f l q =
+  status_at_weight c j None f l q = one_weight _ s.table q (status_weight e s c j false false (flag false) (flag false) l (omega arith) (omega arith))
+  status_at_weight c j (Some p) f l q =
       let t = s.table in
-      let i : p < length t.jobs = (found (λ k. has_handle t.hub j k.row) no_job t.jobs (some p) f).inside in
+      let i : p < length t.jobs = (found (λ k. has_handle t.hub j k.row) no_job t.jobs (Some p) f).inside in
       let g = (fitting n (omega arith) s h).jobs p (omega (arith, h.shaped.jobs)) in
       one_weight _ t q (status_weight e s c j true (not (eqb (job_at t p).row.holder 0)) (job_at t p).numerator (job_at t p).denominator l g.numerator.within g.denominator.within)
 

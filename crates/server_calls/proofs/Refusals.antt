@@ -1,7 +1,7 @@
 -- Demand 1, of calls on lent bytes: a call whose number is not 0 leaves table and workloads as they were. By one without a text
 -- nothing is written and the length is 0; by one with a text the output begins with one ERROR packet to the sender, and is unchanged beyond it.
 -- Assumes nothing.
-use Prim.Native.Nat.{ℕ, zero, suc, ◌-◌, ◌≤◌}
+use Prim.Native.Nat.{ℕ, zero, suc, ◌≤◌}
 use mathlib.Core.Path.{◌≡◌, refl, sym, ap, ◌∙◌}
 use mathlib.Core.Bool.{Bool, true, false, not, cond, ◌&&◌, ◌||◌}
 use mathlib.Core.List.{List, [], ◌∷◌, ◌++◌, append-nil}

@@ -1,11 +1,10 @@
 -- Servers that would meet demand 3 alone, and are wrong. 01: "a server that refuses everything, sends NO_JOB to all, or does nothing";
 -- "One that decides all at the first event breaks it too". Each disagrees with the definition at document 01's replay. Assumes nothing.
-use Prim.Native.Nat.{ℕ, ◌+◌, ◌-◌, ◌/◌, ◌%◌}
+use Prim.Native.Nat.{ℕ, ◌+◌, ◌/◌, ◌%◌}
 use mathlib.Core.Path.{◌≡◌, refl}
 use mathlib.Core.Bool.{Bool, true, false, not, cond, ◌&&◌}
 use mathlib.Core.List.{List, [], ◌∷◌, ◌++◌, map}
-use lib.ListN.{get_or}
-use lib.Dec.{ltb, eqb}
+use lib.Dec.{eqb}
 use Rattle.octets.specs.Bytes.{Bytes, same}
 use Rattle.packet.specs.Packet.{packet}
 use Rattle.lists.specs.Lists.{all, numbers}

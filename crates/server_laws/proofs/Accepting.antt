@@ -3,14 +3,14 @@
 use Prim.Native.Nat.{ℕ, suc, ◌+◌, ◌<◌}
 use mathlib.Core.Path.{◌≡◌, refl, ap, sym, ◌∙◌}
 use mathlib.Core.Bool.{Bool, true, false, not, ◌||◌, and-false}
-use mathlib.Core.Option.{none, some}
+use Rattle.std.specs.Prelude.{Some, None}
 use mathlib.Core.List.{[]}
 use borrow.Author.Tests.{le-leb, not-true}
 use lib.ListN.{length, set, length-set}
 use lib.Dec.{leb, eqb-suc-zero}
 use Rattle.octets.specs.Bytes.{Bytes, same, every, zero_free, within}
 use Rattle.octets.proofs.Strings.{and_left, and_right, and_both, same_refl}
-use Rattle.packet.specs.Layout.{function, unique}
+use Rattle.packet.specs.Layout.{unique}
 use Rattle.packet.specs.Arguments.{fits}
 use Rattle.sets.specs.Sets.{insert, is_empty}
 use Rattle.sets.proofs.Laws.{nonempty, has_insert_same}
@@ -18,7 +18,7 @@ use Rattle.server.specs.declared.JobRow.{JobRow}
 use Rattle.server.specs.Sizes.{unique_size}
 use Rattle.server.specs.Table.{Function, Job, Table, no_function, no_job, function_at, job_at, set_function, live, queued, room_for, joins, joined, fresh_row, with_name}
 use Rattle.server.specs.Events.{lost, submitted_by, new_job, accepted}
-use Rattle.server.specs.Rules.{text_within, together, numbers_in_range, is_open, only_open}
+use Rattle.server.specs.Rules.{text_within, numbers_in_range, is_open, only_open}
 use Rattle.lists.specs.Lists.{implies}
 use Rattle.lists.proofs.Searches.{found}
 use Rattle.lists.proofs.Rows.{clash, implies_by, or_right, all_at, all_row}
@@ -66,7 +66,7 @@ unique_within u e = and_both (leb (length u) 64) (zero_free u) (and_right (leb 0
 
 module _ (c : ℕ) (t : Table) (inside : c < length t.connections) (opened : is_open t c ≡ true)
     (priority : ℕ) (background : Bool) (f u : Bytes) (size q p : ℕ) (g : Submitted priority f u size)
-    (alone : joined t f u ≡ none) (here : room_for t.functions f ≡ some q) (h : Sound t) where
+    (alone : joined t f u ≡ None) (here : room_for t.functions f ≡ Some q) (h : Sound t) where
   -- the function's place, and the table with its name there
   abbrev place : Function
   place = with_name f (function_at t q)
@@ -105,7 +105,7 @@ module _ (c : ℕ) (t : Table) (inside : c < length t.connections) (opened : is_
   no_twin i l w =
       let k = job_at t i in
       let e : (function_at t k.row.function).name ≡ f = name_there space.place i l w.second (sym keeps.function ∙ w.function) in
-      let n : joins t.functions f u k ≡ false = not-true _ (all_at (λ j. not (joins t.functions f u j)) t.jobs i no_job (found (joins t.functions f u) no_job t.jobs none alone) l) in
+      let n : joins t.functions f u k ≡ false = not-true _ (all_at (λ j. not (joins t.functions f u j)) t.jobs i no_job (found (joins t.functions f u) no_job t.jobs None alone) l) in
       let a : same k.unique u ≡ true = rw w.unique (same_refl k.unique) in
       clash (and_both (live k.row) _ w.second (and_both (not (same u [])) _ (ap not w.some_unique) (and_both (same k.unique u) _ a (rw e (same_refl f))))) n
 

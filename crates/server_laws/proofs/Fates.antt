@@ -3,7 +3,7 @@
 use Prim.Native.Nat.{ℕ, suc}
 use mathlib.Core.Path.{◌≡◌, refl}
 use mathlib.Core.Bool.{Bool, true, false, not, ◌||◌, and-false}
-use mathlib.Core.Option.{some}
+use Rattle.std.specs.Prelude.{Some}
 use native.Mathlib.Omega.{arith}
 use borrow.Author.Tests.{ne_eqb, eqb-false, not-true}
 use Rattle.octets.specs.Bytes.{Bytes}
@@ -72,8 +72,8 @@ gone_by {t} {p = p} l n (joins c b priority background f u size o q r) = absurd 
 gone_by l n (taken c b uniq o q r) = absurd (n refl)
 gone_by l n (told c b tells kind h x y o q r) = absurd (n refl)
 gone_by l n (told c b reports kind h x y o q r) = absurd (n refl)
-gone_by {t} {p = p} l n (told c b ends kind h x y o q r) = ended_by c b ends kind h x y o q refl (found (λ j. holds_handle t.hub c h j.row) no_job t.jobs (some p) r).passes
-gone_by {t} {p = p} l n (told c b throws kind h x y o q r) = ended_by c b throws kind h x y o q refl (found (λ j. holds_handle t.hub c h j.row) no_job t.jobs (some p) r).passes
+gone_by {t} {p = p} l n (told c b ends kind h x y o q r) = ended_by c b ends kind h x y o q refl (found (λ j. holds_handle t.hub c h j.row) no_job t.jobs (Some p) r).passes
+gone_by {t} {p = p} l n (told c b throws kind h x y o q r) = ended_by c b throws kind h x y o q refl (found (λ j. holds_handle t.hub c h j.row) no_job t.jobs (Some p) r).passes
 gone_by {t} {p = p} l n (left c o z) = absurd (n (left_serial c (job_at t p)))
 gone_by l n (drops c o z) = dropped_by c o z
 

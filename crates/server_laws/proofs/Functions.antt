@@ -3,7 +3,7 @@
 use Prim.Native.Nat.{ℕ, suc, ◌<◌}
 use mathlib.Core.Path.{◌≡◌, refl, ap, sym, ◌∙◌}
 use mathlib.Core.Bool.{Bool, true, false, not}
-use mathlib.Core.Option.{Option, none, some}
+use Rattle.std.specs.Prelude.{Option, Some, None}
 use mathlib.Core.List.{List, [], ◌∷◌}
 use native.Mathlib.Decide.{ℕ_discrete}
 use borrow.Author.Tests.{not-true, eqb-true}
@@ -80,14 +80,14 @@ pub record Room (t : Table) (f : Bytes) (q : ℕ) : Type 0 where
   pub inside : q < length t.functions
   pub place : Place t f q
 
-pub room : (t : Table) (f : Bytes) (q : ℕ) → room_for t.functions f ≡ some q → Room t f q
+pub room : (t : Table) (f : Bytes) (q : ℕ) → room_for t.functions f ≡ Some q → Room t f q
 room t f q e = go (known t.functions f) refl e
   where
-    go : (o : Option ℕ) → known t.functions f ≡ o → or_else o (known t.functions []) ≡ some q → Room t f q
-    go (some k) r s = let w = found (λ x. same x.name f) no_function t.functions (some q) (r ∙ s) in record { inside = w.inside; place = there (same_is _ f w.passes) }
-    go none r s =
-        let w = found (λ x. same x.name []) no_function t.functions (some q) s in
-        record { inside = w.inside; place = free (same_is _ [] w.passes) (found (λ x. same x.name f) no_function t.functions none r) }
+    go : (o : Option ℕ) → known t.functions f ≡ o → or_else o (known t.functions []) ≡ Some q → Room t f q
+    go (Some k) r s = let w = found (λ x. same x.name f) no_function t.functions (Some q) (r ∙ s) in record { inside = w.inside; place = there (same_is _ f w.passes) }
+    go None r s =
+        let w = found (λ x. same x.name []) no_function t.functions (Some q) s in
+        record { inside = w.inside; place = free (same_is _ [] w.passes) (found (λ x. same x.name f) no_function t.functions None r) }
 
 -- a name of a request's size is one of a known function
 pub name_within : (f : Bytes) → fits function f ≡ true → text_within name_size f ≡ true

@@ -3,14 +3,13 @@
 use Prim.Native.Nat.{ℕ, suc, ◌<◌}
 use mathlib.Core.Path.{◌≡◌, refl, sym, ◌∙◌}
 use mathlib.Core.Bool.{Bool, true, false, not, ◌&&◌, ◌||◌}
-use mathlib.Core.Option.{some}
+use Rattle.std.specs.Prelude.{Some}
 use mathlib.Core.List.{List, map}
 use borrow.Author.Tests.{eqb-true, eqb-false, not-true, not-false}
 use lib.ListN.{length, set, length-set, get_or}
 use lib.Dec.{eqb}
 use Rattle.octets.specs.Bytes.{Bytes}
 use Rattle.octets.proofs.Strings.{and_left, and_right, and_both}
-use Rattle.packet.specs.Layout.{function, unique}
 use Rattle.packet.specs.Arguments.{fits}
 use Rattle.server.specs.declared.Connection.{Connection}
 use Rattle.server.specs.declared.JobRow.{JobRow}
@@ -70,35 +69,35 @@ ranked ables c r n = go (grabbable ables c r) refl
     go true e = refl
     go false e = absurd (n (rw e))
 
-pub best_found : (t : Table) (c p : ℕ) → best t c ≡ some p → (p < length t.jobs) × (grabbable (ables_of t) c (job_at t p).row ≡ true)
+pub best_found : (t : Table) (c p : ℕ) → best t c ≡ Some p → (p < length t.jobs) × (grabbable (ables_of t) c (job_at t p).row ≡ true)
 unfolding best_row
 best_found t c p e =
     let m = greatest (map (rank (ables_of t) c) (rows_of t)) in
-    let w = found (λ r. not (eqb m 0) && eqb (rank (ables_of t) c r) m) no_row (rows_of t) (some p) e in
+    let w = found (λ r. not (eqb m 0) && eqb (rank (ables_of t) c r) m) no_row (rows_of t) (Some p) e in
     let n : m ≡ 0 → ⊥ = eqb-false m 0 (not-true _ (and_left (not (eqb m 0)) _ w.passes)) in
     let r : rank (ables_of t) c (get_or (rows_of t) p no_row) ≡ m = eqb-true _ m (and_right (not (eqb m 0)) _ w.passes) in
     (rw (rows_long t) at w.inside, rw (row_at t p) at (ranked (ables_of t) c (get_or (rows_of t) p no_row) (λ z. n (sym r ∙ z))))
 
-pub grabbed_live : (t : Table) (c p : ℕ) → best t c ≡ some p → live (job_at t p).row ≡ true
+pub grabbed_live : (t : Table) (c p : ℕ) → best t c ≡ Some p → live (job_at t p).row ≡ true
 grabbed_live t c p e = and_left (live (job_at t p).row) _ (and_left (queued (job_at t p).row) _ (best_found t c p e).1)
 
-pub joined_found : (t : Table) (f u : Bytes) (p : ℕ) → joined t f u ≡ some p → live (job_at t p).row ≡ true
+pub joined_found : (t : Table) (f u : Bytes) (p : ℕ) → joined t f u ≡ Some p → live (job_at t p).row ≡ true
 unfolding joined
-joined_found t f u p e = and_left (live (job_at t p).row) _ (found (joins t.functions f u) no_job t.jobs (some p) e).passes
+joined_found t f u p e = and_left (live (job_at t p).row) _ (found (joins t.functions f u) no_job t.jobs (Some p) e).passes
 
-pub joined_inside : (t : Table) (f u : Bytes) (p : ℕ) → joined t f u ≡ some p → p < length t.jobs
+pub joined_inside : (t : Table) (f u : Bytes) (p : ℕ) → joined t f u ≡ Some p → p < length t.jobs
 unfolding joined
-joined_inside t f u p e = (found (joins t.functions f u) no_job t.jobs (some p) e).inside
+joined_inside t f u p e = (found (joins t.functions f u) no_job t.jobs (Some p) e).inside
 
-pub held_found : (t : Table) (c : ℕ) (h : Bytes) (p : ℕ) → held_job_of t c h ≡ some p → live (job_at t p).row ≡ true
+pub held_found : (t : Table) (c : ℕ) (h : Bytes) (p : ℕ) → held_job_of t c h ≡ Some p → live (job_at t p).row ≡ true
 unfolding holds_handle
 held_found t c h p e =
-    and_left (live (job_at t p).row) _ (and_left (held_by c (job_at t p).row) _ (found (λ j. holds_handle t.hub c h j.row) no_job t.jobs (some p) e).passes)
+    and_left (live (job_at t p).row) _ (and_left (held_by c (job_at t p).row) _ (found (λ j. holds_handle t.hub c h j.row) no_job t.jobs (Some p) e).passes)
 
-pub free_place_lem : (t : Table) (p : ℕ) → free_place t ≡ some p → ((job_at t p).row.serial ≡ 0) × (p < length t.jobs)
+pub free_place_lem : (t : Table) (p : ℕ) → free_place t ≡ Some p → ((job_at t p).row.serial ≡ 0) × (p < length t.jobs)
 unfolding free_row
 free_place_lem t p e =
-    let h = found (λ r. not (live r)) no_row (rows_of t) (some p) e in
+    let h = found (λ r. not (live r)) no_row (rows_of t) (Some p) e in
     let n : not (live (job_at t p).row) ≡ true = rw (row_at t p) at h.passes in
     (eqb-true _ 0 (not-false _ (not-true _ n)), rw (rows_long t) at h.inside)
 

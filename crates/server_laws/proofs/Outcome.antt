@@ -3,7 +3,7 @@
 use Prim.Native.Nat.{ℕ, suc, ◌<◌}
 use mathlib.Core.Path.{◌≡◌, refl}
 use mathlib.Core.Bool.{Bool, true, false}
-use mathlib.Core.Option.{Option, none, some}
+use Rattle.std.specs.Prelude.{Option, Some, None}
 use mathlib.Core.List.{List, [], ◌∷◌}
 use lib.ListN.{length}
 use lib.Dec.{ltb}
@@ -18,20 +18,20 @@ use Rattle.server.specs.Server.{Server, decided}
 -- ---- what a request that is done changes and sends, before the table is settled
 
 pub data Change (c : ℕ) (t : Table) : Request → List Send → Table → Type 0 where
-  able : (f : Bytes) (q : ℕ) → room_for t.functions f ≡ some q → Change c t (can_do f) [] (set_function t q (able_to c f (function_at t q)))
-  unknown : (f : Bytes) → known t.functions f ≡ none → Change c t (cant_do f) [] t
-  disabled : (f : Bytes) (q : ℕ) → known t.functions f ≡ some q → Change c t (cant_do f) [] (set_function t q (unable c (function_at t q)))
+  able : (f : Bytes) (q : ℕ) → room_for t.functions f ≡ Some q → Change c t (can_do f) [] (set_function t q (able_to c f (function_at t q)))
+  unknown : (f : Bytes) → known t.functions f ≡ None → Change c t (cant_do f) [] t
+  disabled : (f : Bytes) (q : ℕ) → known t.functions f ≡ Some q → Change c t (cant_do f) [] (set_function t q (unable c (function_at t q)))
   identified : (i : Bytes) → Change c t (identify i) [] (set_id t c i)
   cleared : Change c t reset [] (unable_to_all c t)
   slept : Change c t pre_sleep [] (sleeping true c t)
-  no_job_for : (uniq : Bool) → best t c ≡ none → Change c t (grab uniq) (plain c 10 [] ∷ []) (sleeping false c t)
-  grabbed : (uniq : Bool) (p : ℕ) → best t c ≡ some p
+  no_job_for : (uniq : Bool) → best t c ≡ None → Change c t (grab uniq) (plain c 10 [] ∷ []) (sleeping false c t)
+  grabbed : (uniq : Bool) (p : ℕ) → best t c ≡ Some p
       → Change c t (grab uniq) (assign uniq c p ∷ []) (set_job (sleeping false c t) p (with_row (with_holder (suc c) (job_at (sleeping false c t) p).row) (job_at (sleeping false c t) p)))
-  joins : (priority : ℕ) (background : Bool) (f u : Bytes) (size p : ℕ) → joined t f u ≡ some p
+  joins : (priority : ℕ) (background : Bool) (f u : Bytes) (size p : ℕ) → joined t f u ≡ Some p
       → Change c t (submit priority background f u size) (created t.hub c (job_at t p).row.serial ∷ []) (set_job t p (with_row (submitted_by c background (job_at t p).row) (job_at t p)))
-  accepts : (priority : ℕ) (background : Bool) (f u : Bytes) (size q p : ℕ) → joined t f u ≡ none → room_for t.functions f ≡ some q → free_place t ≡ some p → t.last < 4294967295
+  accepts : (priority : ℕ) (background : Bool) (f u : Bytes) (size q p : ℕ) → joined t f u ≡ None → room_for t.functions f ≡ Some q → free_place t ≡ Some p → t.last < 4294967295
       → Change c t (submit priority background f u size) (created t.hub c (suc t.last) ∷ []) (accepted q f p (new_job c priority background q u size (suc t.last)) t)
-  worker : (how : Work) (kind : ℕ) (h n d : Bytes) (p : ℕ) → held_job_of t c h ≡ some p
+  worker : (how : Work) (kind : ℕ) (h n d : Bytes) (p : ℕ) → held_job_of t c h ≡ Some p
       → Change c t (work how kind h n d) (to_listeners how kind t (job_at t p).row) (set_job t p (worked how n d (job_at t p)))
   status : (h : Bytes) (o : Option ℕ) → job_of t h ≡ o → Change c t (get_status h) (plain c 20 (status_of o h t) ∷ []) t
   optioned : (name : Bytes) → same name exceptions_name ≡ true → Change c t (option name) (plain c 27 (name ∷ []) ∷ []) (set_connection t c (catching (connection_at t c)))
@@ -40,14 +40,14 @@ pub data Change (c : ℕ) (t : Table) : Request → List Send → Table → Type
 -- why a request is refused, and by which number
 pub data Refuses (c : ℕ) (t : Table) : Request → ℕ → Type 0 where
   unread : (n : ℕ) → Refuses c t (bad n) n
-  no_room : (f : Bytes) → room_for t.functions f ≡ none → Refuses c t (can_do f) 11
-  no_function : (priority : ℕ) (background : Bool) (f u : Bytes) (size : ℕ) → joined t f u ≡ none → room_for t.functions f ≡ none
+  no_room : (f : Bytes) → room_for t.functions f ≡ None → Refuses c t (can_do f) 11
+  no_function : (priority : ℕ) (background : Bool) (f u : Bytes) (size : ℕ) → joined t f u ≡ None → room_for t.functions f ≡ None
       → Refuses c t (submit priority background f u size) 11
-  no_place : (priority : ℕ) (background : Bool) (f u : Bytes) (size q : ℕ) → joined t f u ≡ none → room_for t.functions f ≡ some q → free_place t ≡ none
+  no_place : (priority : ℕ) (background : Bool) (f u : Bytes) (size q : ℕ) → joined t f u ≡ None → room_for t.functions f ≡ Some q → free_place t ≡ None
       → Refuses c t (submit priority background f u size) 12
-  no_serial : (priority : ℕ) (background : Bool) (f u : Bytes) (size q p : ℕ) → joined t f u ≡ none → room_for t.functions f ≡ some q → free_place t ≡ some p
+  no_serial : (priority : ℕ) (background : Bool) (f u : Bytes) (size q p : ℕ) → joined t f u ≡ None → room_for t.functions f ≡ Some q → free_place t ≡ Some p
       → ltb t.last 4294967295 ≡ false → Refuses c t (submit priority background f u size) 13
-  not_held : (how : Work) (kind : ℕ) (h n d : Bytes) → held_job_of t c h ≡ none → Refuses c t (work how kind h n d) 14
+  not_held : (how : Work) (kind : ℕ) (h n d : Bytes) → held_job_of t c h ≡ None → Refuses c t (work how kind h n d) 14
   no_option : (name : Bytes) → same name exceptions_name ≡ false → Refuses c t (option name) 15
 
 -- a request on a connection that is open
@@ -88,23 +88,23 @@ module _ (c : ℕ) (t : Table) where
 
   o_can_do : (f : Bytes) (o : Option ℕ) → room_for t.functions f ≡ o → Served c t (can_do f) (can_do_at o c f t)
   unfolding can_do_at
-  o_can_do f none e = refused _ _ (no_room f e)
-  o_can_do f (some q) e = ok (able f q e)
+  o_can_do f None e = refused _ _ (no_room f e)
+  o_can_do f (Some q) e = ok (able f q e)
 
   o_cant_do : (f : Bytes) (o : Option ℕ) → known t.functions f ≡ o → Served c t (cant_do f) (cant_do_at o c t)
   unfolding cant_do_at
-  o_cant_do f none e = ok (unknown f e)
-  o_cant_do f (some q) e = ok (disabled f q e)
+  o_cant_do f None e = ok (unknown f e)
+  o_cant_do f (Some q) e = ok (disabled f q e)
 
   o_grab : (uniq : Bool) (o : Option ℕ) → best t c ≡ o → Served c t (grab uniq) (grab_at o uniq c (sleeping false c t))
   unfolding grab_at
-  o_grab uniq none e = ok (no_job_for uniq e)
-  o_grab uniq (some p) e = ok (grabbed uniq p e)
+  o_grab uniq None e = ok (no_job_for uniq e)
+  o_grab uniq (Some p) e = ok (grabbed uniq p e)
 
   o_work : (how : Work) (kind : ℕ) (h n d : Bytes) (o : Option ℕ) → held_job_of t c h ≡ o → Served c t (work how kind h n d) (work_at o how kind c n d t)
   unfolding work_at
-  o_work how kind h n d none e = refused _ _ (not_held how kind h n d e)
-  o_work how kind h n d (some p) e = ok (worker how kind h n d p e)
+  o_work how kind h n d None e = refused _ _ (not_held how kind h n d e)
+  o_work how kind h n d (Some p) e = ok (worker how kind h n d p e)
 
   o_status : (h : Bytes) (o : Option ℕ) → job_of t h ≡ o → Served c t (get_status h) (status_at o c h t)
   unfolding status_at
@@ -115,12 +115,12 @@ module _ (c : ℕ) (t : Table) where
   o_option name false e = refused _ _ (no_option name e)
   o_option name true e = ok (optioned name e)
 
-  o_new : (priority : ℕ) (background : Bool) (f u : Bytes) (size : ℕ) → joined t f u ≡ none → (o r : Option ℕ) → room_for t.functions f ≡ o → free_place t ≡ r
+  o_new : (priority : ℕ) (background : Bool) (f u : Bytes) (size : ℕ) → joined t f u ≡ None → (o r : Option ℕ) → room_for t.functions f ≡ o → free_place t ≡ r
       → Served c t (submit priority background f u size) (submit_new o r c priority background f u size t)
   unfolding submit_new
-  o_new priority background f u size j none r e g = refused _ _ (no_function priority background f u size j e)
-  o_new priority background f u size j (some q) none e g = refused _ _ (no_place priority background f u size q j e g)
-  o_new priority background f u size j (some q) (some p) e g =
+  o_new priority background f u size j None r e g = refused _ _ (no_function priority background f u size j e)
+  o_new priority background f u size j (Some q) None e g = refused _ _ (no_place priority background f u size q j e g)
+  o_new priority background f u size j (Some q) (Some p) e g =
       cond_cases (Served c t (submit priority background f u size)) (ltb t.last 4294967295)
       (λ h. ok (accepts priority background f u size q p j e g (ltb-true t.last 4294967295 h)))
       (λ h. refused _ _ (no_serial priority background f u size q p j e g h))
@@ -128,8 +128,8 @@ module _ (c : ℕ) (t : Table) where
   o_submit : (priority : ℕ) (background : Bool) (f u : Bytes) (size : ℕ) (o : Option ℕ) → joined t f u ≡ o
       → Served c t (submit priority background f u size) (submit_to o c priority background f u size t)
   unfolding submit_to
-  o_submit priority background f u size none e = o_new priority background f u size e (room_for t.functions f) (free_place t) refl refl
-  o_submit priority background f u size (some p) e = ok (joins priority background f u size p e)
+  o_submit priority background f u size None e = o_new priority background f u size e (room_for t.functions f) (free_place t) refl refl
+  o_submit priority background f u size (Some p) e = ok (joins priority background f u size p e)
 
   pub served_by : (a : Request) → Served c t a (served c a t)
   unfolding served

@@ -3,7 +3,7 @@
 use Prim.Native.Nat.{ℕ, zero, suc, ◌<◌}
 use mathlib.Core.Path.{◌≡◌, refl}
 use mathlib.Core.Bool.{Bool, true, false}
-use mathlib.Core.Option.{Option, none, some}
+use Rattle.std.specs.Prelude.{Option, Some, None}
 use mathlib.Core.List.{List, [], ◌∷◌}
 use lib.ListN.{length}
 use Rattle.octets.specs.Bytes.{Bytes, same}
@@ -21,15 +21,15 @@ use Rattle.server_laws.proofs.Places.{settled_last}
 -- why an event sends a packet, on table t; the event leaves `last` as last serial
 pub data Sends (t : Table) (last : ℕ) : Event → Send → Type 0 where
   an_error : (c : ℕ) (b : Bytes) (n : ℕ) → is_told n ≡ true → Sends t last (sends c b) (error c n)
-  no_job_lem : (c : ℕ) (b : Bytes) (uniq : Bool) → request_in b ≡ grab uniq → best t c ≡ none → Sends t last (sends c b) (plain c 10 [])
-  the_job : (c : ℕ) (b : Bytes) (uniq : Bool) → request_in b ≡ grab uniq → (p : ℕ) → best t c ≡ some p → Sends t last (sends c b) (assign uniq c p)
-  handle_joined : (c : ℕ) (b : Bytes) (priority : ℕ) (background : Bool) (f u : Bytes) (size : ℕ) → request_in b ≡ submit priority background f u size → (p : ℕ) → joined t f u ≡ some p
+  no_job_lem : (c : ℕ) (b : Bytes) (uniq : Bool) → request_in b ≡ grab uniq → best t c ≡ None → Sends t last (sends c b) (plain c 10 [])
+  the_job : (c : ℕ) (b : Bytes) (uniq : Bool) → request_in b ≡ grab uniq → (p : ℕ) → best t c ≡ Some p → Sends t last (sends c b) (assign uniq c p)
+  handle_joined : (c : ℕ) (b : Bytes) (priority : ℕ) (background : Bool) (f u : Bytes) (size : ℕ) → request_in b ≡ submit priority background f u size → (p : ℕ) → joined t f u ≡ Some p
       → Sends t last (sends c b) (created t.hub c (job_at t p).row.serial)
   handle_made : (c : ℕ) (b : Bytes) (priority : ℕ) (background : Bool) (f u : Bytes) (size : ℕ) → request_in b ≡ submit priority background f u size → t.last < 4294967295 → last ≡ suc t.last
       → Sends t last (sends c b) (created t.hub c (suc t.last))
-  a_copy : (c : ℕ) (b : Bytes) (how : Work) (kind : ℕ) (h n d : Bytes) → request_in b ≡ work how kind h n d → (p : ℕ) → held_job_of t c h ≡ some p
+  a_copy : (c : ℕ) (b : Bytes) (how : Work) (kind : ℕ) (h n d : Bytes) → request_in b ≡ work how kind h n d → (p : ℕ) → held_job_of t c h ≡ Some p
       → (l : ℕ) → has (job_at t p).row.listeners l ≡ true → hears how t l ≡ true → Sends t last (sends c b) (copy l kind)
-  a_failure : (c : ℕ) (b : Bytes) (how : Work) (kind : ℕ) (h n d : Bytes) → request_in b ≡ work how kind h n d → (p : ℕ) → held_job_of t c h ≡ some p
+  a_failure : (c : ℕ) (b : Bytes) (how : Work) (kind : ℕ) (h n d : Bytes) → request_in b ≡ work how kind h n d → (p : ℕ) → held_job_of t c h ≡ Some p
       → (l : ℕ) → has (job_at t p).row.listeners l ≡ true → hears how t l ≡ false → Sends t last (sends c b) (failure t.hub (job_at t p).row.serial l)
   a_status : (c : ℕ) (b h : Bytes) → request_in b ≡ get_status h → (o : Option ℕ) → job_of t h ≡ o → Sends t last (sends c b) (plain c 20 (status_of o h t))
   an_option_lem : (c : ℕ) (b name : Bytes) → request_in b ≡ option name → same name exceptions_name ≡ true → Sends t last (sends c b) (plain c 27 (name ∷ []))

@@ -3,7 +3,7 @@
 use Prim.Native.Nat.{ℕ, suc, ◌<◌}
 use mathlib.Core.Path.{◌≡◌, refl, ap, ◌∙◌}
 use mathlib.Core.Bool.{Bool, true, false, cond}
-use mathlib.Core.Option.{Option, none, some}
+use Rattle.std.specs.Prelude.{Option, Some, None}
 use mathlib.Core.List.{List, []}
 use native.Mathlib.Omega.{arith}
 use borrow.Author.Tests.{lt-ltb}
@@ -25,43 +25,43 @@ use Rattle.server_laws.proofs.Closing.{left_at}
 
 -- a submission's place: that of the job that it joins, or the free one that a new job takes, if nothing refuses it
 abbrev pub place_for : Option ℕ → Option ℕ → Option ℕ → Bool → Option ℕ
-place_for (some p) o r b = some p
-place_for none none r b = none
-place_for none (some q) none b = none
-place_for none (some q) (some p) b = cond b (some p) none
+place_for (Some p) o r b = Some p
+place_for None None r b = None
+place_for None (Some q) None b = None
+place_for None (Some q) (Some p) b = cond b (Some p) None
 
 -- the place whose job a request of connection c changes; none, if it is refused or changes no job
 unfoldable pub place_changed : ℕ → Table → Request → Option ℕ
 place_changed c t (submit priority background f u size) = place_for (joined t f u) (room_for t.functions f) (free_place t) (ltb t.last 4294967295)
 place_changed c t (grab uniq) = best t c
 place_changed c t (work how kind h n d) = held_job_of t c h
-place_changed c t (R.bad n) = none
-place_changed c t reset = none
-place_changed c t pre_sleep = none
-place_changed c t echo = none
-place_changed c t (can_do f) = none
-place_changed c t (cant_do f) = none
-place_changed c t (identify i) = none
-place_changed c t (get_status h) = none
-place_changed c t (option name) = none
+place_changed c t (R.bad n) = None
+place_changed c t reset = None
+place_changed c t pre_sleep = None
+place_changed c t echo = None
+place_changed c t (can_do f) = None
+place_changed c t (cant_do f) = None
+place_changed c t (identify i) = None
+place_changed c t (get_status h) = None
+place_changed c t (option name) = None
 
 -- the event is not about place p: it is an open, it comes from a connection that is not open, or it is a packet that changes another place
 -- or none
 abbrev pub Untouched : Table → ℕ → Event → Type 0
 Untouched t p (opens c) = Unit {0}
 Untouched t p (closes c) = ¬ Stands t c true
-Untouched t p (sends c b) = Stands t c true → ¬ (place_changed c t (request_in b) ≡ some p)
+Untouched t p (sends c b) = Stands t c true → ¬ (place_changed c t (request_in b) ≡ Some p)
 
 -- what becomes of the job j at place p, and why; `last` is the last serial given out afterwards
 pub data Becomes (t : Table) (last p : ℕ) (j : Job) : Event → Job → Type 0 where
   stays : (e : Event) → Untouched t p e → Becomes t last p j e j
   begins : (c : ℕ) (b : Bytes) (priority : ℕ) (background : Bool) (f u : Bytes) (size q : ℕ) → Stands t c true → request_in b ≡ submit priority background f u size → j.row.serial ≡ 0
-      → joined t f u ≡ none → room_for t.functions f ≡ some q → free_place t ≡ some p → t.last < 4294967295 → last ≡ suc t.last
+      → joined t f u ≡ None → room_for t.functions f ≡ Some q → free_place t ≡ Some p → t.last < 4294967295 → last ≡ suc t.last
       → Becomes t last p j (sends c b) (new_job c priority background q u size (suc t.last))
-  joins : (c : ℕ) (b : Bytes) (priority : ℕ) (background : Bool) (f u : Bytes) (size : ℕ) → Stands t c true → request_in b ≡ submit priority background f u size → joined t f u ≡ some p
+  joins : (c : ℕ) (b : Bytes) (priority : ℕ) (background : Bool) (f u : Bytes) (size : ℕ) → Stands t c true → request_in b ≡ submit priority background f u size → joined t f u ≡ Some p
       → Becomes t last p j (sends c b) (with_row (submitted_by c background j.row) j)
-  taken : (c : ℕ) (b : Bytes) (uniq : Bool) → Stands t c true → request_in b ≡ grab uniq → best t c ≡ some p → Becomes t last p j (sends c b) (with_row (with_holder (suc c) j.row) j)
-  told : (c : ℕ) (b : Bytes) (how : Work) (kind : ℕ) (h n d : Bytes) → Stands t c true → request_in b ≡ work how kind h n d → held_job_of t c h ≡ some p
+  taken : (c : ℕ) (b : Bytes) (uniq : Bool) → Stands t c true → request_in b ≡ grab uniq → best t c ≡ Some p → Becomes t last p j (sends c b) (with_row (with_holder (suc c) j.row) j)
+  told : (c : ℕ) (b : Bytes) (how : Work) (kind : ℕ) (h n d : Bytes) → Stands t c true → request_in b ≡ work how kind h n d → held_job_of t c h ≡ Some p
       → Becomes t last p j (sends c b) (worked how n d j)
   left : (c : ℕ) → Stands t c true → lost (left_by c j).row ≡ false → Becomes t last p j (closes c) (left_by c j)
   drops : (c : ℕ) → Stands t c true → lost (left_by c j).row ≡ true → Becomes t last p j (closes c) no_job
@@ -76,15 +76,15 @@ pub data Settles (t : Table) (last p : ℕ) (j : Job) (e : Event) : Job → Type
 
 module _ {t : Table} {c : ℕ} {b : Bytes} where
   -- a packet that changes no job
-  none_becomes : {a : Request} {last : ℕ} → request_in b ≡ a → place_changed c t a ≡ none → (p : ℕ) → Becomes t last p (job_at t p) (sends c b) (job_at t p)
-  none_becomes q r p = stays (sends c b) (λ o (y : place_changed c t (request_in b) ≡ some p). let z : ◌≡◌ {A = ℕ} 0 1 = cc in omega arith)
+  none_becomes : {a : Request} {last : ℕ} → request_in b ≡ a → place_changed c t a ≡ None → (p : ℕ) → Becomes t last p (job_at t p) (sends c b) (job_at t p)
+  none_becomes q r p = stays (sends c b) (λ o (y : place_changed c t (request_in b) ≡ Some p). let z : ◌≡◌ {A = ℕ} 0 1 = cc in omega arith)
 
   -- one that changes the job at place i
-  one_becomes : {a : Request} {last : ℕ} (i : ℕ) {k : Job} → request_in b ≡ a → place_changed c t a ≡ some i → i < length t.jobs → Becomes t last i (job_at t i) (sends c b) k
+  one_becomes : {a : Request} {last : ℕ} (i : ℕ) {k : Job} → request_in b ≡ a → place_changed c t a ≡ Some i → i < length t.jobs → Becomes t last i (job_at t i) (sends c b) k
       → (p : ℕ) → Becomes t last p (job_at t p) (sends c b) (get_or (set t.jobs i k) p no_job)
   one_becomes {last = last} i {k} q r l f =
       each_set (λ p j. Becomes t last p (job_at t p) (sends c b) j) t.jobs i k no_job l f
-      (λ p n. stays (sends c b) (λ o (y : place_changed c t (request_in b) ≡ some p). n (cc)))
+      (λ p n. stays (sends c b) (λ o (y : place_changed c t (request_in b) ≡ Some p). n (cc)))
 
   -- the walk: what a change makes of each place, before the table is settled
   pub becomes : {a : Request} {ss : List Send} {u : Table} → Stands t c true → request_in b ≡ a → Change c t a ss u → (p : ℕ) → Becomes t u.last p (job_at t p) (sends c b) (job_at u p)
@@ -101,13 +101,13 @@ module _ {t : Table} {c : ℕ} {b : Bytes} where
   becomes o q (Change.accepts priority background f u size k i r₁ r₂ r₃ l) =
       let (z, m) = free_place_lem t i r₃ in
       one_becomes i q (rw (r₁, r₂, r₃, lt-ltb t.last 4294967295 l)) m (begins c b priority background f u size k o q z r₁ r₂ r₃ l refl)
-  becomes o q (Change.worker how kind h n d i r) = one_becomes i q r (found (λ j. holds_handle t.hub c h j.row) no_job t.jobs (some i) r).inside (told c b how kind h n d o q r)
+  becomes o q (Change.worker how kind h n d i r) = one_becomes i q r (found (λ j. holds_handle t.hub c h j.row) no_job t.jobs (Some i) r).inside (told c b how kind h n d o q r)
   becomes o q (Change.status h i r) = none_becomes q refl
   becomes o q (Change.optioned name r) = none_becomes q refl
   becomes o q Change.echoed = none_becomes q refl
 
 -- a request that is refused changes no job
-refused_none : {c : ℕ} {t : Table} {a : Request} {n : ℕ} → Refuses c t a n → place_changed c t a ≡ none
+refused_none : {c : ℕ} {t : Table} {a : Request} {n : ℕ} → Refuses c t a n → place_changed c t a ≡ None
 unfolding place_changed
 refused_none (Refuses.unread n) = refl
 refused_none (Refuses.no_room f r) = refl

@@ -6,7 +6,7 @@ use native.Mathlib.Decide.{ℕ_discrete}
 use native.Mathlib.Omega.{arith}
 use mathlib.Core.Path.{◌≡◌, refl, ap, sym, ◌∙◌}
 use mathlib.Core.Bool.{Bool, true}
-use mathlib.Core.Option.{none, some}
+use Rattle.std.specs.Prelude.{Some, None}
 use mathlib.Core.List.{List, [], ◌∷◌, map}
 use lib.Seq.{get_or-set_same}
 use Rattle.octets.specs.Bytes.{Bytes}
@@ -62,7 +62,7 @@ pub data Moves (e : Event) (t : Table) (d : Decision) : Type 0 where
 -- ---- each fate
 
 -- a new job's serial is n, if one begins here
-follows : {t : Table} {last p : ℕ} {e : Event} {k : Job} (n : ℕ) → (last ≡ suc t.last → free_place t ≡ some p → suc t.last ≡ n) → Settles t last p (job_at t p) e k → Follows n (job_at t p) k
+follows : {t : Table} {last p : ℕ} {e : Event} {k : Job} (n : ℕ) → (last ≡ suc t.last → free_place t ≡ Some p → suc t.last ≡ n) → Settles t last p (job_at t p) e k → Follows n (job_at t p) k
 follows n new (goes_on (stays e z)) = kept refl
 follows {t} n new (goes_on (begins c b priority background f u size i o q z r₁ r₂ r₃ l e)) = began ((submitted_keeps c background (fresh_row (suc t.last) i priority size)).serial ∙ new e r₃)
 follows {t} {p = p} n new (goes_on (joins c b priority background f u size o q r)) = kept (submitted_keeps c background (job_at t p).row).serial
@@ -92,7 +92,7 @@ module _ {c : ℕ} {t : Table} (o : Stands t c true) (b : Bytes) where
   same_last {ss = ss} {u} q m e = quiet (serves_by q (done _ ss u m)) (settled_last ss u ∙ e)
 
   made : (priority : ℕ) (background : Bool) (f u : Bytes) (size i p : ℕ) → request_in b ≡ submit priority background f u size
-      → joined t f u ≡ none → room_for t.functions f ≡ some i → free_place t ≡ some p → t.last < 4294967295
+      → joined t f u ≡ None → room_for t.functions f ≡ Some i → free_place t ≡ Some p → t.last < 4294967295
       → Makes c t (settle (created t.hub c (suc t.last) ∷ []) (accepted i f p (new_job c priority background i u size (suc t.last)) t))
   unfolding settle
   made priority background f u size i p q r₁ r₂ r₃ l =
@@ -111,7 +111,7 @@ module _ {c : ℕ} {t : Table} (o : Stands t c true) (b : Bytes) where
         new =
             ap (λ (k : Job). k.row.serial) (settled_at ss v p ∙ ap unless_lost (get_or-set_same t.jobs p j no_job h))
             ∙ rw (submitted_unlost c background row) (submitted_keeps c background row).serial;
-        only = λ k n. follows 0 (λ e (y : free_place t ≡ some k). absurd (n (cc))) (settles x k);
+        only = λ k n. follows 0 (λ e (y : free_place t ≡ Some k). absurd (n (cc))) (settles x k);
         sleepers = to_wake (dropped v);
         packets = refl;
       }

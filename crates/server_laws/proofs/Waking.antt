@@ -3,7 +3,7 @@
 use Prim.Native.Nat.{ℕ, suc, ◌<◌}
 use mathlib.Core.Path.{◌≡◌, refl, ap, sym, ◌∙◌}
 use mathlib.Core.Bool.{Bool, true, false, cond, ◌&&◌}
-use mathlib.Core.Option.{none, some}
+use Rattle.std.specs.Prelude.{Some, None}
 use mathlib.Core.List.{List, ◌∷◌, map}
 use borrow.Author.Tests.{lt-ltb}
 use lib.ListN.{length, get_or, length-set, length-map, get_or-map}
@@ -28,7 +28,7 @@ use Rattle.server_laws.proofs.Obeyed.{obeyed}
 use Rattle.server_laws.proofs.AtRest.{sleeps_on, choose_same}
 
 module _ (c : ℕ) (t : Table) (priority : ℕ) (background : Bool) (f u : Bytes) (size q p : ℕ)
-    (here : room_for t.functions f ≡ some q) (free : free_place t ≡ some p) (h : obeys t ≡ true) where
+    (here : room_for t.functions f ≡ Some q) (free : free_place t ≡ Some p) (h : obeys t ≡ true) where
   abbrev bare : JobRow
   bare = fresh_row (suc t.last) q priority size
 
@@ -106,7 +106,7 @@ module _ (c : ℕ) (t : Table) (priority : ℕ) (background : Bool) (f u : Bytes
       go x l true e = rw e (work_is_new x l e)
       go x l false e = rw e
 
-  pub new_job_packets : joined t f u ≡ none → t.last < 4294967295
+  pub new_job_packets : joined t f u ≡ None → t.last < 4294967295
       → (served c (submit priority background f u size) t).packets ≡ created t.hub c (suc t.last) ∷ map noop (filter sleeper_able (numbers 0 (length t.connections)))
   unfolding served submit_to submit_new settle
   new_job_packets alone l = rw (alone, here, free, lt-ltb t.last 4294967295 l, new_job_wakes)

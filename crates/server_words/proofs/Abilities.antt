@@ -4,7 +4,7 @@ use Prim.Native.Nat.{ℕ, ◌<◌}
 use mathlib.Core.Path.{◌≡◌, refl, ap, sym, ◌∙◌}
 use mathlib.Core.Logic.{◌≢◌}
 use mathlib.Core.Bool.{true, false, not, ◌&&◌}
-use mathlib.Core.Option.{Option, none, some}
+use Rattle.std.specs.Prelude.{Option, Some, None}
 use mathlib.Core.List.{List, [], ◌∷◌, map}
 use native.Mathlib.Decide.{ℕ_discrete}
 use native.Mathlib.Omega.{arith}
@@ -33,7 +33,7 @@ use Rattle.server_words.proofs.Quiet.{Quiet, quiet, NoMore, idle_kept, work_from
 
 -- ---- CAN_DO
 
-module _ (t : Table) (c : ℕ) (inside : c < length t.connections) (f : Bytes) (q : ℕ) (here : room_for t.functions f ≡ some q) (h : obeys t ≡ true) where
+module _ (t : Table) (c : ℕ) (inside : c < length t.connections) (f : Bytes) (q : ℕ) (here : room_for t.functions f ≡ Some q) (h : obeys t ≡ true) where
   -- the table with the ability, before it is settled
   abbrev pub enabled : Table
   enabled = set_function t q (able_to c f (function_at t q))
@@ -158,8 +158,8 @@ module _ (t : Table) (c : ℕ) (h : obeys t ≡ true) where
   cant_do_keeps f = go (known t.functions f)
     where
       go : (o : Option ℕ) → Quiet [] t (cant_do_at o c t)
-      go none = quiet [] t (obeyed t h).awaited (obeyed t h).idle
-      go (some q) = weaker_quiet _ (all2_set Weaker (λ x k e. e) t.functions q no_function (unable c (function_at t q)) (unable_weaker c (function_at t q)))
+      go None = quiet [] t (obeyed t h).awaited (obeyed t h).idle
+      go (Some q) = weaker_quiet _ (all2_set Weaker (λ x k e. e) t.functions q no_function (unable c (function_at t q)) (unable_weaker c (function_at t q)))
 
   pub reset_keeps : Quiet [] t (served c reset t)
   unfolding served unable_to_all

@@ -3,7 +3,7 @@
 use Prim.Native.Nat.{ℕ, zero, suc, ◌+◌, ◌-◌, ◌*◌, ◌<◌, ◌≤◌}
 use mathlib.Core.Path.{◌≡◌, refl, ap, ◌∙◌}
 use mathlib.Core.Bool.{Bool, true, false, not, ◌&&◌}
-use mathlib.Core.Option.{Option, none, some}
+use Rattle.std.specs.Prelude.{Option, Some, None}
 use mathlib.Core.List.{List, [], ◌∷◌, map}
 use native.Mathlib.Nat.{not-suc-le-zero, le_of_suc-le-suc}
 use native.Mathlib.Omega.{arith}
@@ -15,7 +15,7 @@ use Rattle.octets.proofs.Strings.{and_left, and_right, and_both}
 use Rattle.server.specs.declared.Connection.{Connection}
 use Rattle.server.specs.declared.JobRow.{JobRow}
 use Rattle.lists.specs.Lists.{any, all}
-use Rattle.server.specs.Table.{Function, Job, Table, closed, no_row, no_job, connection_at, job_at, rows_of, ables_of, set_job, with_row, with_holder, live, queued, grabbable, rank, greatest, best_row, best}
+use Rattle.server.specs.Table.{Job, Table, closed, no_row, no_job, connection_at, job_at, rows_of, ables_of, set_job, with_row, with_holder, live, queued, grabbable, rank, greatest, best_row, best}
 use Rattle.server.specs.Requests.{grab}
 use Rattle.server.specs.Events.{plain, assign, Decision, settle, sleeping, grab_at, served}
 use Rattle.server.specs.Rules.{queued_awaited, sleepers_idle, obeys}
@@ -25,7 +25,7 @@ use Rattle.server_laws.proofs.Numbers.{row_at, rows_long, row_passes, row_where}
 use Rattle.server_laws.proofs.Going.{best_found}
 use Rattle.server_laws.proofs.Obeyed.{obeyed}
 use Rattle.server_laws.proofs.Words.{has_work}
-use Rattle.server_words.proofs.Quiet.{and_off, Quiet, quiet, idle_kept, awaited, one_job_quiet}
+use Rattle.server_words.proofs.Quiet.{and_off, Quiet, quiet, idle_kept, one_job_quiet}
 
 -- ---- which job is given
 
@@ -80,12 +80,12 @@ module _ (t : Table) (c : ℕ) (h : obeys t ≡ true) where
   best_rank i l = rw (row_at t i) at (greatest_at rank_at (rows_of t) i no_row (rw (rows_long t) l))
 
   -- the place that a search for the greatest rank finds
-  pub best_first : (p : ℕ) → best t c ≡ some p → First t c p
+  pub best_first : (p : ℕ) → best t c ≡ Some p → First t c p
   unfolding best_row
   best_first p e =
       let (i, g) = best_found t c p e in
       let m = greatest (map rank_at (rows_of t)) in
-      let w = found (λ r. not (eqb m 0) && eqb (rank_at r) m) no_row (rows_of t) (some p) e in
+      let w = found (λ r. not (eqb m 0) && eqb (rank_at r) m) no_row (rows_of t) (Some p) e in
       let r : rank_at (job_at t p).row ≡ m = rw (row_at t p) at (eqb-true _ m (and_right (not (eqb m 0)) _ w.passes)) in
       record {
         inside = i;
@@ -96,10 +96,10 @@ module _ (t : Table) (c : ℕ) (h : obeys t ≡ true) where
       }
 
   -- there is a job to give exactly if there is one that can be grabbed
-  best_some : (p : ℕ) → best t c ≡ some p → has_work t c ≡ true
+  best_some : (p : ℕ) → best t c ≡ Some p → has_work t c ≡ true
   best_some p e = let (i, g) = best_found t c p e in row_passes t (grabbable (ables_of t) c) p i g
 
-  best_none : best t c ≡ none → has_work t c ≡ false
+  best_none : best t c ≡ None → has_work t c ≡ false
   unfolding best_row
   best_none e = never _ (λ w.
       let (i, l, g) = row_where t (grabbable (ables_of t) c) w in
@@ -107,7 +107,7 @@ module _ (t : Table) (c : ℕ) (h : obeys t ≡ true) where
       let s = serial_small i l in
       let big : 1 ≤ m = omega (arith, best_rank i l, rank_is (ables_of t) c (job_at t i).row g) in
       let z : m ≡ 0 → ⊥ = λ q. absurd (omega arith) in
-      let n : all (λ r. not (not (eqb m 0) && eqb (rank_at r) m)) (rows_of t) ≡ true = found (λ r. not (eqb m 0) && eqb (rank_at r) m) no_row (rows_of t) none e in
+      let n : all (λ r. not (not (eqb m 0) && eqb (rank_at r) m)) (rows_of t) ≡ true = found (λ r. not (eqb m 0) && eqb (rank_at r) m) no_row (rows_of t) None e in
       z (greatest_reached rank_at m (rows_of t) (never _ (λ a.
       let (k, b, q) = any_where (λ r. eqb (rank_at r) m) (rows_of t) no_row a in
       clash (and_both (not (eqb m 0)) _ (ap not (ne_eqb m 0 z)) q) (not-true _ (all_at (λ r. not (not (eqb m 0) && eqb (rank_at r) m)) (rows_of t) k no_row n b)))) refl))
@@ -153,11 +153,11 @@ module _ (t : Table) (c : ℕ) (h : obeys t ≡ true) where
       one_job_quiet up up_awaited up_idle p (taken p) i (implies_by (queued (taken p).row) _ (λ e. clash e (not_queued p)))
       (λ fs k e. clash (and_left (queued (taken p).row) _ e) (not_queued p)) (assign uniq c p ∷ [])
 
-  grab_given : (uniq : Bool) (p : ℕ) → best t c ≡ some p → Quiet (assign uniq c p ∷ []) (set_job up p (taken p)) (served c (grab uniq) t)
+  grab_given : (uniq : Bool) (p : ℕ) → best t c ≡ Some p → Quiet (assign uniq c p ∷ []) (set_job up p (taken p)) (served c (grab uniq) t)
   unfolding served grab_at
   grab_given uniq p e = rw e (given_quiet uniq p (best_found t c p e).0)
 
-  none_quiet : (uniq : Bool) → best t c ≡ none → Quiet (plain c 10 [] ∷ []) up (served c (grab uniq) t)
+  none_quiet : (uniq : Bool) → best t c ≡ None → Quiet (plain c 10 [] ∷ []) up (served c (grab uniq) t)
   unfolding served grab_at
   none_quiet uniq e = rw e (quiet (plain c 10 [] ∷ []) up up_awaited up_idle)
 
@@ -166,8 +166,8 @@ module _ (t : Table) (c : ℕ) (h : obeys t ≡ true) where
   grab_no_job uniq w = go (best t c) refl
     where
       go : (o : Option ℕ) → best t c ≡ o → (served c (grab uniq) t).packets ≡ plain c 10 [] ∷ []
-      go none e = (none_quiet uniq e).packets
-      go (some p) e = clash (best_some t c h p e) w
+      go None e = (none_quiet uniq e).packets
+      go (Some p) e = clash (best_some t c h p e) w
 
   -- "the highest priority, then the lowest serial"
   pub grab_job : (uniq : Bool) → has_work t c ≡ true → Assigned t c uniq (served c (grab uniq) t)
@@ -175,8 +175,8 @@ module _ (t : Table) (c : ℕ) (h : obeys t ≡ true) where
   grab_job uniq w = go (best t c) refl
     where
       go : (o : Option ℕ) → best t c ≡ o → Assigned t c uniq (served c (grab uniq) t)
-      go none e = clash w (best_none t c h e)
-      go (some p) e = let q = grab_given uniq p e in record { place = p; given = best_first t c h p e; packets = q.packets; jobs = q.jobs }
+      go None e = clash w (best_none t c h e)
+      go (Some p) e = let q = grab_given uniq p e in record { place = p; given = best_first t c h p e; packets = q.packets; jobs = q.jobs }
 
   -- "Grabbing ends sleep"
   pub grab_awake : (uniq : Bool) → c < length t.connections → (connection_at (served c (grab uniq) t).table c).asleep ≡ false
@@ -187,5 +187,5 @@ module _ (t : Table) (c : ℕ) (h : obeys t ≡ true) where
       awake = ap (λ (x : Connection). x.asleep) (get_or-set_same t.connections c _ closed i)
 
       go : (o : Option ℕ) → best t c ≡ o → (connection_at (served c (grab uniq) t).table c).asleep ≡ false
-      go none e = ap (λ (cs : List Connection). (get_or cs c closed).asleep) (none_quiet uniq e).connections ∙ awake
-      go (some p) e = ap (λ (cs : List Connection). (get_or cs c closed).asleep) (grab_given uniq p e).connections ∙ awake
+      go None e = ap (λ (cs : List Connection). (get_or cs c closed).asleep) (none_quiet uniq e).connections ∙ awake
+      go (Some p) e = ap (λ (cs : List Connection). (get_or cs c closed).asleep) (grab_given uniq p e).connections ∙ awake

@@ -5,7 +5,7 @@ use Prim.Native.Nat.{ℕ, ◌<◌}
 use mathlib.Core.Path.{◌≡◌, refl, ap, sym, ◌∙◌}
 use mathlib.Core.Logic.{◌≢◌}
 use mathlib.Core.Bool.{Bool, true, false}
-use mathlib.Core.Option.{some}
+use Rattle.std.specs.Prelude.{Some}
 use mathlib.Core.List.{List, [], ◌∷◌}
 use borrow.Author.Tests.{eq-eqb, lt-ltb}
 use lib.ListN.{length, get_or, set}
@@ -21,13 +21,13 @@ use Rattle.lists.proofs.Searches.{found}
 use Rattle.server_laws.proofs.Outcome.{Stands}
 use Rattle.server_laws.proofs.Accepting.{Kept, submitted_keeps, submitted_awaited}
 use Rattle.server_laws.proofs.Obeyed.{obeyed}
-use Rattle.server_words.proofs.Quiet.{Quiet, awaited, one_job_quiet}
+use Rattle.server_words.proofs.Quiet.{Quiet, one_job_quiet}
 
 joined_grabbable : (c : ℕ) (background : Bool) (j : Job) (ables : List ℕ) (k : ℕ) → grabbable ables k (submitted_by c background j.row) ≡ true → grabbable ables k j.row ≡ true
 joined_grabbable c true j ables k e = e
 joined_grabbable c false j ables k e = e
 
-module _ (t : Table) (c priority : ℕ) (background : Bool) (f u : Bytes) (size p : ℕ) (here : joined t f u ≡ some p) (h : obeys t ≡ true) where
+module _ (t : Table) (c priority : ℕ) (background : Bool) (f u : Bytes) (size p : ℕ) (here : joined t f u ≡ Some p) (h : obeys t ≡ true) where
   abbrev answered : Decision
   answered = served c (submit priority background f u size) t
 
@@ -36,7 +36,7 @@ module _ (t : Table) (c priority : ℕ) (background : Bool) (f u : Bytes) (size 
 
   inside : p < length t.jobs
   unfolding joined
-  inside = (found (joins t.functions f u) no_job t.jobs (some p) here).inside
+  inside = (found (joins t.functions f u) no_job t.jobs (Some p) here).inside
 
   -- JOB_CREATED with the job's own handle, and nothing else
   pub join_quiet : Quiet (created t.hub c (job_at t p).row.serial ∷ []) (set_job t p joiner) answered
@@ -68,7 +68,7 @@ kept_workloads (All2.more e es) o [] = refl
 kept_workloads (All2.more {a = j} {b = k} e es) o (w ∷ ws) = rw (eq-eqb j.row.serial k.row.serial (sym e)) (ap {B = List Bytes} (λ (vs : List Bytes). w ∷ vs) (kept_workloads es o ws))
 
 pub join_workloads : (c : ℕ) (b : Bytes) (s : Server) (priority : ℕ) (background : Bool) (f u : Bytes) (size p : ℕ) → request_in b ≡ submit priority background f u size
-    → joined s.table f u ≡ some p → Stands s.table c true → obeys s.table ≡ true → (next (sends c b) s).workloads ≡ s.workloads
+    → joined s.table f u ≡ Some p → Stands s.table c true → obeys s.table ≡ true → (next (sends c b) s).workloads ≡ s.workloads
 unfolding next decided only_if_open
 join_workloads c b s priority background f u size p q here o h =
     let t = s.table in

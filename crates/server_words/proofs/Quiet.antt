@@ -10,11 +10,11 @@ use lib.Seq.{get_or-set_same, get_or-set_other}
 use Rattle.octets.proofs.Strings.{and_both}
 use Rattle.sets.specs.Sets.{is_empty}
 use Rattle.server.specs.declared.JobRow.{JobRow}
-use Rattle.server.specs.Table.{Function, Job, Table, no_job, connection_at, job_at, ables_of, set_job, queued, grabbable}
+use Rattle.server.specs.Table.{Job, Table, no_job, connection_at, job_at, ables_of, set_job, queued, grabbable}
 use Rattle.server.specs.Events.{Send, Decision, settle, forgot}
 use Rattle.lists.specs.Lists.{implies}
 use Rattle.server.specs.Rules.{queued_awaited, sleepers_idle}
-use Rattle.lists.proofs.Rows.{clash, never, implies_by, all_set, any_at, any_where}
+use Rattle.lists.proofs.Rows.{clash, never, implies_by, all_set}
 use Rattle.server_laws.proofs.Numbers.{row_passes, row_where}
 use Rattle.server_laws.proofs.Settled.{idle_by}
 use Rattle.server_laws.proofs.AtRest.{drops_none, sleeps_on, none_to_wake, connections_stay}

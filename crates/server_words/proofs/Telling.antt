@@ -5,7 +5,7 @@ use Prim.Native.Nat.{ℕ, zero, suc, ◌<◌, ◌≤◌}
 use mathlib.Core.Path.{◌≡◌, refl, ap, sym, ◌∙◌}
 use mathlib.Core.Logic.{◌≢◌}
 use mathlib.Core.Bool.{Bool, true, false, cond, ◌&&◌, ◌||◌}
-use mathlib.Core.Option.{some}
+use Rattle.std.specs.Prelude.{Some}
 use mathlib.Core.List.{List, [], ◌∷◌, ◌++◌, map, append-nil}
 use native.Mathlib.Decide.{ℕ_discrete}
 use native.Mathlib.Omega.{arith}
@@ -107,12 +107,12 @@ worked_grabbable reports n d j ables k e = e
 worked_grabbable ends n d j ables k e = clash e refl
 worked_grabbable throws n d j ables k e = clash e refl
 
-module _ (t : Table) (c : ℕ) (how : Work) (kind : ℕ) (job n d : Bytes) (p : ℕ) (here : held_job_of t c job ≡ some p) (h : obeys t ≡ true) where
+module _ (t : Table) (c : ℕ) (how : Work) (kind : ℕ) (job n d : Bytes) (p : ℕ) (here : held_job_of t c job ≡ Some p) (h : obeys t ≡ true) where
   work_quiet : Quiet (to_listeners how kind t (job_at t p).row) (set_job t p (worked how n d (job_at t p))) (served c (work how kind job n d) t)
   unfolding served work_at
   work_quiet =
       let o = obeyed t h in
-      let i : p < length t.jobs = (found (λ j. holds_handle t.hub c job j.row) no_job t.jobs (some p) here).inside in
+      let i : p < length t.jobs = (found (λ j. holds_handle t.hub c job j.row) no_job t.jobs (Some p) here).inside in
       rw here
       (one_job_quiet t o.awaited o.idle p (worked how n d (job_at t p)) i
       (worked_awaited how n d (job_at t p) (all_at (λ j. awaited j.row) t.jobs p no_job o.awaited i)) (worked_grabbable how n d (job_at t p)) (to_listeners how kind t (job_at t p).row))

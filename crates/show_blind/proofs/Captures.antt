@@ -3,7 +3,7 @@
 use Prim.Native.Nat.{ℕ, suc, ◌≤◌}
 use mathlib.Core.Path.{◌≡◌, refl, ap, ap₂, sym, ◌∙◌}
 use mathlib.Core.Bool.{true}
-use mathlib.Core.Option.{Option, none, some}
+use Rattle.std.specs.Prelude.{Option, Some, None}
 use mathlib.Core.List.{List, [], ◌++◌}
 use lib.ListN.{length}
 use Rattle.octets.specs.Bytes.{Bytes}
@@ -28,8 +28,8 @@ use Rattle.show_blind.proofs.Words.{words_alike}
 -- ---- what it is to differ in opaque bytes alone
 
 pub data AlikeFrames : Option Event → Option Event → Type 0 where
-  nothing : AlikeFrames none none
-  alike : {e f : Event} → Alike e f → AlikeFrames (some e) (some f)
+  nothing : AlikeFrames None None
+  alike : {e f : Event} → Alike e f → AlikeFrames (Some e) (Some f)
 
 -- both lines are no frame, or their frames differ in opaque bytes alone
 abbrev pub AlikeLines : Bytes → Bytes → Type 0
@@ -44,7 +44,7 @@ record Pair (s r : Server) : Type 0 where
 
 module _ (s r : Server) (p : Pair s r) where
   spoken_alike : {f g : Option Event} → AlikeFrames f g → (k : ℕ) → spoken_to (line_text k) f s ≡ spoken_to (line_text k) g r
-  spoken_alike nothing k = ap (λ (t : Table). line_text k none [] 16 t t) p.tables
+  spoken_alike nothing k = ap (λ (t : Table). line_text k None [] 16 t t) p.tables
   spoken_alike (alike a) k = words_alike a s r p.first p.second p.tables k
 
   pair_after : {f g : Option Event} → AlikeFrames f g → Pair (server_after f s) (server_after g r)

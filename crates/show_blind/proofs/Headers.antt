@@ -1,7 +1,7 @@
 -- The digits that are shown of a frame do not depend on opaque bytes: a header stands before them. Assumes nothing.
 use mathlib.Core.Path.{◌≡◌, refl, ap, sym, ◌∙◌}
 use mathlib.Core.Bool.{Bool, true, false, cond}
-use mathlib.Core.Option.{some}
+use Rattle.std.specs.Prelude.{Some}
 use mathlib.Core.List.{[]}
 use lib.ListN.{length, take}
 use lib.Dec.{ltb}
@@ -38,7 +38,7 @@ header_alike a b v l = either (hides requests a) refl
         ∙ header_front a b (same_header requests requests_well a b v l e) m
         ∙ sym (ap (header_in b) (read_alike requests requests_well a b v l) ∙ header_masked b (opaque requests b) m)
 
-pub digits_alike : {e f : Event} → Alike e f → digits_text (some e) ≡ digits_text (some f)
+pub digits_alike : {e f : Event} → Alike e f → digits_text (Some e) ≡ digits_text (Some f)
 unfolding digits_text
 digits_alike opening = refl
 digits_alike closing = refl

@@ -2,10 +2,9 @@
 -- equal tables are spoken of alike. Assumes nothing.
 use Prim.Native.Nat.{ℕ}
 use mathlib.Core.Path.{◌≡◌, refl, ap, ap₂, ◌∙◌}
-use mathlib.Core.Option.{some}
+use Rattle.std.specs.Prelude.{Some, Option}
 use mathlib.Core.List.{List, ◌++◌, map}
 use Rattle.octets.specs.Bytes.{Bytes}
-use Rattle.handle.specs.declared.Serial as S
 use Rattle.server.specs.declared.JobRow.{JobRow}
 use Rattle.server.specs.Sizes.{connection_count}
 use Rattle.server.specs.Table.{Table}
@@ -29,7 +28,7 @@ use Rattle.show_blind.proofs.Headers.{digits_alike}
 
 -- ---- what the line says
 
-event_alike : {e f : Event} → Alike e f → event_text (some e) ≡ event_text (some f)
+event_alike : {e f : Event} → Alike e f → event_text (Some e) ≡ event_text (Some f)
 unfolding event_text
 event_alike opening = refl
 event_alike closing = refl
@@ -51,23 +50,23 @@ packets_alike (All2.more {a = p} {b = q} a rest) = ap₂ {C = Bytes} (λ (x y : 
 -- ---- the jobs, and the line
 
 module _ {ps qs : List Sent} (r : All2 AlikeSent ps qs) where
-  jobs_alike : (hub : Bytes) {e f : Event} → Alike e f → (n : ℕ) (u v : List JobRow) → jobs_after hub (some e) (map addressed ps) n u v ≡ jobs_after hub (some f) (map addressed qs) n u v
+  jobs_alike : (hub : Bytes) {e f : Event} → Alike e f → (n : ℕ) (u v : List JobRow) → jobs_after hub (Some e) (map addressed ps) n u v ≡ jobs_after hub (Some f) (map addressed qs) n u v
   unfolding jobs_after
   jobs_alike hub opening n u v = refl
   jobs_alike hub closing n u v = refl
-  jobs_alike hub (sending {a = a} {b = b} w l) n u v = ap (λ (s : S.Serial). packet_jobs hub s u v) (concerned_alike hub a b w l r)
+  jobs_alike hub (sending {a = a} {b = b} w l) n u v = ap (λ (s : Option ℕ). packet_jobs hub s u v) (concerned_alike hub a b w l r)
 
-  line_alike : {e f : Event} → Alike e f → (k n : ℕ) (u t : Table) → line_text k (some e) (map addressed ps) n u t ≡ line_text k (some f) (map addressed qs) n u t
+  line_alike : {e f : Event} → Alike e f → (k n : ℕ) (u t : Table) → line_text k (Some e) (map addressed ps) n u t ≡ line_text k (Some f) (map addressed qs) n u t
   unfolding line_with heading_text answer_text table_text
   line_alike a k n u t = rw (digits_alike a, event_alike a, packets_alike r, jobs_alike t.hub a n _ _)
 
 -- ---- two servers
 
 pub words_alike : {e f : Event} → Alike e f → (s r : Server) → Running connection_count s → Running connection_count r → s.table ≡ r.table → (k : ℕ)
-    → spoken_to (line_text k) (some e) s ≡ spoken_to (line_text k) (some f) r
+    → spoken_to (line_text k) (Some e) s ≡ spoken_to (line_text k) (Some f) r
 words_alike {e} {f} a s r h g q k =
     let b = answer_alike a s r q in
     let ps : All2 AlikeSent (answer e s).sent (answer f r).sent = all_alike b.sent (sent_apt connection_count e s h) (sent_apt connection_count f r g) in
     line_alike ps a k (answer e s).number s.table (next e s).table
-    ∙ ap (λ (u : Table). line_text k (some f) (map addressed (answer f r).sent) (answer e s).number u (next e s).table) q
-    ∙ ap₂ {C = Bytes} (λ (n : ℕ) (t : Table). line_text k (some f) (map addressed (answer f r).sent) n r.table t) b.number (table_alike a s r q)
+    ∙ ap (λ (u : Table). line_text k (Some f) (map addressed (answer f r).sent) (answer e s).number u (next e s).table) q
+    ∙ ap₂ {C = Bytes} (λ (n : ℕ) (t : Table). line_text k (Some f) (map addressed (answer f r).sent) n r.table t) b.number (table_alike a s r q)

@@ -11,13 +11,12 @@ use lib.Seq.{take_at}
 use Rattle.octets.specs.Bytes.{Bytes}
 use Rattle.packet.specs.declared.Ends.{Ends}
 use Rattle.packet.specs.declared.Shape.{Shape}
-use Rattle.packet.specs.declared.Read.TheVariants as RV
+use Rattle.packet.specs.declared.Refusal.{Refusal}
+use Rattle.std.specs.Prelude.{Err, Option, Some, None}
 use Rattle.packet.specs.Packet.{Direction, header, read, requests, responses}
-use Rattle.packet.specs.Answers.{answer_of, argument_at}
+use Rattle.packet.specs.Answers.{answer_of, argument_at, found}
 use Rattle.packet_laws.proofs.Answers.{read_answer, refused_answer}
 use Rattle.packet_laws.proofs.Places.{argument_read}
-use Rattle.handle.specs.declared.Serial as S
-use Rattle.handle.specs.declared.Serial.TheVariants as SV
 use Rattle.handle.specs.Handle.{serial_of}
 use Rattle.lists.specs.Lists.{concat}
 use Rattle.capture.specs.Packets.{packet_length, Addressed, Packed, packets_in, cut}
@@ -27,22 +26,22 @@ use Rattle.show_job.specs.Concerned.{concerned, first_sent, handle_in, job_named
 -- ---- a handle by its shape
 
 module _ (hub : Bytes) (shape : Shape) (a : Bytes) (names : Bool) (e : names ≡ names_job shape) where
-  pub handle_none : not names ≡ true → SV.None ≡ handle_in hub shape a
+  pub handle_none : not names ≡ true → None ≡ handle_in hub shape a
   unfolding handle_in
   handle_none h = rw (sym e ∙ not-true names h)
 
-  pub handle_first : not names ≡ false → (b : Bytes) → b ≡ a → (r : S.Serial) → r ≡ serial_of hub b → r ≡ handle_in hub shape a
+  pub handle_first : not names ≡ false → (b : Bytes) → b ≡ a → (r : Option ℕ) → r ≡ serial_of hub b → r ≡ handle_in hub shape a
   unfolding handle_in
   handle_first h b q r f = rw (sym e ∙ not-false names h, ← q) f
 
 -- ---- the job that a packet names
 
 module _ (hub : Bytes) (w : Direction) (s : Bytes) where
-  pub named_none : (n : ℕ) → RV.Refused n ≡ answer_of (read w s) → SV.None ≡ job_named hub w s
+  pub named_none : (r : Refusal) → Err r ≡ answer_of (read w s) → None ≡ job_named hub w s
   unfolding job_named named_by
-  named_none n e = rw (refused_answer (read w s) n (sym e))
+  named_none r e = rw (refused_answer w s r (sym e))
 
-  pub named_first : (k : ℕ) (ends : Ends) → RV.Packet k ends ≡ answer_of (read w s) → (shape : Shape) → shape ≡ w.shape k
+  pub named_first : (k : ℕ) (ends : Ends) → found k ends ≡ answer_of (read w s) → (shape : Shape) → shape ≡ w.shape k
       → handle_in hub shape (argument_at s ends 0) ≡ job_named hub w s
   unfolding job_named named_by
   named_first k ends e shape q =
@@ -52,7 +51,7 @@ module _ (hub : Bytes) (w : Direction) (s : Bytes) where
 
 -- ---- the first packet that was sent
 
-pub first_none : (hub b : Bytes) → length b ≡ 0 → SV.None ≡ job_named hub responses (first_sent (packets_in b))
+pub first_none : (hub b : Bytes) → length b ≡ 0 → None ≡ job_named hub responses (first_sent (packets_in b))
 unfolding packets_in cut job_named named_by read header
 first_none hub [] h = refl
 first_none hub (x ∷ b) h = absurd (omega arith)
@@ -90,16 +89,16 @@ module _ (b : Bytes) (k : Packed b) (h : length b ≡ 0 → ⊥) where
     pub first_inside : n ≤ length b
     first_inside = rw e first.inside
 
-    pub first_named : (hub : Bytes) (r : S.Serial) → r ≡ job_named hub responses (take (n - 1) (drop 1 b)) → r ≡ job_named hub responses (first_sent (packets_in b))
+    pub first_named : (hub : Bytes) (r : Option ℕ) → r ≡ job_named hub responses (take (n - 1) (drop 1 b)) → r ≡ job_named hub responses (first_sent (packets_in b))
     first_named hub r f = f ∙ rw e (ap (job_named hub responses) first.is)
 
 -- ---- the job that is concerned
 
 module _ (hub s : Bytes) (ps : List Bytes) where
-  pub concerned_own : (n : ℕ) → SV.Of n ≡ job_named hub requests s → SV.Of n ≡ concerned hub s ps
+  pub concerned_own : (n : ℕ) → Some n ≡ job_named hub requests s → Some n ≡ concerned hub s ps
   unfolding concerned
   concerned_own n e = rw (← e)
 
-  pub concerned_sent : SV.None ≡ job_named hub requests s → (r : S.Serial) → r ≡ job_named hub responses (first_sent ps) → r ≡ concerned hub s ps
+  pub concerned_sent : None ≡ job_named hub requests s → (r : Option ℕ) → r ≡ job_named hub responses (first_sent ps) → r ≡ concerned hub s ps
   unfolding concerned
   concerned_sent e r f = rw (← e) f

@@ -3,14 +3,12 @@
 #![tactic(auto)]
 
 ghost use Rattle.std.specs.Prelude.{◌≡◌};
-ghost use Rattle.packet.specs.Packet.{responses};
+ghost use Rattle.packet.specs.Packet.{direction_of, responses};
 ghost use Rattle.packet.specs.Answers.{argument_at};
-ghost use Rattle.packet_read.specs.Directions.{side};
 ghost use Rattle.capture.specs.Packets.{Packed, packets_in};
 ghost use Rattle.show_job.specs.Concerned.{concerned, first_sent, handle_in, job_named, names_job};
 
-use handle::Serial;
-use packet::{Ends, Read, Shape};
+use packet::{Ends, Packet, Shape, Side};
 
 // Whether the first argument of a shape is a handle.
 fn names_job(shape: Shape) -> bool
@@ -28,48 +26,47 @@ fn names_job(shape: Shape) -> bool
 }
 
 // The serial whose handle is the first argument of a packet that was read, if its shape begins with a handle.
-fn handle_in(hub: &[u8], shape: Shape, packet: &[u8], ends: Ends) -> Serial
+fn handle_in(hub: &[u8], shape: Shape, packet: &[u8], ends: Ends) -> Option<u32>
     ensures { result ≡ handle_in hub.now shape (argument_at packet.now ends 0) }
 {
     if !names_job(shape) {
-        return Serial::None;
+        return None;
     }
     handle::serial_of(hub, packet_read::argument(packet, ends, 0))
 }
 
 // The serial that a packet of one side names: a request, or a response.
-fn job_named(hub: &[u8], packet: &[u8], request: bool) -> Serial
-    ensures { result ≡ job_named hub.now (side request) packet.now }
+fn job_named(hub: &[u8], packet: &[u8], side: Side) -> Option<u32>
+    ensures { result ≡ job_named hub.now (direction_of side) packet.now }
 {
-    let read = packet_read::read_side(packet, request);
-    match read {
-        Read::Refused(_) => Serial::None,
-        Read::Packet { kind, ends } => {
-            handle_in(hub, packet_kinds::shape_of(kind, request), packet, ends)
+    match packet_read::read_side(packet, side) {
+        Err(_) => None,
+        Ok(Packet { kind, ends }) => {
+            handle_in(hub, packet_kinds::shape_of(kind, side), packet, ends)
         }
     }
 }
 
 // The serial that the first of the addressed packets names; none, where nothing was sent.
-fn sent_first(hub: &[u8], sent: &[u8]) -> Serial
+fn sent_first(hub: &[u8], sent: &[u8]) -> Option<u32>
     requires { Packed sent.now }
     ensures { result ≡ job_named hub.now responses (first_sent (packets_in sent.now)) }
 {
     if sent.len() == 0 {
-        return Serial::None;
+        return None;
     }
     let length = capture::packet_length(sent);
-    job_named(hub, &sent[1..length], false)
+    job_named(hub, &sent[1..length], Side::Response)
 }
 
 // The serial that the packet which came concerns at the hub of this name, with the addressed packets that were sent.
-pub fn concerned(hub: &[u8], packet: &[u8], sent: &[u8]) -> Serial
+pub fn concerned(hub: &[u8], packet: &[u8], sent: &[u8]) -> Option<u32>
     requires { Packed sent.now }
     ensures { result ≡ concerned hub.now packet.now (packets_in sent.now) }
 {
-    let own = job_named(hub, packet, true);
+    let own = job_named(hub, packet, Side::Request);
     match own {
-        Serial::Of(serial) => Serial::Of(serial),
-        Serial::None => sent_first(hub, sent),
+        Some(serial) => Some(serial),
+        None => sent_first(hub, sent),
     }
 }

@@ -3,7 +3,7 @@
 use Prim.Native.Nat.{ℕ}
 use Prim.Native.String.{String}
 use mathlib.Core.Path.{◌≡◌, refl}
-use mathlib.Core.Option.{Option, none, some}
+use Rattle.std.specs.Prelude.{Option, Some, None}
 use mathlib.Core.List.{List, [], ◌∷◌}
 use Rattle.octets.specs.Bytes.{Bytes, same, starts_with, first_zero, every, text}
 use Rattle.sets.specs.Sets.{has}
@@ -28,8 +28,8 @@ use Rattle.show_line.specs.Shown.{line_text, line_with}
 
 -- the bytes that digits spell
 abbrev bytes_in : Option Bytes → Bytes
-bytes_in none = []
-bytes_in (some b) = b
+bytes_in None = []
+bytes_in (Some b) = b
 
 -- line k of a capture: its digits, the packets sent in digits, the number, and the tables before and after it
 unfoldable words : ℕ → Bytes → List Bytes → ℕ → Table → Table → Bytes

@@ -3,7 +3,7 @@
 use Prim.Native.Nat.{ℕ, ◌+◌, ◌<◌, ◌≤◌}
 use mathlib.Core.Path.{◌≡◌, refl, ap, sym, subst}
 use mathlib.Core.Bool.{Bool, true, false, not, cond, ◌||◌}
-use mathlib.Core.Option.{Option, none, some}
+use Rattle.std.specs.Prelude.{Option, Some, None}
 use mathlib.Core.List.{List, [], ◌++◌}
 use native.Mathlib.Omega.{arith}
 use borrow.Author.Tests.{eqb-false}
@@ -62,8 +62,8 @@ module _ (t w o : Bytes) where
 
   tables_answered : (v : Option Event) → ((answered_to v t w o).number ≡ 1 → ⊥) → ((answered_to v t w o).number ≡ 16 → ⊥) → Tables t (answered_to v t w o).table
   unfolding answered_to refused_by
-  tables_answered none a b = absurd (b refl)
-  tables_answered (some e) a b = tables_called e a
+  tables_answered None a b = absurd (b refl)
+  tables_answered (Some e) a b = tables_called e a
 
 -- ---- the rows before the event count only where there is a table
 

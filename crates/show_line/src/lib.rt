@@ -40,7 +40,7 @@ fn rows_in(table: &[u8]) -> [JobRow; JOBS]
 fn put_line(
     text: &mut [u8],
     number: u32,
-    frame: Frame,
+    frame: Option<Frame>,
     bytes: &[u8; FRAME_SIZE],
     before: [JobRow; JOBS],
     table: &[u8],

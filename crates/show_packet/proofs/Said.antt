@@ -11,10 +11,12 @@ use lib.ListN.{length, get_or}
 use Rattle.octets.specs.Bytes.{Bytes, number_at}
 use Rattle.packet.specs.declared.Ends.{Ends}
 use Rattle.packet.specs.declared.Shape.{Shape}
-use Rattle.packet.specs.declared.Read.TheVariants as RV
+use Rattle.packet.specs.declared.Refusal.{Refusal}
+use Rattle.packet.specs.Refusals.{number_of}
+use Rattle.std.specs.Prelude.{Err}
 use Rattle.packet.specs.Layout.{rules_of}
 use Rattle.packet.specs.Packet.{Direction, refused, header, read}
-use Rattle.packet.specs.Answers.{answer_of, argument_at}
+use Rattle.packet.specs.Answers.{answer_of, argument_at, found}
 use Rattle.packet_laws.proofs.Answers.{read_answer, refused_answer}
 use Rattle.packet_laws.proofs.Packets.{Headed, header_good, read_got}
 use Rattle.packet_laws.proofs.Places.{argument_read}
@@ -32,10 +34,10 @@ unfolding argument_texts
 texts_same shape f g n h = same_pieces (λ i. argument_text shape i (f i)) (λ i. argument_text shape i (g i)) n h
 
 module _ (w : Direction) (s : Bytes) where
-  module _ (n : ℕ) (e : RV.Refused n ≡ answer_of (read w s)) where
+  module _ (r : Refusal) (e : Err r ≡ answer_of (read w s)) (n : ℕ) (en : n ≡ number_of r) where
     pub said_refused : refused_text (number_at s 4) n ≡ saying w s
     unfolding saying read_text
-    said_refused = rw (refused_answer (read w s) n (sym e))
+    said_refused = rw (en, refused_answer w s r (sym e))
 
     -- a header under 12 bytes is refused by 5
     pub refused_long : 9 ≤ n → 8 ≤ length s
@@ -44,11 +46,11 @@ module _ (w : Direction) (s : Bytes) where
       where
         by_length : (b : Bool) → ltb (length s) 12 ≡ b → 8 ≤ length s
         by_length true q =
-            let r : refused 5 ≡ refused n = rw q at (refused_answer (read w s) n (sym e)) in
-            let z : 5 ≡ n = cc in absurd (omega arith)
+            let f : refused 5 ≡ refused (number_of r) = rw q at (refused_answer w s r (sym e)) in
+            let z : 5 ≡ number_of r = cc in absurd (omega arith)
         by_length false q = omega (arith, ltb-false (length s) 12 q)
 
-  module _ (k : ℕ) (ends : Ends) (e : RV.Packet k ends ≡ answer_of (read w s)) where
+  module _ (k : ℕ) (ends : Ends) (e : found k ends ≡ answer_of (read w s)) where
     pub said_packet : (shape : Shape) → shape ≡ w.shape k → packet_text k shape (argument_at s ends) ≡ saying w s
     unfolding saying read_text packet_text
     said_packet shape q =

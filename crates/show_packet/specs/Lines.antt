@@ -5,10 +5,11 @@ use Rattle.octets.specs.Bytes.{Bytes, number_at}
 use Rattle.packet.specs.declared.Rule.{Rule}
 use Rattle.packet.specs.declared.Rule.TheVariants.{Absent}
 use Rattle.packet.specs.declared.Shape.{Shape}
+use Rattle.packet.specs.declared.Side.{Side}
+use Rattle.packet.specs.declared.Side.TheVariants.{Request, Response}
 use Rattle.packet.specs.Layout.{rules_of}
 use Rattle.packet.specs.Opaque.{is_opaque}
-use Rattle.packet.specs.Packet.{Direction, Reading, refused, got, read}
-use Rattle.packet_read.specs.Directions.{side}
+use Rattle.packet.specs.Packet.{Direction, direction_of, Reading, refused, got, read}
 use Rattle.handle.specs.Handle.{decimal}
 use Rattle.show_names.specs.Names.{label_of, name_of, reason_of, space}
 use Rattle.prints.specs.Pieces.{pieces}
@@ -41,8 +42,9 @@ to_server = 32 ∷ 45 ∷ 62 ∷ 32 ∷ []
 abbrev pub from_server : Bytes
 from_server = 32 ∷ 60 ∷ 45 ∷ 32 ∷ []
 
-abbrev pub arrow : Bool → Bytes
-arrow is_request = cond is_request to_server from_server
+abbrev pub arrow : Side → Bytes
+arrow Request = to_server
+arrow Response = from_server
 
 -- ---- one argument
 
@@ -95,13 +97,13 @@ saying w s = read_text w.shape (number_at s 4) (read w s)
 -- ---- one line, without its line end
 
 -- a line of requests, or of responses: the connection, the arrow, and what the packet says
-abbrev pub side_line : Bool → ℕ → Bytes → Bytes
-side_line is_request c s = decimal c ++ (arrow is_request ++ saying (side is_request) s)
+abbrev pub side_line : Side → ℕ → Bytes → Bytes
+side_line w c s = decimal c ++ (arrow w ++ saying (direction_of w) s)
 
 -- `1 -> CAN_DO reverse`
 unfoldable pub request_line : ℕ → Bytes → Bytes
-request_line c s = side_line true c s
+request_line c s = side_line Request c s
 
 -- `0 <- JOB_CREATED H:lap:1`
 unfoldable pub response_line : ℕ → Bytes → Bytes
-response_line c s = side_line false c s
+response_line c s = side_line Response c s

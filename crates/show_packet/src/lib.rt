@@ -9,7 +9,7 @@ ghost use Rattle.packet.specs.Layout.{rules_of};
 ghost use Rattle.packet.specs.Answers.{argument_at};
 ghost use Rattle.show_packet.specs.Lines.{argument_text, argument_texts, arrow, label_before, packet_text, refusal_text, refused_text, request_line, response_line, side_line, sized, unreadable_text, value_of};
 
-use packet::{Ends, Read, Rule, Shape};
+use packet::{Ends, Packet, Rule, Shape, Side};
 
 // Lays how many bytes an opaque argument has.
 fn put_size(out: &mut [u8], at: usize, count: usize) -> usize
@@ -63,11 +63,9 @@ fn put_arguments(out: &mut [u8], at: usize, shape: Shape, packet: &[u8], ends: E
 {
     let count = packet_kinds::count_of(shape);
     let mut place = at;
-    let mut i = 0;
-    while i < count {
+    for i in 0..count {
         let a = packet_read::argument(packet, ends, i);
         place = put_argument(out, place, shape, i, a);
-        i += 1;
     }
     place
 }
@@ -123,32 +121,31 @@ fn put_refused(out: &mut [u8], at: usize, packet: &[u8], number: u8) -> usize
 }
 
 // Lays the arrow between the connection and the packet: to the server, or from it.
-fn put_arrow(out: &mut [u8], at: usize, request: bool) -> usize
-    requires { at + length (arrow request) ≤ length out.old }
-    ensures { (result ≡ at + length (arrow request)) × (out.new ≡ put at (arrow request) out.old) }
+fn put_arrow(out: &mut [u8], at: usize, side: Side) -> usize
+    requires { at + length (arrow side) ≤ length out.old }
+    ensures { (result ≡ at + length (arrow side)) × (out.new ≡ put at (arrow side) out.old) }
 {
-    if request {
-        return octets::put(out, at, b" -> ");
+    match side {
+        Side::Request => octets::put(out, at, b" -> "),
+        Side::Response => octets::put(out, at, b" <- "),
     }
-    octets::put(out, at, b" <- ")
 }
 
 // Lays a packet of one side as a line: who sends it or to whom it goes, and what it says.
-fn put_line(out: &mut [u8], at: usize, connection: u8, packet: &[u8], request: bool) -> usize
-    requires { at + length (side_line request connection packet.now) ≤ length out.old }
-    ensures { (result ≡ at + length (side_line request connection packet.now)) × (out.new ≡ put at (side_line request connection packet.now) out.old) }
+fn put_line(out: &mut [u8], at: usize, connection: u8, packet: &[u8], side: Side) -> usize
+    requires { at + length (side_line side connection packet.now) ≤ length out.old }
+    ensures { (result ≡ at + length (side_line side connection packet.now)) × (out.new ≡ put at (side_line side connection packet.now) out.old) }
 {
     let arrow = prints::put_number(out, at, connection as u32);
-    let place = put_arrow(out, arrow, request);
-    let read = packet_read::read_side(packet, request);
-    match read {
-        Read::Refused(number) => put_refused(out, place, packet, number),
-        Read::Packet { kind, ends } => {
+    let place = put_arrow(out, arrow, side);
+    match packet_read::read_side(packet, side) {
+        Err(refusal) => put_refused(out, place, packet, refusal.number()),
+        Ok(Packet { kind, ends }) => {
             put_packet(
                 out,
                 place,
                 kind,
-                packet_kinds::shape_of(kind, request),
+                packet_kinds::shape_of(kind, side),
                 packet,
                 ends,
             )
@@ -161,7 +158,7 @@ pub fn put_request(out: &mut [u8], at: usize, connection: u8, packet: &[u8]) -> 
     requires { at + length (request_line connection packet.now) ≤ length out.old }
     ensures { (result ≡ at + length (request_line connection packet.now)) × (out.new ≡ put at (request_line connection packet.now) out.old) }
 {
-    put_line(out, at, connection, packet, true)
+    put_line(out, at, connection, packet, Side::Request)
 }
 
 // Lays a response as a line: to whom it goes, and what it says.
@@ -169,5 +166,5 @@ pub fn put_response(out: &mut [u8], at: usize, connection: u8, packet: &[u8]) ->
     requires { at + length (response_line connection packet.now) ≤ length out.old }
     ensures { (result ≡ at + length (response_line connection packet.now)) × (out.new ≡ put at (response_line connection packet.now) out.old) }
 {
-    put_line(out, at, connection, packet, false)
+    put_line(out, at, connection, packet, Side::Response)
 }

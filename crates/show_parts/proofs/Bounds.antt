@@ -2,7 +2,7 @@
 use Prim.Native.Nat.{ℕ, ◌+◌, ◌*◌, ◌≤◌}
 use mathlib.Core.Path.{◌≡◌, refl}
 use mathlib.Core.Bool.{Bool, true, false, cond, ◌||◌}
-use mathlib.Core.Option.{Option, none, some}
+use Rattle.std.specs.Prelude.{Option, Some, None}
 use mathlib.Core.List.{List, [], ◌∷◌, ◌++◌}
 use native.Mathlib.Omega.{arith}
 use borrow.Author.Tests.{eqb-false}
@@ -12,8 +12,6 @@ use Rattle.octets.specs.Bytes.{Bytes}
 use Rattle.hexadecimal.specs.Hex.{hex}
 use Rattle.hexadecimal.proofs.Writing.{hex_length}
 use Rattle.packet.specs.Packet.{Reading, refused, got, read, requests}
-use Rattle.handle.specs.declared.Serial as S
-use Rattle.handle.specs.declared.Serial.TheVariants as SV
 use Rattle.handle.specs.Handle.{decimal, is_hub_name}
 use Rattle.handle.proofs.Decimal.{decimal_most}
 use Rattle.server.specs.declared.JobRow.{JobRow}
@@ -33,10 +31,10 @@ use Rattle.show_parts.specs.Parts.{answer_text, close_jobs, closes_word, digits_
 
 event_short : (f : Option Event) → length (event_text f) ≤ 1270
 unfolding event_text
-event_short none = omega arith
-event_short (some (opens c)) = omega (arith, length-append (decimal c) opens_word, decimal_most c)
-event_short (some (closes c)) = omega (arith, length-append (decimal c) closes_word, decimal_most c)
-event_short (some (sends c b)) = omega (arith, request_line_short c b)
+event_short None = omega arith
+event_short (Some (opens c)) = omega (arith, length-append (decimal c) opens_word, decimal_most c)
+event_short (Some (closes c)) = omega (arith, length-append (decimal c) closes_word, decimal_most c)
+event_short (Some (sends c b)) = omega (arith, request_line_short c b)
 
 header_short : (b : Bytes) (r : Reading) → length (header_in b r) ≤ 12
 header_short b (refused n) = either (ltb n 9)
@@ -51,10 +49,10 @@ frame_digits_short kind c header h = omega (arith, length-append (hex (kind ∷ 
 
 digits_short : (f : Option Event) → length (digits_text f) ≤ 29
 unfolding digits_text header_seen
-digits_short none = omega arith
-digits_short (some (opens c)) = frame_digits_short 1 c [] (omega arith)
-digits_short (some (closes c)) = frame_digits_short 2 c [] (omega arith)
-digits_short (some (sends c b)) = frame_digits_short 3 c (header_in b (read requests b)) (header_short b (read requests b))
+digits_short None = omega arith
+digits_short (Some (opens c)) = frame_digits_short 1 c [] (omega arith)
+digits_short (Some (closes c)) = frame_digits_short 2 c [] (omega arith)
+digits_short (Some (sends c b)) = frame_digits_short 3 c (header_in b (read requests b)) (header_short b (read requests b))
 
 pub heading_short : (k : ℕ) (f : Option Event) → length (heading_text k f) ≤ 1314
 unfolding heading_text
@@ -80,11 +78,11 @@ answer_short ps n a = omega (arith, length-append (packet_lines sent_text ps) (n
 -- ---- the table, where its hub has a name
 
 module _ (hub : Bytes) (good : is_hub_name hub ≡ true) where
-  named_short : (s : S.Serial) (u v : List JobRow) → length (named_text hub s u v) ≤ jobs_room
-  named_short SV.None u v = omega arith
-  named_short (SV.Of n) u v = omega (arith, serial_text_short hub good n u v)
+  named_short : (s : Option ℕ) (u v : List JobRow) → length (named_text hub s u v) ≤ jobs_room
+  named_short None u v = omega arith
+  named_short (Some n) u v = omega (arith, serial_text_short hub good n u v)
 
-  packet_jobs_short : (s : S.Serial) (u v : List JobRow) → length (packet_jobs hub s u v) ≤ gone_room + jobs_room
+  packet_jobs_short : (s : Option ℕ) (u v : List JobRow) → length (packet_jobs hub s u v) ≤ gone_room + jobs_room
   unfolding packet_jobs
   packet_jobs_short s u v = omega (arith, length-append (gone_text hub ended_word u v) (named_text hub s u v), gone_short hub good ended_word u v (omega arith), named_short s u v)
 
@@ -98,10 +96,10 @@ module _ (hub : Bytes) (good : is_hub_name hub ≡ true) where
 
   jobs_after_short : (f : Option Event) (ps : List Bytes) (n : ℕ) (u v : List JobRow) → length (jobs_after hub f ps n u v) ≤ gone_room + jobs_room
   unfolding jobs_after
-  jobs_after_short none ps n u v = omega arith
-  jobs_after_short (some (opens c)) ps n u v = omega arith
-  jobs_after_short (some (closes c)) ps n u v = close_jobs_short n u v
-  jobs_after_short (some (sends c b)) ps n u v = packet_jobs_short (concerned hub b ps) u v
+  jobs_after_short None ps n u v = omega arith
+  jobs_after_short (Some (opens c)) ps n u v = omega arith
+  jobs_after_short (Some (closes c)) ps n u v = close_jobs_short n u v
+  jobs_after_short (Some (sends c b)) ps n u v = packet_jobs_short (concerned hub b ps) u v
 
 -- of a table that is none nothing is said, and its hub needs no name
 pub table_short : (f : Option Event) (ps : List Bytes) (n : ℕ) (u : List JobRow) (t : Table) → ((n ≡ 1 → ⊥) → (n ≡ 16 → ⊥) → hub_named t ≡ true)

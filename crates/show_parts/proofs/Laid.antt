@@ -2,19 +2,20 @@
 -- found. Assumes nothing.
 use Prim.Native.Nat.{ℕ, ◌-◌, ◌<◌, ◌≤◌}
 use mathlib.Core.Path.{◌≡◌, ap, ap₂, sym}
-use mathlib.Core.Option.{Option}
+use Rattle.std.specs.Prelude as P
+use Rattle.std.specs.Prelude.{Option, Ok, Err, Some, None}
 use mathlib.Core.List.{List, [], ◌++◌}
 use borrow.Author.Tests.{le-ltb, lt-ltb, ne_eqb}
 use lib.ListN.{length, get_or, take, drop}
 use Rattle.octets.specs.Bytes.{Bytes}
 use Rattle.octets.proofs.Strings.{rest_part}
 use Rattle.packet.specs.declared.Ends.{Ends}
-use Rattle.packet.specs.declared.Read.TheVariants as RV
+use Rattle.packet.specs.declared.Packet.{Packet}
+use Rattle.packet.specs.declared.Refusal.{Refusal}
+use Rattle.packet.specs.Refusals.{number_of}
 use Rattle.packet.specs.Packet.{read, requests}
 use Rattle.packet.specs.Answers.{answer_of}
 use Rattle.packet_laws.proofs.Answers.{read_answer, refused_answer}
-use Rattle.handle.specs.declared.Serial as S
-use Rattle.handle.specs.declared.Serial.TheVariants as SV
 use Rattle.handle.specs.Handle.{decimal}
 use Rattle.server.specs.declared.JobRow.{JobRow}
 use Rattle.server.specs.Sizes.{connection_count}
@@ -32,8 +33,8 @@ use Rattle.show_parts.specs.Parts.{close_jobs, closes_word, digits_text, done_wo
 
 -- ---- by the kind of frame
 
-module _ (f : F.Frame) (b : Bytes) where
-  module _ (e : f ≡ FV.Nothing) where
+module _ (f : P.Option F.Frame) (b : Bytes) where
+  module _ (e : f ≡ P.None) where
     pub nothing_digits : [] ≡ digits_text (event_of f b)
     unfolding digits_text
     nothing_digits = rw e
@@ -47,7 +48,7 @@ module _ (f : F.Frame) (b : Bytes) where
     nothing_jobs hub ps n u v = rw e
 
   module _ (c : ℕ) where
-    module _ (e : f ≡ FV.Open c) where
+    module _ (e : f ≡ P.Some (FV.Open c)) where
       pub open_digits : frame_digits 1 c [] ≡ digits_text (event_of f b)
       unfolding digits_text
       open_digits = rw e
@@ -60,7 +61,7 @@ module _ (f : F.Frame) (b : Bytes) where
       unfolding jobs_after
       open_jobs hub ps n u v = rw e
 
-    module _ (e : f ≡ FV.Close c) where
+    module _ (e : f ≡ P.Some (FV.Close c)) where
       pub close_digits : frame_digits 2 c [] ≡ digits_text (event_of f b)
       unfolding digits_text
       close_digits = rw e
@@ -73,7 +74,7 @@ module _ (f : F.Frame) (b : Bytes) where
       unfolding jobs_after
       close_jobs_lem hub ps n u v = rw e
 
-    module _ (end : ℕ) (e : f ≡ FV.Packet c end) where
+    module _ (end : ℕ) (e : f ≡ P.Some (FV.Packet c end)) where
       pub packet_digits : (header : Bytes) → header ≡ header_seen (take (end - 2) (drop 2 b)) → frame_digits 3 c header ≡ digits_text (event_of f b)
       unfolding digits_text
       packet_digits header q = rw (e, q)
@@ -82,7 +83,7 @@ module _ (f : F.Frame) (b : Bytes) where
       unfolding event_text
       packet_event = rw e
 
-      pub packet_jobs_lem : (hub : Bytes) (s : S.Serial) (ps : List Bytes) (n : ℕ) (u v : List JobRow) → s ≡ concerned hub (take (end - 2) (drop 2 b)) ps
+      pub packet_jobs_lem : (hub : Bytes) (s : Option ℕ) (ps : List Bytes) (n : ℕ) (u v : List JobRow) → s ≡ concerned hub (take (end - 2) (drop 2 b)) ps
           → packet_jobs hub s u v ≡ jobs_after hub (event_of f b) ps n u v
       unfolding jobs_after
       packet_jobs_lem hub s ps n u v q = rw (e, q)
@@ -90,26 +91,26 @@ module _ (f : F.Frame) (b : Bytes) where
 -- ---- by the reading of a packet
 
 module _ (b : Bytes) where
-  module _ (n : ℕ) (e : RV.Refused n ≡ answer_of (read requests b)) where
+  module _ (r : Refusal) (e : Err r ≡ answer_of (read requests b)) (n : ℕ) (en : n ≡ number_of r) where
     pub bad_header : n < 9 → (h : Bytes) → h ≡ take 0 b → h ≡ header_seen b
     unfolding header_seen
-    bad_header l h q = rw (refused_answer (read requests b) n (sym e), lt-ltb n 9 l) q
+    bad_header l h q = rw (refused_answer requests b r (sym e), ← en, lt-ltb n 9 l) q
 
     pub header_refused : 9 ≤ n → (h : Bytes) → h ≡ take 12 b → h ≡ header_seen b
     unfolding header_seen
-    header_refused l h q = rw (refused_answer (read requests b) n (sym e), le-ltb n 9 l) q
+    header_refused l h q = rw (refused_answer requests b r (sym e), ← en, le-ltb n 9 l) q
 
-  pub header_read : (k : ℕ) (ends : Ends) → RV.Packet k ends ≡ answer_of (read requests b) → (h : Bytes) → h ≡ take 12 b → h ≡ header_seen b
+  pub header_read : (p : Packet) → Ok p ≡ answer_of (read requests b) → (h : Bytes) → h ≡ take 12 b → h ≡ header_seen b
   unfolding header_seen
-  header_read k ends e h q = rw (read_answer (read requests b) k ends (sym e)).1 q
+  header_read p e h q = rw (read_answer (read requests b) p.kind p.ends (sym e)).1 q
 
 -- ---- by the serial
 
-module _ (hub : Bytes) (s : S.Serial) (u v : List JobRow) where
-  pub no_serial_lem : s ≡ SV.None → [] ≡ named_text hub s u v
+module _ (hub : Bytes) (s : Option ℕ) (u v : List JobRow) where
+  pub no_serial_lem : s ≡ None → [] ≡ named_text hub s u v
   no_serial_lem e = rw e
 
-  pub of_serial : (n : ℕ) → s ≡ SV.Of n → serial_text hub connection_count n u v ≡ named_text hub s u v
+  pub of_serial : (n : ℕ) → s ≡ Some n → serial_text hub connection_count n u v ≡ named_text hub s u v
   of_serial n e = rw e
 
 -- ---- by the number

@@ -1,12 +1,9 @@
 -- The parts of what `show` prints for a line of a capture: its number and what it says, what the server answered, and how the table
 -- stands after it. docs/SHOW.md has the layout. Assumes nothing.
-use Rattle.std.specs.Prelude.{ℕ, cond, ◌||◌, List, [], ◌∷◌, ◌++◌, get_or, take, drop, eqb, ltb}
-use Rattle.std.proofs.Math.Option.{Option, none, some}
+use Rattle.std.specs.Prelude.{ℕ, cond, Option, Some, None, ◌||◌, List, [], ◌∷◌, ◌++◌, get_or, take, drop, eqb, ltb}
 use Rattle.octets.specs.Bytes.{Bytes}
 use Rattle.hexadecimal.specs.Hex.{hex}
 use Rattle.packet.specs.Packet.{Reading, refused, got, read, requests}
-use Rattle.handle.specs.declared.Serial as S
-use Rattle.handle.specs.declared.Serial.TheVariants as SV
 use Rattle.handle.specs.Handle.{decimal}
 use Rattle.server.specs.declared.JobRow.{JobRow}
 use Rattle.server.specs.Sizes.{connection_count}
@@ -53,19 +50,19 @@ abbrev pub frame_digits : ℕ → ℕ → Bytes → Bytes
 frame_digits kind c header = space ++ (hex (kind ∷ c ∷ []) ++ hex header)
 
 unfoldable pub digits_text : Option Event → Bytes
-digits_text none = []
-digits_text (some (opens c)) = frame_digits 1 c []
-digits_text (some (closes c)) = frame_digits 2 c []
-digits_text (some (sends c b)) = frame_digits 3 c (header_seen b)
+digits_text None = []
+digits_text (Some (opens c)) = frame_digits 1 c []
+digits_text (Some (closes c)) = frame_digits 2 c []
+digits_text (Some (sends c b)) = frame_digits 3 c (header_seen b)
 
 -- ---- what the line says, and what the server answered
 
 -- `1 opens`, `1 closes`, `1 -> CAN_DO reverse`; what isn't a frame says nothing
 unfoldable pub event_text : Option Event → Bytes
-event_text none = []
-event_text (some (opens c)) = below ++ (decimal c ++ opens_word)
-event_text (some (closes c)) = below ++ (decimal c ++ closes_word)
-event_text (some (sends c b)) = below ++ request_line c b
+event_text None = []
+event_text (Some (opens c)) = below ++ (decimal c ++ opens_word)
+event_text (Some (closes c)) = below ++ (decimal c ++ closes_word)
+event_text (Some (sends c b)) = below ++ request_line c b
 
 -- an addressed packet: `0 <- JOB_CREATED H:lap:1`
 unfoldable pub sent_text : Bytes → Bytes
@@ -79,12 +76,12 @@ number_text n = below ++ cond (eqb n 0) done_word (refusal_text n)
 
 -- the jobs at the hub of this name, from the rows before the event and after it
 
-abbrev pub named_text : Bytes → S.Serial → List JobRow → List JobRow → Bytes
-named_text hub SV.None before after = []
-named_text hub (SV.Of n) before after = serial_text hub connection_count n before after
+abbrev pub named_text : Bytes → Option ℕ → List JobRow → List JobRow → Bytes
+named_text hub None before after = []
+named_text hub (Some n) before after = serial_text hub connection_count n before after
 
 -- a packet: the job that it ended, and the one that it concerns
-unfoldable pub packet_jobs : Bytes → S.Serial → List JobRow → List JobRow → Bytes
+unfoldable pub packet_jobs : Bytes → Option ℕ → List JobRow → List JobRow → Bytes
 packet_jobs hub s before after = gone_text hub ended_word before after ++ named_text hub s before after
 
 -- a close that is done: the jobs that it dropped, and all that are left
@@ -92,10 +89,10 @@ unfoldable pub close_jobs : Bytes → ℕ → List JobRow → List JobRow → By
 close_jobs hub n before after = cond (eqb n 0) (gone_text hub dropped_word before after ++ jobs_text hub connection_count after) []
 
 unfoldable pub jobs_after : Bytes → Option Event → List Bytes → ℕ → List JobRow → List JobRow → Bytes
-jobs_after hub none ps n before after = []
-jobs_after hub (some (opens c)) ps n before after = []
-jobs_after hub (some (closes c)) ps n before after = close_jobs hub n before after
-jobs_after hub (some (sends c b)) ps n before after = packet_jobs hub (concerned hub b ps) before after
+jobs_after hub None ps n before after = []
+jobs_after hub (Some (opens c)) ps n before after = []
+jobs_after hub (Some (closes c)) ps n before after = close_jobs hub n before after
+jobs_after hub (Some (sends c b)) ps n before after = packet_jobs hub (concerned hub b ps) before after
 
 -- the table after the event, with the rows before it; the hub is the table's. What was refused by 1 is no table; what was refused by 16 the
 -- server did not see.

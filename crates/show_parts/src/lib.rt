@@ -16,23 +16,20 @@ ghost use Rattle.show_table.specs.Standing.{below};
 ghost use Rattle.show_parts.specs.Parts.{answer_text, close_jobs, digits_text, event_text, frame_digits, header_seen, heading_text, jobs_after, named_text, number_text, packet_jobs, sent_text, table_text};
 
 use capture::{FRAME_SIZE, Frame};
-use handle::Serial;
-use packet::Read;
 use server::{JOBS, JobRow};
 
 // The header of a packet, where it is good, and nothing of it otherwise.
 fn header_seen(packet: &[u8]) -> &[u8]
     ensures { result.now ≡ header_seen packet.now }
 {
-    let read = packet_read::read_request(packet);
-    match read {
-        Read::Refused(number) => {
-            if number < 9 {
+    match packet_read::read_request(packet) {
+        Err(refusal) => {
+            if refusal.number() < 9 {
                 return lines::front(packet, 0);
             }
             lines::front(packet, 12)
         }
-        Read::Packet { kind, ends } => lines::front(packet, 12),
+        Ok(_) => lines::front(packet, 12),
     }
 }
 
@@ -47,12 +44,14 @@ fn put_digits(text: &mut [u8], at: usize, kind: u8, connection: u8, header: &[u8
 }
 
 // Lays the digits of a frame, as far as they may be seen.
-fn put_seen(text: &mut [u8], at: usize, frame: Frame, bytes: &[u8; FRAME_SIZE]) -> usize
+fn put_seen(text: &mut [u8], at: usize, frame: Option<Frame>, bytes: &[u8; FRAME_SIZE]) -> usize
     requires { Bounded frame × (at + length (digits_text (event_of frame bytes.now)) ≤ length text.old) }
     ensures { (result ≡ at + length (digits_text (event_of frame bytes.now))) × (text.new ≡ put at (digits_text (event_of frame bytes.now)) text.old) }
 {
-    match frame {
-        Frame::Nothing => at,
+    let Some(called) = frame else {
+        return at;
+    };
+    match called {
         Frame::Open { connection } => put_digits(text, at, 1, connection, b""),
         Frame::Close { connection } => put_digits(text, at, 2, connection, b""),
         Frame::Packet { connection, end } => {
@@ -82,12 +81,14 @@ fn put_request(text: &mut [u8], at: usize, connection: u8, packet: &[u8]) -> usi
 }
 
 // Lays what a frame says.
-fn put_event(text: &mut [u8], at: usize, frame: Frame, bytes: &[u8; FRAME_SIZE]) -> usize
+fn put_event(text: &mut [u8], at: usize, frame: Option<Frame>, bytes: &[u8; FRAME_SIZE]) -> usize
     requires { Bounded frame × (at + length (event_text (event_of frame bytes.now)) ≤ length text.old) }
     ensures { (result ≡ at + length (event_text (event_of frame bytes.now))) × (text.new ≡ put at (event_text (event_of frame bytes.now)) text.old) }
 {
-    match frame {
-        Frame::Nothing => at,
+    let Some(called) = frame else {
+        return at;
+    };
+    match called {
         Frame::Open { connection } => put_deed(text, at, connection, b" opens"),
         Frame::Close { connection } => put_deed(text, at, connection, b" closes"),
         Frame::Packet { connection, end } => {
@@ -98,7 +99,12 @@ fn put_event(text: &mut [u8], at: usize, frame: Frame, bytes: &[u8; FRAME_SIZE])
 }
 
 // Lays the number of a line, its digits, and what its frame says.
-pub fn put_heading(text: &mut [u8], number: u32, frame: Frame, bytes: &[u8; FRAME_SIZE]) -> usize
+pub fn put_heading(
+    text: &mut [u8],
+    number: u32,
+    frame: Option<Frame>,
+    bytes: &[u8; FRAME_SIZE],
+) -> usize
     requires { Bounded frame × (0 + length (heading_text number (event_of frame bytes.now)) ≤ length text.old) }
     ensures { (result ≡ 0 + length (heading_text number (event_of frame bytes.now))) × (text.new ≡ put 0 (heading_text number (event_of frame bytes.now)) text.old) }
 {
@@ -159,7 +165,7 @@ fn put_job(
     text: &mut [u8],
     at: usize,
     hub: &[u8],
-    serial: Serial,
+    serial: Option<u32>,
     before: [JobRow; JOBS],
     after: [JobRow; JOBS],
 ) -> usize
@@ -168,8 +174,8 @@ fn put_job(
         × (text.new ≡ put at (named_text hub.now serial before after) text.old) }
 {
     match serial {
-        Serial::None => at,
-        Serial::Of(n) => show_table::put_job_of(text, at, hub, before, after, n),
+        None => at,
+        Some(n) => show_table::put_job_of(text, at, hub, before, after, n),
     }
 }
 
@@ -178,7 +184,7 @@ fn put_ended(
     text: &mut [u8],
     at: usize,
     hub: &[u8],
-    serial: Serial,
+    serial: Option<u32>,
     before: [JobRow; JOBS],
     after: [JobRow; JOBS],
 ) -> usize
@@ -215,7 +221,7 @@ fn put_jobs(
     text: &mut [u8],
     at: usize,
     hub: &[u8],
-    frame: Frame,
+    frame: Option<Frame>,
     bytes: &[u8; FRAME_SIZE],
     sent: &[u8],
     number: u8,
@@ -227,8 +233,10 @@ fn put_jobs(
     ensures { (result ≡ at + length (jobs_after hub.now (event_of frame bytes.now) (packets_in sent.now) number before after))
         × (text.new ≡ put at (jobs_after hub.now (event_of frame bytes.now) (packets_in sent.now) number before after) text.old) }
 {
-    match frame {
-        Frame::Nothing => at,
+    let Some(called) = frame else {
+        return at;
+    };
+    match called {
         Frame::Open { connection } => at,
         Frame::Close { connection } => put_dropped(text, at, hub, number, before, after),
         Frame::Packet { connection, end } => {
@@ -246,7 +254,7 @@ pub fn put_table(
     at: usize,
     before: [JobRow; JOBS],
     table: &[u8],
-    frame: Frame,
+    frame: Option<Frame>,
     bytes: &[u8; FRAME_SIZE],
     sent: &[u8],
     number: u8,

@@ -4,7 +4,7 @@ use Prim.Native.Nat.{ℕ, zero, suc, ◌+◌, ◌/◌, ◌%◌, ◌<◌, ◌≤�
 use mathlib.Core.Path.{◌≡◌}
 use mathlib.Core.Bool.{Bool, true, false, cond}
 use mathlib.Core.List.{List, [], ◌∷◌, ◌++◌}
-use mathlib.Core.Option.{Option, none, some}
+use Rattle.std.specs.Prelude.{Option, Some, None}
 use native.Mathlib.Omega.{arith}
 use borrow.Author.Tests.{lt-ltb}
 use lib.Dec.{eqb, ltb}
@@ -105,8 +105,8 @@ module _ (hub : Bytes) (good : is_hub_name hub ≡ true) where
 
   unfound_short : (word : Bytes) (serial : ℕ) (o : Option ℕ) → length (unfound_text hub word serial o) ≤ length word + 5 + handle_most
   unfolding unfound_text
-  unfound_short word serial (some p) = omega arith
-  unfound_short word serial none = handle_line_short word serial
+  unfound_short word serial (Some p) = omega arith
+  unfound_short word serial None = handle_line_short word serial
 
   absent_short : (word : Bytes) (serial : ℕ) (rs : List JobRow) → length (absent_text hub word serial rs) ≤ length word + 5 + handle_most
   unfolding absent_text
@@ -114,8 +114,8 @@ module _ (hub : Bytes) (good : is_hub_name hub ≡ true) where
 
   found_short : (serial : ℕ) (before after : List JobRow) (o : Option ℕ) → length (found_text hub connection_count serial before after o) ≤ job_room
   unfolding found_text
-  found_short serial before after (some p) = job_short (get_or after p no_row)
-  found_short serial before after none = omega (arith, absent_short no_job_word serial before)
+  found_short serial before after (Some p) = job_short (get_or after p no_row)
+  found_short serial before after None = omega (arith, absent_short no_job_word serial before)
 
   pub serial_text_short : (serial : ℕ) (before after : List JobRow) → length (serial_text hub connection_count serial before after) ≤ job_room
   unfolding serial_text

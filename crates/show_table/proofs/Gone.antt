@@ -3,7 +3,7 @@
 use Prim.Native.Nat.{ℕ, zero, suc, ◌<◌}
 use mathlib.Core.Path.{◌≡◌, refl}
 use mathlib.Core.Bool.{Bool, true, false, not, cond, ◌&&◌}
-use mathlib.Core.Option.{Option, none, some}
+use Rattle.std.specs.Prelude.{Option, Some, None}
 use mathlib.Core.List.{List, []}
 use native.Mathlib.Omega.{arith}
 use borrow.Author.Tests.{eq-eqb, ltb-false, ltb-true}
@@ -32,9 +32,9 @@ module _ (hub word : Bytes) (rs : List JobRow) where
   finds s p h e = go (serial_row s rs) refl
     where
       go : (o : Option ℕ) → serial_row s rs ≡ o → unfound_text hub word s o ≡ []
-      go (some i) q = refl
-      go none q =
-          let n : not (live (get_or rs p no_row) && eqb (get_or rs p no_row).serial s) ≡ true = all_at _ rs p no_row (found _ no_row rs none q) h in
+      go (Some i) q = refl
+      go None q =
+          let n : not (live (get_or rs p no_row) && eqb (get_or rs p no_row).serial s) ≡ true = all_at _ rs p no_row (found _ no_row rs None q) h in
           let z : false ≡ true = rw e at n in
           let y : ◌≡◌ {A = ℕ} 0 1 = cc in absurd (omega arith)
 

@@ -1,5 +1,6 @@
 -- What the tests and the search of the code say of a row's holder, of the job of a serial, and of one that is gone. Assumes nothing.
 use Prim.Native.Nat.{ℕ, zero, suc, ◌-◌}
+use Rattle.std.specs.Prelude.{Some, None}
 use mathlib.Core.Path.{◌≡◌, refl, ap, ◌∙◌}
 use mathlib.Core.Bool.{cond}
 use mathlib.Core.List.{List, [], ◌++◌}
@@ -10,9 +11,6 @@ use Rattle.handle.specs.Handle.{decimal}
 use Rattle.server.specs.declared.JobRow.{JobRow}
 use Rattle.server.specs.Sizes.{connection_count}
 use Rattle.server.specs.Table.{live, no_row}
-use Rattle.lists.proofs.Places.{searched}
-use Rattle.lists.specs.declared.Place.TheVariants.{At, Nowhere}
-use Rattle.lists.specs.Places.{placed}
 use Rattle.plan.specs.Values.{serial_row}
 use Rattle.show_names.specs.Names.{space}
 use Rattle.show_table.specs.Standing.{absent_text, found_text, gone_one, handle_line, holder_text, holder_word, job_text, no_job_word, none_word, serial_text, unfound_text}
@@ -39,19 +37,19 @@ holder_some (suc c) n = let e : suc c - 1 ≡ c = omega arith in rw e
 -- ---- the job of a serial, from the answer of the search
 
 module _ (hub : Bytes) (n serial : ℕ) (before after : List JobRow) where
-  pub serial_found : (p : ℕ) (r : JobRow) → At p ≡ placed (serial_row serial after) → r ≡ get_or after p no_row → job_text hub n r ≡ serial_text hub n serial before after
+  pub serial_found : (p : ℕ) (r : JobRow) → Some p ≡ serial_row serial after → r ≡ get_or after p no_row → job_text hub n r ≡ serial_text hub n serial before after
   unfolding serial_text found_text
-  serial_found p r e q = ap (job_text hub n) q ∙ ap (found_text hub n serial before after) (searched (serial_row serial after) (At p) e)
+  serial_found p r e q = ap (job_text hub n) q ∙ ap (found_text hub n serial before after) e
 
-  pub serial_unfound : Nowhere ≡ placed (serial_row serial after) → absent_text hub no_job_word serial before ≡ serial_text hub n serial before after
+  pub serial_unfound : None ≡ serial_row serial after → absent_text hub no_job_word serial before ≡ serial_text hub n serial before after
   unfolding serial_text found_text
-  serial_unfound e = ap (found_text hub n serial before after) (searched (serial_row serial after) Nowhere e)
+  serial_unfound e = ap (found_text hub n serial before after) e
 
 module _ (hub word : Bytes) (serial : ℕ) (rs : List JobRow) where
-  pub not_absent : (p : ℕ) → At p ≡ placed (serial_row serial rs) → [] ≡ absent_text hub word serial rs
+  pub not_absent : (p : ℕ) → Some p ≡ serial_row serial rs → [] ≡ absent_text hub word serial rs
   unfolding absent_text unfound_text
-  not_absent p e = ap (unfound_text hub word serial) (searched (serial_row serial rs) (At p) e)
+  not_absent p e = ap (unfound_text hub word serial) e
 
-  pub absent : Nowhere ≡ placed (serial_row serial rs) → handle_line hub word serial ≡ absent_text hub word serial rs
+  pub absent : None ≡ serial_row serial rs → handle_line hub word serial ≡ absent_text hub word serial rs
   unfolding absent_text unfound_text
-  absent e = ap (unfound_text hub word serial) (searched (serial_row serial rs) Nowhere e)
+  absent e = ap (unfound_text hub word serial) e

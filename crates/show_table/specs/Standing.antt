@@ -1,8 +1,7 @@
 -- How the table stands after an event, in words: who is asleep, the jobs that are gone, and a job with its marks, its holder and its
 -- listeners. A job is named by its handle at the hub. A line begins with a line end and four spaces, and has no line end after it.
 -- Assumes nothing.
-use Rattle.std.specs.Prelude.{ℕ, zero, suc, ◌+◌, ◌*◌, Bool, cond, List, [], ◌∷◌, ◌++◌, get_or, eqb}
-use Rattle.std.proofs.Math.Option.{Option, none, some}
+use Rattle.std.specs.Prelude.{ℕ, zero, suc, ◌+◌, ◌*◌, Bool, cond, List, [], ◌∷◌, ◌++◌, get_or, eqb, Option, Some, None}
 use Rattle.octets.specs.Bytes.{Bytes}
 use Rattle.sets.specs.Sets.{has}
 use Rattle.handle.specs.Handle.{decimal, handle, handle_most}
@@ -88,8 +87,8 @@ job_text hub n r =
 
 -- a line for a serial that no unfinished job of the rows has
 unfoldable pub unfound_text : Bytes → Bytes → ℕ → Option ℕ → Bytes
-unfound_text hub word serial (some p) = []
-unfound_text hub word serial none = handle_line hub word serial
+unfound_text hub word serial (Some p) = []
+unfound_text hub word serial None = handle_line hub word serial
 
 unfoldable pub absent_text : Bytes → Bytes → ℕ → List JobRow → Bytes
 absent_text hub word serial rs = unfound_text hub word serial (serial_row serial rs)
@@ -97,8 +96,8 @@ absent_text hub word serial rs = unfound_text hub word serial (serial_row serial
 -- the job at the place where a serial was found after the event; `no job H:lap:7`, if none had it before the event either: one that had
 -- it is gone, and is named as such
 unfoldable pub found_text : Bytes → ℕ → ℕ → List JobRow → List JobRow → Option ℕ → Bytes
-found_text hub n serial before after (some p) = job_text hub n (get_or after p no_row)
-found_text hub n serial before after none = absent_text hub no_job_word serial before
+found_text hub n serial before after (Some p) = job_text hub n (get_or after p no_row)
+found_text hub n serial before after None = absent_text hub no_job_word serial before
 
 -- the unfinished job of a serial, from the rows before the event and after it
 unfoldable pub serial_text : Bytes → ℕ → ℕ → List JobRow → List JobRow → Bytes

@@ -13,7 +13,6 @@ ghost use Rattle.show_names.specs.Names.{space};
 ghost use Rattle.show_table.specs.Standing.{absent_text, connections_text, each, gone_one, gone_text, handle_line, holder_text, holder_word, job_text, jobs_text, listeners_word, marks_text, serial_text, sleepers_text};
 
 use handle::HANDLE_MOST;
-use lists::Place;
 use server::{CONNECTIONS, Connection, JOBS, JobRow};
 
 // Room for who sleeps, for all jobs, and for those that are gone: a space and two digits for each connection, the handles, and the words.
@@ -54,11 +53,9 @@ fn put_asleep(out: &mut [u8], at: usize, connections: [Connection; CONNECTIONS])
     ensures { (result ≡ at + length (each (λ c. (get_or connections c closed).asleep) connection_count)) × (out.new ≡ put at (each (λ c. (get_or connections c closed).asleep) connection_count) out.old) }
 {
     let mut place = at;
-    let mut c = 0;
-    while c < CONNECTIONS {
+    for c in 0..CONNECTIONS {
         let connection = connections[c];
         place = put_one(out, place, connection.asleep, c);
-        c += 1;
     }
     place
 }
@@ -69,10 +66,8 @@ fn put_members(out: &mut [u8], at: usize, set: u32) -> usize
     ensures { (result ≡ at + length (each (has set) connection_count)) × (out.new ≡ put at (each (has set) connection_count) out.old) }
 {
     let mut place = at;
-    let mut c = 0;
-    while c < CONNECTIONS {
+    for c in 0..CONNECTIONS {
         place = put_one(out, place, sets::has(set, c), c);
-        c += 1;
     }
     place
 }
@@ -166,8 +161,8 @@ fn put_absent(
 {
     let place = plan_search::serial_row(rows, serial);
     match place {
-        Place::At(p) => at,
-        Place::Nowhere => put_handle_line(out, at, hub, word, serial),
+        Some(p) => at,
+        None => put_handle_line(out, at, hub, word, serial),
     }
 }
 
@@ -186,8 +181,8 @@ pub fn put_job_of(
 {
     let place = plan_search::serial_row(after, serial);
     match place {
-        Place::At(p) => put_job(out, at, hub, plan_rows::row_at(after, p)),
-        Place::Nowhere => put_absent(out, at, hub, b"no job ", before, serial),
+        Some(p) => put_job(out, at, hub, plan_rows::row_at(after, p)),
+        None => put_absent(out, at, hub, b"no job ", before, serial),
     }
 }
 
@@ -211,10 +206,8 @@ pub fn put_jobs(out: &mut [u8], at: usize, hub: &[u8], rows: [JobRow; JOBS]) -> 
     ensures { (result ≡ at + length (jobs_text hub.now connection_count rows)) × (out.new ≡ put at (jobs_text hub.now connection_count rows) out.old) }
 {
     let mut place = at;
-    let mut p = 0;
-    while p < JOBS {
+    for p in 0..JOBS {
         place = put_row(out, place, hub, rows[p]);
-        p += 1;
     }
     place
 }
@@ -251,10 +244,8 @@ pub fn put_gone(
         × (out.new ≡ put at (gone_text hub.now word.now before after) out.old) }
 {
     let mut place = at;
-    let mut q = 0;
-    while q < JOBS {
+    for q in 0..JOBS {
         place = put_gone_row(out, place, hub, word, after, before[q]);
-        q += 1;
     }
     place
 }

@@ -9,19 +9,14 @@ ghost use Rattle.server.specs.Layout.{little_at};
 ghost use Rattle.table_passes.specs.Unions.{Joined};
 
 use server::JOBS;
+use std::array;
 
 // The 32 numbers of four bytes from `at` on.
 pub fn fours(table: &[u8], at: usize) -> [u32; JOBS]
     requires { at + 128 ≤ length table.now }
     ensures { result ≡ map (λ k. little_at 4 table.now (at + 4 * k)) (numbers 0 job_count) }
 {
-    let mut s = [0u32; JOBS];
-    let mut i = 0;
-    while i < JOBS {
-        s[i] = table_little::number4(table, at + 4 * i);
-        i += 1;
-    }
-    s
+    array::from_fn(|k| table_little::number4(table, at + 4 * k))
 }
 
 // The union of the `n` sets of four bytes from `at` on.
@@ -30,10 +25,8 @@ pub fn joined(table: &[u8], at: usize, n: usize) -> u32
     ensures { Joined (λ k. little_at 4 table.now (at + 4 * k)) n result }
 {
     let mut s = 0;
-    let mut i = 0;
-    while i < n {
+    for i in 0..n {
         s = sets::union(s, table_little::number4(table, at + 4 * i));
-        i += 1;
     }
     s
 }

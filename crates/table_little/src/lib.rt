@@ -11,11 +11,7 @@ pub fn number4(b: &[u8], at: usize) -> u32
     requires { at + 4 ≤ length b.now }
     ensures { result ≡ little_at 4 b.now at }
 {
-    let w = octets::wide(b[at]);
-    let x = octets::wide(b[at + 1]);
-    let y = octets::wide(b[at + 2]);
-    let z = octets::wide(b[at + 3]);
-    w + 256 * (x + 256 * (y + 256 * z))
+    u32::from_le_bytes([b[at], b[at + 1], b[at + 2], b[at + 3]])
 }
 
 // A number in two bytes, the lowest first.
@@ -23,9 +19,7 @@ pub fn number2(b: &[u8], at: usize) -> u16
     requires { at + 2 ≤ length b.now }
     ensures { result ≡ little_at 2 b.now at }
 {
-    let w = octets::wide(b[at]);
-    let x = octets::wide(b[at + 1]);
-    (w + 256 * x) as u16
+    u16::from_le_bytes([b[at], b[at + 1]])
 }
 
 // Lays a number in four bytes over `b` from `at` on.
@@ -33,10 +27,8 @@ pub fn put4(b: &mut [u8], at: usize, x: u32)
     requires { at + 4 ≤ length b.old }
     ensures { b.new ≡ put at (little 4 x) b.old }
 {
-    b[at] = (x % 256) as u8;
-    b[at + 1] = (x / 256 % 256) as u8;
-    b[at + 2] = (x / 256 / 256 % 256) as u8;
-    b[at + 3] = (x / 256 / 256 / 256 % 256) as u8;
+    let four = x.to_le_bytes();
+    octets::put(b, at, &four);
 }
 
 // Lays a number in two bytes over `b` from `at` on.
@@ -44,6 +36,6 @@ pub fn put2(b: &mut [u8], at: usize, x: u16)
     requires { at + 2 ≤ length b.old }
     ensures { b.new ≡ put at (little 2 x) b.old }
 {
-    b[at] = (x % 256) as u8;
-    b[at + 1] = (x / 256 % 256) as u8;
+    let two = x.to_le_bytes();
+    octets::put(b, at, &two);
 }

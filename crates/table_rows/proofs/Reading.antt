@@ -1,7 +1,9 @@
 -- Laws of the table's numbers read: an array filled place after place, the arrays that this gives, and what stands at one place.
 -- Assumes nothing.
 use Prim.Native.Nat.{ℕ, zero, suc, ◌+◌, ◌*◌, ◌≤◌, ◌<◌}
-use mathlib.Core.Path.{◌≡◌, refl, sym, ap, ◌∙◌}
+use mathlib.Core.Path.{◌≡◌, refl, sym, ap, subst, ◌∙◌}
+use denote.Param.Members.{Mut, Called}
+use Rattle.std.specs.Array.{IsFromFnResult}
 use mathlib.Core.List.{List, [], ◌∷◌, ◌++◌, map}
 use native.Mathlib.Nat.{zero-add, add-zero, suc-add, add-suc}
 use native.Mathlib.Numerals.{add-one}
@@ -12,12 +14,13 @@ use Rattle.octets.specs.Bytes.{Bytes}
 use Rattle.server.specs.declared.Connection.{Connection}
 use Rattle.server.specs.declared.JobRow.{JobRow}
 use Rattle.lists.specs.Lists.{numbers}
+use Rattle.lists.proofs.Filling.{made_at}
 use Rattle.server.specs.Sizes.{connection_count, function_count, job_count}
 use Rattle.server.specs.Table.{no_row, closed, ables_of, rows_of}
 use Rattle.server.specs.Layout.{little_at, connection_in, function_in, row_in, job_in, table_of, able_at}
 use Rattle.plan.specs.Values.{values_of}
 use Rattle.plan.specs.Parts as P
-use Rattle.table_laws.proofs.Columns.{length_places, places_at}
+use Rattle.table_laws.proofs.Columns.{length_places, places_are, places_at}
 
 -- ---- an array filled
 
@@ -37,6 +40,11 @@ module _ {A : Type 0} (f : ℕ → A) where
       let e : i ≡ n = omega arith in
       sym (take_all i l (omega arith)) ∙ t ∙ ap (λ (m : ℕ). map f (numbers 0 m)) e
 
+-- what `from_fn` makes, where each call answers f of its place and leaves the closure as it was
+module _ {C A : Type 0} (g : Mut C (ℕ × Unit {0}) A) (f : ℕ → A) (s : C) (calls : (i : ℕ) (x : A) (q : C) → Called g s (i, tt) x q → (x ≡ f i) × (q ≡ s)) where
+  pub from_each : (l : List A) (n : ℕ) (d : A) → IsFromFnResult g s l n → l ≡ map f (numbers 0 n)
+  from_each l n d a = sym (places_are f d n l a.long (λ k h. made_at g f s calls l n k d a h))
+
 -- ---- the arrays
 
 map_map : {A B C : Type 0} (g : B → C) (f : A → B) (xs : List A) → map g (map f xs) ≡ map (λ x. g (f x)) xs
@@ -52,27 +60,6 @@ module _ (b : Bytes) where
   pub ables_are : ables_of (table_of connection_count b) ≡ map (λ q. little_at 4 b (able_at + 4 * q)) (numbers 0 function_count)
   unfolding table_of
   ables_are = map_map (λ x. x.able) (function_in connection_count b) (numbers 0 function_count)
-
-  module _ (i : ℕ) where
-    pub rows_read : (l : List JobRow) → i ≤ job_count → 32 ≤ i → length l ≡ 32 → take i l ≡ map (row_in connection_count b) (numbers 0 i) → l ≡ rows_of (table_of connection_count b)
-    rows_read l h g k t = filled (row_in connection_count b) l i 32 h g k t ∙ sym rows_are
-
-    pub able_read : (l : List ℕ) → i ≤ function_count → function_count ≤ i → length l ≡ function_count → take i l ≡ map (λ q. little_at 4 b (able_at + 4 * q)) (numbers 0 i) → l ≡ ables_of (table_of connection_count b)
-    able_read l h g k t = filled (λ q. little_at 4 b (able_at + 4 * q)) l i function_count h g k t ∙ sym ables_are
-
-    pub connections_read : (l : List Connection) → i ≤ connection_count → connection_count ≤ i → length l ≡ connection_count → take i l ≡ map (connection_in connection_count b) (numbers 0 i) → l ≡ (table_of connection_count b).connections
-    unfolding table_of
-    connections_read l h g k t = filled (connection_in connection_count b) l i connection_count h g k t
-
-pub last_read : (b : Bytes) (last : ℕ) → last ≡ little_at 4 b 0 → last ≡ (values_of (table_of connection_count b)).last
-unfolding values_of table_of
-last_read b last e = e
-
-pub values_read : (b : Bytes) (last : ℕ) (connections : List Connection) (able : List ℕ) (rows : List JobRow)
-    → last ≡ (values_of (table_of connection_count b)).last → connections ≡ (table_of connection_count b).connections → able ≡ ables_of (table_of connection_count b) → rows ≡ rows_of (table_of connection_count b)
-    → record { last = last; connections = connections; able = able; rows = rows } ≡ values_of (table_of connection_count b)
-unfolding values_of table_of
-values_read b last connections able rows el ec ea er = rw (el, ec, ea, er)
 
 -- ---- one place
 

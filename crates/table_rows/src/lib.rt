@@ -17,6 +17,7 @@ use server::{
     FUNCTIONS_AT, HOLDERS_AT, JOBS, JobRow, LAST_AT, LISTENERS_AT, OPENED_AT, PRIORITIES_AT,
     SERIALS_AT, SIZES_AT,
 };
+use std::array;
 
 // ---- one place
 
@@ -96,13 +97,7 @@ pub fn read_rows(table: &[u8]) -> [JobRow; JOBS]
     requires { table_size connection_count ≤ length table.now }
     ensures { result ≡ rows_of (table_of connection_count table.now) }
 {
-    let mut rows = [server::no_row(); JOBS];
-    let mut i = 0;
-    while i < JOBS {
-        rows[i] = read_row(table, i);
-        i += 1;
-    }
-    rows
+    array::from_fn(|p| read_row(table, p))
 }
 
 // The sets of connections able to do each function.
@@ -110,13 +105,7 @@ fn read_able(table: &[u8]) -> [u32; FUNCTIONS]
     requires { table_size connection_count ≤ length table.now }
     ensures { result ≡ ables_of (table_of connection_count table.now) }
 {
-    let mut able = [0u32; FUNCTIONS];
-    let mut i = 0;
-    while i < FUNCTIONS {
-        able[i] = table_little::number4(table, ABLE_AT + 4 * i);
-        i += 1;
-    }
-    able
+    array::from_fn(|q| table_little::number4(table, ABLE_AT + 4 * q))
 }
 
 // The connections' rows.
@@ -124,13 +113,7 @@ fn read_connections(table: &[u8]) -> [Connection; CONNECTIONS]
     requires { table_size connection_count ≤ length table.now }
     ensures { result ≡ (table_of connection_count table.now).connections }
 {
-    let mut connections = [server::closed(); CONNECTIONS];
-    let mut i = 0;
-    while i < CONNECTIONS {
-        connections[i] = read_connection(table, i);
-        i += 1;
-    }
-    connections
+    array::from_fn(|c| read_connection(table, c))
 }
 
 // The numbers of the table that the bytes hold.
@@ -138,14 +121,10 @@ pub fn read_values(table: &[u8]) -> Values
     requires { table_size connection_count ≤ length table.now }
     ensures { result ≡ values_of (table_of connection_count table.now) }
 {
-    let last = last(table);
-    let connections = read_connections(table);
-    let able = read_able(table);
-    let rows = read_rows(table);
     Values {
-        last: last,
-        connections: connections,
-        able: able,
-        rows: rows,
+        last: last(table),
+        connections: read_connections(table),
+        able: read_able(table),
+        rows: read_rows(table),
     }
 }

@@ -1,6 +1,5 @@
 -- The places of the functions' names: as they lie, and searched. Assumes nothing.
-use Rattle.std.specs.Prelude.{ℕ, ◌+◌, ◌*◌, Bool, List, [], map, get_or, take, drop, replicate, eqb}
-use Rattle.std.proofs.Math.Option.{Option}
+use Rattle.std.specs.Prelude.{ℕ, ◌+◌, ◌*◌, Bool, List, [], map, get_or, take, drop, replicate, eqb, Option}
 use Rattle.octets.specs.Bytes.{Bytes}
 use Rattle.lists.specs.Lists.{all, find, numbers}
 use Rattle.server.specs.Sizes.{function_count, name_size}

@@ -9,10 +9,8 @@ ghost use Rattle.lists.specs.Lists.{fit};
 ghost use Rattle.server.specs.Sizes.{connection_count, function_count, name_size, unique_size};
 ghost use Rattle.server.specs.Table.{id_at};
 ghost use Rattle.server.specs.Layout.{table_of, table_size, text_at, uniques_at};
-ghost use Rattle.lists.specs.Places.{placed};
-ghost use Rattle.table_texts.specs.Places.{agree, names_in, place_of, zeros};
+ghost use Rattle.table_texts.specs.Places.{agree, names_in, place_of};
 
-use lists::Place;
 use server::{FUNCTIONS, HUB_AT, HUB_SIZE, ID_SIZE, IDS_AT, NAME_SIZE, NAMES_AT, UNIQUE_SIZE};
 
 // The text of the place of `width` bytes at `at`.
@@ -41,60 +39,24 @@ pub fn hub_of(table: &[u8]) -> &[u8]
     text(table, HUB_AT, HUB_SIZE)
 }
 
-// Lays `n` zeros over `b` from `at` on.
-fn put_zeros(b: &mut [u8], at: usize, n: usize)
-    requires { at + n ≤ length b.old }
-    ensures { b.new ≡ put at (zeros n) b.old }
-{
-    let mut i = 0;
-    while i < n {
-        b[at + i] = 0;
-        i += 1;
-    }
-}
-
 // Lays the text `s`, and zeros after it, over the place of `width` bytes at `at`.
 pub fn put_text(table: &mut [u8], at: usize, width: usize, s: &[u8])
     requires { (at + width ≤ length table.old) × (length s.now ≤ width) }
     ensures { table.new ≡ put at (fit width s.now) table.old }
 {
     let end = octets::put(table, at, s);
-    put_zeros(table, end, width - s.len());
+    table[end..at + width].fill(0);
 }
 
 // ---- places compared: the bytes of a place say what its text is, where the table obeys the rules
 
-// A name and zeros after it.
-pub fn padded_name(name: &[u8]) -> [u8; NAME_SIZE]
-    requires { length name.now ≤ name_size }
-    ensures { result ≡ fit name_size name.now }
+// A text and zeros after it.
+pub fn padded<const N: usize>(text: &[u8]) -> [u8; N]
+    requires { length text.now ≤ N }
+    ensures { result ≡ fit N text.now }
 {
-    let mut place: [u8; NAME_SIZE] = [0; NAME_SIZE];
-    octets::put(&mut place, 0, name);
-    place
-}
-
-// A unique and zeros after it.
-pub fn padded_unique(unique: &[u8]) -> [u8; UNIQUE_SIZE]
-    requires { length unique.now ≤ unique_size }
-    ensures { result ≡ fit unique_size unique.now }
-{
-    let mut place: [u8; UNIQUE_SIZE] = [0; UNIQUE_SIZE];
-    octets::put(&mut place, 0, unique);
-    place
-}
-
-// The 32 bytes from `at` on.
-fn name_at(table: &[u8], at: usize) -> [u8; NAME_SIZE]
-    requires { at + name_size ≤ length table.now }
-    ensures { result ≡ take name_size (drop at table.now) }
-{
-    let mut place: [u8; NAME_SIZE] = [0; NAME_SIZE];
-    let mut i = 0;
-    while i < NAME_SIZE {
-        place[i] = table[at + i];
-        i += 1;
-    }
+    let mut place = [0; N];
+    octets::put(&mut place, 0, text);
     place
 }
 
@@ -103,13 +65,25 @@ pub fn read_names(table: &[u8]) -> [[u8; NAME_SIZE]; FUNCTIONS]
     requires { uniques_at ≤ length table.now }
     ensures { result ≡ names_in table.now }
 {
-    let mut names: [[u8; NAME_SIZE]; FUNCTIONS] = [[0; NAME_SIZE]; FUNCTIONS];
-    let mut i = 0;
-    while i < FUNCTIONS {
-        names[i] = name_at(table, NAMES_AT + NAME_SIZE * i);
-        i += 1;
+    let mut names = [[0; NAME_SIZE]; FUNCTIONS];
+    for q in 0..FUNCTIONS {
+        let at = NAMES_AT + NAME_SIZE * q;
+        names[q] = table[at..at + NAME_SIZE].try_into().unwrap();
     }
     names
+}
+
+// Whether the first N bytes of `s` are those of the place `t`. Each step reads and combines, so that the loop becomes vector code: `==` has
+// an exit, and is slower here.
+fn agree<const N: usize>(s: &[u8], t: &[u8; N]) -> bool
+    requires { N ≤ length s.now }
+    ensures { result ≡ agree N s.now t.now }
+{
+    let mut ok = true;
+    for i in 0..N {
+        ok = ok & (s[i] == t[i]);
+    }
+    ok
 }
 
 // Whether the name stands at place q.
@@ -117,27 +91,19 @@ fn stands_at(names: &[[u8; NAME_SIZE]; FUNCTIONS], q: usize, name: &[u8; NAME_SI
     requires { q < function_count }
     ensures { result ≡ agree name_size (get_or names.now q []) name.now }
 {
-    let mut ok = true;
-    let mut i = 0;
-    while i < NAME_SIZE {
-        ok = ok & (names[q][i] == name[i]);
-        i += 1;
-    }
-    ok
+    agree(&names[q], name)
 }
 
 // The lowest place where the name stands.
-pub fn place_of(names: &[[u8; NAME_SIZE]; FUNCTIONS], name: &[u8; NAME_SIZE]) -> Place
-    ensures { result ≡ placed (place_of names.now name.now) }
+pub fn place_of(names: &[[u8; NAME_SIZE]; FUNCTIONS], name: &[u8; NAME_SIZE]) -> Option<usize>
+    ensures { result ≡ place_of names.now name.now }
 {
-    let mut i = 0;
-    while i < FUNCTIONS {
+    for i in 0..FUNCTIONS {
         if stands_at(names, i, name) {
-            return Place::At(i);
+            return Some(i);
         }
-        i += 1;
     }
-    Place::Nowhere
+    None
 }
 
 // Whether the 64 bytes from `at` on are those of the padded unique.
@@ -145,11 +111,5 @@ pub fn unique_at(table: &[u8], at: usize, unique: &[u8; UNIQUE_SIZE]) -> bool
     requires { at + unique_size ≤ length table.now }
     ensures { result ≡ agree unique_size (take unique_size (drop at table.now)) unique.now }
 {
-    let mut ok = true;
-    let mut i = 0;
-    while i < UNIQUE_SIZE {
-        ok = ok & (table[at + i] == unique[i]);
-        i += 1;
-    }
-    ok
+    agree(&table[at..at + UNIQUE_SIZE], unique)
 }

@@ -4,5 +4,5 @@ use Rattle.call_serve.proofs.plan_open_or_close.Goals as goal
 pub returns-then-to_open : goal.returns-then-to_open
 returns-then-to_open c = rw c.if-to_open.true c.«open».ensures
 
-pub returns : goal.returns
-returns c = rw c.if-to_open.false c.close.ensures
+pub returns-else-to_open : goal.returns-else-to_open
+returns-else-to_open c = rw c.if-to_open.false c.close.ensures

@@ -11,9 +11,9 @@ returns-then-line-gt-LONGEST_LINE c = search (rules, long_line)
 pub framed-requires : goal.framed-requires
 framed-requires c = search (rules, line_fits, line_short)
 
-pub returns-in-Bad : goal.returns-in-Bad
-returns-in-Bad c = search (rules, bad_line)
+pub returns-in-None : goal.returns-in-None
+returns-in-None c = search (rules, bad_line)
 
-pub returns-in-Bytes : goal.returns-in-Bytes
-returns-in-Bytes c =
-    (c.framed.ensures.0 ∙ line_frame _ _ _ _ c.read_hex-spelled.ensures c.if-line-gt-LONGEST_LINE.false _ c.in-Bytes.is, c.framed.ensures.1)
+pub returns-in-Some : goal.returns-in-Some
+returns-in-Some c =
+    (c.framed.ensures.0 ∙ line_frame _ _ _ _ c.read_hex.ensures c.if-line-gt-LONGEST_LINE.false _ c.in-Some.is, c.framed.ensures.1)

@@ -18,7 +18,7 @@ pub wake-length-requires : goal.wake-length-requires
 wake-length-requires c =
     let v : Values = stepped c.args.plan.step (values_of (table_of connection_count c.args.table.now)) in
     let sent = rw c.argument-first.ensures at c.send_order-at.ensures in
-    noop_room _ _ _ _ _ _ _ v _ (lean_wakes c.args.plan c.args.table.now c.args.workloads.now c.args.packet.now c.args.c c.args.kind c.args.ends c.requires.7 _ c.of_step-ending.ensures) _ _ _ sent.0 sent.1 c.requires.4.room
+    noop_room _ _ _ _ _ _ _ v _ (lean_wakes c.args.plan c.args.table.now c.args.workloads.now c.args.request.bytes.now c.args.c c.args.request.kind c.args.request.ends c.requires.7 _ c.of_step-ending.ensures) _ _ _ sent.0 sent.1 c.requires.4.room
 
 pub rework-requires : goal.rework-requires
 rework-requires c =
@@ -32,7 +32,7 @@ pub returns : goal.returns
 returns c =
     let v : Values = stepped c.args.plan.step (values_of (table_of connection_count c.args.table.now)) in
     let sent = rw c.argument-first.ensures at c.send_order-at.ensures in
-    let woken = lean_wakes c.args.plan c.args.table.now c.args.workloads.now c.args.packet.now c.args.c c.args.kind c.args.ends c.requires.7 _ c.of_step-ending.ensures in
+    let woken = lean_wakes c.args.plan c.args.table.now c.args.workloads.now c.args.request.bytes.now c.args.c c.args.request.kind c.args.request.ends c.requires.7 _ c.of_step-ending.ensures in
     let whole = answered _ _ _ _ _ _ _ v _ woken _ _ _ _ _ sent.0 sent.1 c.wake-length.ensures in
-    let work = lean_workloads c.args.plan c.args.table.now c.args.workloads.now c.args.packet.now c.args.c c.args.kind c.args.ends c.requires.7 _ c.opaque_in-opaque.ensures in
+    let work = lean_workloads c.args.plan c.args.table.now c.args.workloads.now c.args.request.bytes.now c.args.c c.args.request.kind c.args.request.ends c.requires.7 _ c.opaque_in-opaque.ensures in
     done_concluded _ _ _ _ _ _ _ _ _ _ _ _ c.requires.3 (whole.0, whole.1, rw (c.argument-first.ensures, c.argument-second.ensures, c.argument-third.ensures) at c.carry.ensures, rw work at c.rework.ensures)

@@ -1,6 +1,6 @@
 -- `carry_output::send_order` meets its contract, by the cases of the order and the bytes of each. Assumes nothing.
 use Rattle.carry_packet.proofs.Answers.{no_job_sendable, zero_fits}
-use Rattle.carry_packet.proofs.Forwarding.{forward_long}
+use Rattle.carry_packet.proofs.Forwarding.{forward_limited, forward_long}
 use Rattle.carry_output.proofs.Jobs.{hub_good}
 use Rattle.carry_output.proofs.Orders.{room_as, laid_as, fit_as, same_as, nothing_laid, created_order, no_job_order, unknown_order, optioned_order, copies_order, told_order, echo_order, assign_order, status_order}
 use Rattle.carry_output.proofs.send_order.Goals as goal
@@ -18,15 +18,21 @@ send_job-requires c =
     let o = rw c.in-Assign.is at c.requires.3 in
     (c.requires.0, c.requires.1, c.requires.2, o.0, o.1, fit_as _ _ _ (assign_order _ _ _ _ _ _ _ _ _ c.in-Assign.is) c.requires.4)
 
+pub data-requires : goal.data-requires
+data-requires c = let o = rw c.in-Copies.is at c.requires.3 in forward_long _ _ _ o
+
+pub data-requires-in-Told : goal.data-requires-in-Told
+data-requires-in-Told c = let o = rw c.in-Told.is at c.requires.3 in forward_long _ _ _ o
+
 pub forward_all-requires : goal.forward_all-requires
 forward_all-requires c =
     let o = rw c.in-Copies.is at c.requires.3 in
-    (o, room_as _ _ _ (copies_order _ _ _ _ _ _ _ _ (forward_long _ _ _ o) c.in-Copies.is) c.requires.4)
+    (rw c.data.ensures (forward_limited _ _ _ o), rw c.data.ensures (room_as _ _ _ (copies_order _ _ _ _ _ _ _ _ (forward_long _ _ _ o) c.in-Copies.is) c.requires.4))
 
 pub tell_all-requires : goal.tell_all-requires
 tell_all-requires c =
     let o = rw c.in-Told.is at c.requires.3 in
-    (rw c.hub_of-hub.ensures (hub_good _ c.requires.0), o, room_as _ _ _ (told_order _ _ _ _ _ _ _ _ c.hub_of-hub.ensures _ _ _ (forward_long _ _ _ o) c.in-Told.is) c.requires.4)
+    (rw c.hub_of-hub.ensures (hub_good _ c.requires.0), rw c.data-in-Told.ensures (forward_limited _ _ _ o), rw c.data-in-Told.ensures (room_as _ _ _ (told_order _ _ _ _ _ _ _ _ c.hub_of-hub.ensures _ _ _ (forward_long _ _ _ o) c.in-Told.is) c.requires.4))
 
 pub forward-requires : goal.forward-requires
 forward-requires c =
@@ -66,12 +72,12 @@ returns-in-Assign c =
 pub returns-in-Copies : goal.returns-in-Copies
 returns-in-Copies c =
     let o = rw c.in-Copies.is at c.requires.3 in
-    laid_as _ _ _ _ _ (copies_order _ _ _ _ _ _ _ _ (forward_long _ _ _ o) c.in-Copies.is) c.forward_all.ensures
+    laid_as _ _ _ _ _ (copies_order _ _ _ _ _ _ _ _ (forward_long _ _ _ o) c.in-Copies.is) (rw c.data.ensures at c.forward_all.ensures)
 
 pub returns-in-Told : goal.returns-in-Told
 returns-in-Told c =
     let o = rw c.in-Told.is at c.requires.3 in
-    laid_as _ _ _ _ _ (told_order _ _ _ _ _ _ _ _ c.hub_of-hub.ensures _ _ _ (forward_long _ _ _ o) c.in-Told.is) c.tell_all.ensures
+    laid_as _ _ _ _ _ (told_order _ _ _ _ _ _ _ _ c.hub_of-hub.ensures _ _ _ (forward_long _ _ _ o) c.in-Told.is) (rw c.data-in-Told.ensures at c.tell_all.ensures)
 
 pub returns-in-Echo : goal.returns-in-Echo
 returns-in-Echo c =

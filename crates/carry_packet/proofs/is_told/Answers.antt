@@ -3,4 +3,4 @@ use Rattle.carry_packet.proofs.Answers.{told_at}
 use Rattle.carry_packet.proofs.is_told.Goals as goal
 
 pub returns : goal.returns
-returns c = told_at _ _ c.error_text-text.ensures
+returns c = told_at _ _ c.error_text.ensures

@@ -22,5 +22,5 @@ returns-then-uniq c = laid_as _ _ (uniq_message _ c.requires.0 _ c.args.serial c
 pub assign-requires : goal.assign-requires
 assign-requires c = (omega (arith, printed_short _ c.requires.0 _ _ c.handle_of-handle.ensures, c.requires.3), room_as _ _ (assign_message _ c.requires.0 _ c.args.serial c.handle_of-handle.ensures c.args.to c.args.uniq c.args.function.now c.args.unique.now c.args.workload.now c.if-uniq.false) c.args.at _ c.requires.4)
 
-pub returns : goal.returns
-returns c = laid_as _ _ (assign_message _ c.requires.0 _ c.args.serial c.handle_of-handle.ensures c.args.to c.args.uniq c.args.function.now c.args.unique.now c.args.workload.now c.if-uniq.false) c.args.at _ _ c.args.out.now c.assign.ensures
+pub returns-else-uniq : goal.returns-else-uniq
+returns-else-uniq c = laid_as _ _ (assign_message _ c.requires.0 _ c.args.serial c.handle_of-handle.ensures c.args.to c.args.uniq c.args.function.now c.args.unique.now c.args.workload.now c.if-uniq.false) c.args.at _ _ c.args.out.now c.assign.ensures

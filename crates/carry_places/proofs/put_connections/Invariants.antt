@@ -8,7 +8,4 @@ use Rattle.carry_places.specs.Laying.{laid_flags, laid_each}
 use Rattle.carry_places.proofs.put_connections.Given as goal
 
 abbrev pub invariant-loop-c : goal.invariant-loop-c
-invariant-loop-c l = (l.c ≤ connection_count) × (length l.table ≡ length l.initial.table) × (laid_each (λ i. laid_flags i (get_or l.connections i closed)) 0 connection_count l.initial.table ≡ laid_each (λ i. laid_flags i (get_or l.connections i closed)) l.c (connection_count - l.c) l.table)
-
-abbrev pub decreases-loop-c : goal.decreases-loop-c
-decreases-loop-c l = connection_count - l.c
+invariant-loop-c l = laid_each (λ i. laid_flags i (get_or l.connections i closed)) 0 connection_count l.initial.table ≡ laid_each (λ i. laid_flags i (get_or l.connections i closed)) l.c (connection_count - l.c) l.table

@@ -7,6 +7,6 @@ pub returns-then-wanted : goal.returns-then-wanted
 unfolding laid_function
 returns-then-wanted c = c.put4.ensures ∙ rw c.if-wanted.true
 
-pub returns : goal.returns
+pub returns-else-wanted : goal.returns-else-wanted
 unfolding laid_function
-returns c = c.put_forgotten.ensures ∙ rw c.if-wanted.false
+returns-else-wanted c = c.put_forgotten.ensures ∙ rw c.if-wanted.false

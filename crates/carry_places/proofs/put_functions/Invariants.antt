@@ -8,7 +8,4 @@ use Rattle.carry_places.specs.Laying.{laid_function, laid_each}
 use Rattle.carry_places.proofs.put_functions.Given as goal
 
 abbrev pub invariant-loop-q : goal.invariant-loop-q
-invariant-loop-q l = (l.q ≤ function_count) × (length l.table ≡ length l.initial.table) × (laid_each (λ k. laid_function (get_or l.wanted k false) (get_or l.able k 0) k) 0 function_count l.initial.table ≡ laid_each (λ k. laid_function (get_or l.wanted k false) (get_or l.able k 0) k) l.q (function_count - l.q) l.table)
-
-abbrev pub decreases-loop-q : goal.decreases-loop-q
-decreases-loop-q l = function_count - l.q
+invariant-loop-q l = laid_each (λ k. laid_function (get_or l.wanted k false) (get_or l.able k 0) k) 0 function_count l.initial.table ≡ laid_each (λ k. laid_function (get_or l.wanted k false) (get_or l.able k 0) k) l.q (function_count - l.q) l.table

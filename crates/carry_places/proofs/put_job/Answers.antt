@@ -8,6 +8,6 @@ pub returns-then-row-eq0 : goal.returns-then-row-eq0
 unfolding laid_job
 returns-then-row-eq0 c = c.put_free.ensures ∙ rw (eq-eqb _ _ c.if-row-eq0.true)
 
-pub returns : goal.returns
+pub returns-else-row-eq0 : goal.returns-else-row-eq0
 unfolding laid_job
-returns c = c.put_row.ensures ∙ rw (ne_eqb _ _ c.if-row-eq0.false)
+returns-else-row-eq0 c = c.put_row.ensures ∙ rw (ne_eqb _ _ c.if-row-eq0.false)

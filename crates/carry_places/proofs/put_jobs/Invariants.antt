@@ -8,7 +8,4 @@ use Rattle.carry_places.specs.Laying.{laid_job, laid_each}
 use Rattle.carry_places.proofs.put_jobs.Given as goal
 
 abbrev pub invariant-loop-p : goal.invariant-loop-p
-invariant-loop-p l = (l.p ≤ job_count) × (length l.table ≡ length l.initial.table) × (laid_each (λ k. laid_job (get_or l.rows k no_row) k) 0 job_count l.initial.table ≡ laid_each (λ k. laid_job (get_or l.rows k no_row) k) l.p (job_count - l.p) l.table)
-
-abbrev pub decreases-loop-p : goal.decreases-loop-p
-decreases-loop-p l = job_count - l.p
+invariant-loop-p l = laid_each (λ k. laid_job (get_or l.rows k no_row) k) 0 job_count l.initial.table ≡ laid_each (λ k. laid_job (get_or l.rows k no_row) k) l.p (job_count - l.p) l.table

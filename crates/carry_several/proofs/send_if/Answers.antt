@@ -11,16 +11,16 @@ returns-then-not-has c = (stranger_place _ _ _ _ _ _ _ c.has.ensures (ap not c.i
 
 pub send-requires : goal.send-requires
 send-requires c =
-    (c.requires.1, room_as _ _ (sym (heard_is _ _ _ _ _ _ _ c.has.ensures (ap not c.if-not-has.false) _ c.has-2.ensures c.if-has.true)) _ _ c.requires.3)
+    (c.requires.1, room_as _ _ (sym (heard_is _ _ _ _ _ _ _ c.has.ensures (ap not c.if-not-has.false) _ c.has-else-not-has.ensures c.if-has.true)) _ _ c.requires.3)
 
 pub returns-then-has : goal.returns-then-has
 returns-then-has c =
-    laid_as _ _ (sym (heard_is _ _ _ _ _ _ _ c.has.ensures (ap not c.if-not-has.false) _ c.has-2.ensures c.if-has.true)) _ _ _ _ c.send.ensures
+    laid_as _ _ (sym (heard_is _ _ _ _ _ _ _ c.has.ensures (ap not c.if-not-has.false) _ c.has-else-not-has.ensures c.if-has.true)) _ _ _ _ c.send.ensures
 
-pub send-requires-2 : goal.send-requires-2
-send-requires-2 c =
-    (c.requires.2, room_as _ _ (sym (failed_is _ _ _ _ _ _ _ c.has.ensures (ap not c.if-not-has.false) _ c.has-2.ensures c.if-has.false)) _ _ c.requires.3)
+pub send-requires-else-has : goal.send-requires-else-has
+send-requires-else-has c =
+    (c.requires.2, room_as _ _ (sym (failed_is _ _ _ _ _ _ _ c.has.ensures (ap not c.if-not-has.false) _ c.has-else-not-has.ensures c.if-has.false)) _ _ c.requires.3)
 
-pub returns : goal.returns
-returns c =
-    laid_as _ _ (sym (failed_is _ _ _ _ _ _ _ c.has.ensures (ap not c.if-not-has.false) _ c.has-2.ensures c.if-has.false)) _ _ _ _ c.send-2.ensures
+pub returns-else-has : goal.returns-else-has
+returns-else-has c =
+    laid_as _ _ (sym (failed_is _ _ _ _ _ _ _ c.has.ensures (ap not c.if-not-has.false) _ c.has-else-not-has.ensures c.if-has.false)) _ _ _ _ c.send-else-has.ensures

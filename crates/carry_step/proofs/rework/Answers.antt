@@ -1,55 +1,45 @@
 -- `carry_step::rework` meets its contract: one place, or none, has another job; a step that is not lean is ruled out. Assumes nothing.
-use mathlib.Core.Path.{◌∙◌}
+use Prim.Native.Nat.{ℕ}
+use mathlib.Core.Bool.{true}
+use mathlib.Core.Logic.{◌⊎◌, inl, inr}
+use mathlib.Core.Path.{◌≡◌, ◌∙◌}
+use lib.ListN.{set}
 use Rattle.lists.proofs.Rows.{clash}
+use Rattle.server.specs.declared.Connection.{Connection}
+use Rattle.server.specs.declared.JobRow.{JobRow}
+use Rattle.plan.specs.declared.Values.{Values}
+use Rattle.plan.specs.declared.Step as S'
+use Rattle.plan.specs.declared.Step.TheVariants as SV
 use Rattle.plan.specs.Steps.{is_lean, stepped}
 use Rattle.plan.proofs.Sizes.{rows_long}
 use Rattle.carry_step.proofs.Reworked.{rows_kept}
 use Rattle.carry_step.proofs.rework.Goals as goal
 
-pub rework_row-requires : goal.rework_row-requires
-rework_row-requires c = (c.requires.0, c.requires.1, c.requires.2, rw c.in-Row.is at c.requires.3)
+-- three steps put one row anew
+one_row : (s : S'.Step) (v : Values) (p : ℕ) (r : JobRow) → (s ≡ SV.Row p r) ⊎ (((c : ℕ) × (x : Connection) × (s ≡ SV.Grab p r c x)) ⊎ (s ≡ SV.New p r))
+    → (stepped s v).rows ≡ set v.rows p r
+unfolding stepped
+one_row s v p r (inl e) = rw e
+one_row s v p r (inr (inl g)) = rw g.2
+one_row s v p r (inr (inr e)) = rw e
 
-pub rework_row-requires-in-End : goal.rework_row-requires-in-End
-rework_row-requires-in-End c = (c.requires.0, c.requires.1, c.requires.2, rw c.in-End.is at c.requires.3)
-
-pub rework_row-requires-in-Grab : goal.rework_row-requires-in-Grab
-rework_row-requires-in-Grab c = (c.requires.0, c.requires.1, c.requires.2, (rw c.in-Grab.is at c.requires.3).0)
-
-pub rework_row-requires-in-New : goal.rework_row-requires-in-New
-rework_row-requires-in-New c = (c.requires.0, c.requires.1, c.requires.2, rw c.in-New.is at c.requires.3)
+-- five steps leave the rows, if they are lean
+no_row : (s : S'.Step) (v : Values) → is_lean s ≡ true
+    → (s ≡ SV.Nothing) ⊎ (((c : ℕ) × (x : Connection) × (s ≡ SV.Flags c x)) ⊎ (((q : ℕ) × (l : ℕ) × (s ≡ SV.Able q l)) ⊎ (((c : ℕ) × (s ≡ SV.Reset c)) ⊎ ((c : ℕ) × (s ≡ SV.Leave c)))))
+    → (stepped s v).rows ≡ v.rows
+unfolding stepped is_lean
+no_row s v h (inl e) = rw e
+no_row s v h (inr (inl g)) = rw g.2
+no_row s v h (inr (inr (inl g))) = rw g.2
+no_row s v h (inr (inr (inr (inl g)))) = clash h (rw g.1)
+no_row s v h (inr (inr (inr (inr g)))) = clash h (rw g.1)
 
 pub returns-in-Nothing : goal.returns-in-Nothing
-unfolding stepped
-returns-in-Nothing c = rw c.in-Nothing.is (rows_kept 32 _ _ _ c.requires.0 (rows_long _))
+returns-in-Nothing c = rw (no_row _ _ c.requires.4 c.in-Nothing.is) (rows_kept 32 _ _ _ c.requires.0 (rows_long _))
 
 pub returns-in-Row : goal.returns-in-Row
-unfolding stepped
-returns-in-Row c = rw c.in-Row.is c.rework_row.ensures
+returns-in-Row c = rw (one_row _ _ _ _ c.in-Row.is) c.rework_row-in-Row.ensures
 
 pub returns-in-End : goal.returns-in-End
 unfolding stepped
-returns-in-End c = rw c.in-End.is (c.rework_row-in-End.ensures ∙ rw c.no_row.ensures)
-
-pub returns-in-Grab : goal.returns-in-Grab
-unfolding stepped
-returns-in-Grab c = rw c.in-Grab.is c.rework_row-in-Grab.ensures
-
-pub returns-in-New : goal.returns-in-New
-unfolding stepped
-returns-in-New c = rw c.in-New.is c.rework_row-in-New.ensures
-
-pub returns-in-Flags : goal.returns-in-Flags
-unfolding stepped
-returns-in-Flags c = rw c.in-Flags.is (rows_kept 32 _ _ _ c.requires.0 (rows_long _))
-
-pub returns-in-Able : goal.returns-in-Able
-unfolding stepped
-returns-in-Able c = rw c.in-Able.is (rows_kept 32 _ _ _ c.requires.0 (rows_long _))
-
-pub returns-in-Reset : goal.returns-in-Reset
-unfolding is_lean
-returns-in-Reset c = clash c.requires.4 (rw c.in-Reset.is)
-
-pub returns-in-Leave : goal.returns-in-Leave
-unfolding is_lean
-returns-in-Leave c = clash c.requires.4 (rw c.in-Leave.is)
+returns-in-End c = rw c.in-End.is (c.rework_row.ensures ∙ rw c.no_row.ensures)

@@ -4,4 +4,4 @@ use Rattle.check_exact.proofs.names_apart.Goals as goal
 
 pub returns : goal.returns
 returns c =
-    apart_texts _ _ _ _ _ _ c.name.ensures c.name-2.ensures c.name-3.ensures c.equal.ensures
+    rw c.is_empty.ensures (apart_texts _ _ _ _ _ _ c.name.ensures c.name-2.ensures c.name-3.ensures c.equal.ensures)

@@ -2,4 +2,4 @@
 use Rattle.check_exact.proofs.size_within.Goals as goal
 
 pub returns : goal.returns
-returns c = rw (c.name_length.ensures.0, c.unique_length.ensures.0, c.size.ensures)
+returns c = rw (c.name_length.ensures.0, c.unique_length.ensures.0, c.from.ensures, c.size.ensures)

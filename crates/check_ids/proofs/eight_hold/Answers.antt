@@ -1,5 +1,6 @@
 -- `check_ids::eight_hold` meets its contract. Places of zeros hold; else each place is asked byte by byte, and its connection's flag. Assumes nothing.
-use mathlib.Core.Path.{sym, ◌∙◌}
+use mathlib.Core.Path.{refl, sym, ◌∙◌}
+use Rattle.check_ids.specs.Ids.{last_before}
 use Rattle.check_ids.proofs.Ids.{zeros_hold, followed_hold}
 use Rattle.check_ids.proofs.eight_hold.Goals as goal
 
@@ -9,4 +10,4 @@ returns-then-zeros c =
 
 pub returns : goal.returns
 returns c =
-    followed_hold c.args.table.now c.requires.0 c.args.c c.requires.1 c.args.last.now _ _ c.requires.2 c.all_followed.ensures c.only_open.ensures
+    followed_hold c.args.table.now c.requires.0 c.args.c c.requires.1 last_before _ _ refl c.all_followed.ensures c.only_open.ensures

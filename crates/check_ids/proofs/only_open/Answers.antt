@@ -1,11 +1,6 @@
-use mathlib.Core.Path.{refl}
-use native.Mathlib.Omega.{arith}
 use Rattle.table_passes.proofs.Tests.{each_on, each_end}
 use borrow.Author.Rules.{rules}
 use Rattle.check_ids.proofs.only_open.Goals as goal
-
-pub loop-i-init : goal.loop-i-init
-loop-i-init c = (omega arith, refl)
 
 pub loop-i-preserved : goal.loop-i-preserved
 loop-i-preserved c = search (rules, each_on)

@@ -7,7 +7,7 @@ use borrow.Author.Rules.{rules}
 use Rattle.check_image.proofs.all_empty.Goals as goal
 
 pub loop-k-init : goal.loop-k-init
-loop-k-init c = (omega arith, refl)
+loop-k-init c = refl
 
 pub overflow_mul-found : goal.overflow_mul-found
 overflow_mul-found c = let h = field_inside c.args.w c.args.m c.args.at c.loop-k.k (length c.args.table.now) c.requires.0 (omega arith) in search rules

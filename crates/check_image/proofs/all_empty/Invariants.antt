@@ -1,5 +1,4 @@
 -- `check_image::all_empty` meets its contract. The invariant: what was found is zero exactly if the places passed begin with a zero. Assumes nothing.
-use Prim.Native.Nat.{◌≤◌, ◌-◌}
 use mathlib.Core.Path.{◌≡◌}
 use lib.Dec.{eqb}
 use Rattle.lists.specs.Lists.{all, numbers}
@@ -7,7 +6,4 @@ use Rattle.check_image.specs.Padded.{empty_at}
 use Rattle.check_image.proofs.all_empty.Given as goal
 
 abbrev pub invariant-loop-k : goal.invariant-loop-k
-invariant-loop-k l = (l.k ≤ l.m) × (eqb l.found 0 ≡ all (empty_at l.table l.at l.w) (numbers 0 l.k))
-
-abbrev pub decreases-loop-k : goal.decreases-loop-k
-decreases-loop-k l = l.m - l.k
+invariant-loop-k l = eqb l.found 0 ≡ all (empty_at l.table l.at l.w) (numbers 0 l.k)

@@ -9,15 +9,13 @@ use Rattle.check_image.proofs.Places.{no_slack}
 use Rattle.check_image.proofs.followed.Goals as goal
 
 pub loop-k-init : goal.loop-k-init
-loop-k-init c = (omega arith, refl)
+loop-k-init c = refl
 
 pub loop-k-preserved : goal.loop-k-preserved
-loop-k-preserved c = (
-  omega arith,
-  none_on (last_or_followed c.args.last.now c.args.table.now c.args.at) c.loop-k.k c.loop-k.slack c.after_end-slack.result c.loop-k.invariant.1
-      (no_slack (get_or c.args.last.now c.loop-k.k 0) (get_or c.args.table.now (c.args.at + c.loop-k.k) 0) (get_or c.args.table.now (c.args.at + c.loop-k.k + 1) 0) c.after_end-slack.result c.after_end-slack.ensures),
-)
+loop-k-preserved c =
+    none_on (last_or_followed c.args.last.now c.args.table.now c.args.at) c.loop-k.k c.loop-k.slack c.after_end-slack.result c.loop-k.invariant
+    (no_slack (get_or c.args.last.now c.loop-k.k 0) (get_or c.args.table.now (c.args.at + c.loop-k.k) 0) (get_or c.args.table.now (c.args.at + c.loop-k.k + 1) 0) c.after_end-slack.result c.after_end-slack.ensures)
 
 pub returns : goal.returns
 returns c =
-    each_end (last_or_followed c.args.last.now c.args.table.now c.args.at) 64 c.loop-k.k (eqb c.loop-k.slack 0) c.loop-k.invariant.1 (omega arith) (omega arith)
+    each_end (last_or_followed c.args.last.now c.args.table.now c.args.at) 64 c.loop-k.k (eqb c.loop-k.slack 0) c.loop-k.invariant (omega arith) (omega arith)

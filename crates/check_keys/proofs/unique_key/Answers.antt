@@ -10,4 +10,4 @@ returns-then-table-p-eq0 c = rw c.if-table-p-eq0.true
 pub returns : goal.returns
 unfolding unique_key folded_unique
 returns c =
-    rw (ne_eqb _ 0 c.if-table-p-eq0.false, c.folded-text.ensures, c.words-2.ensures, c.words.ensures, c.wide.ensures.0)
+    rw (ne_eqb _ 0 c.if-table-p-eq0.false, c.folded-text.ensures, c.words-2.ensures, c.words.ensures, c.from.ensures)

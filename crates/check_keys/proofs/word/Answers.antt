@@ -4,4 +4,4 @@ use Rattle.check_keys.proofs.word.Goals as goal
 
 pub returns : goal.returns
 unfolding word_at
-returns c = rw (c.number4.ensures, c.number4-2.ensures)
+returns c = rw (c.from.ensures, c.from-2.ensures, c.number4.ensures, c.number4-2.ensures)

@@ -9,13 +9,13 @@ use Rattle.check_numbers.specs.Numbers.{able_if}
 use Rattle.check_numbers.proofs.busy.Goals as goal
 
 pub loop-q-init : goal.loop-q-init
-loop-q-init c = (omega arith, zero_has)
+loop-q-init c = zero_has
 
 pub loop-q-preserved : goal.loop-q-preserved
 loop-q-preserved c =
     let e = c.able_if.ensures ∙ ap₂ (λ (t : Bool) (y : ℕ). cond t y 0) c.has.ensures c.able.ensures in
-    (omega arith, λ x. ap (λ (y : ℕ). has y x) c.union-s.ensures ∙ joins_on (able_if c.args.table.now c.args.queued) 16 c.loop-q.q c.loop-q.s c.loop-q.invariant.1 c.able_if.result e x)
+    λ x. ap (λ (y : ℕ). has y x) c.union-s.ensures ∙ joins_on (able_if c.args.table.now c.args.queued) 16 c.loop-q.q c.loop-q.s c.loop-q.invariant c.able_if.result e x
 
 pub returns : goal.returns
 returns c =
-    joins_end (able_if c.args.table.now c.args.queued) 16 c.loop-q.q c.loop-q.s c.loop-q.invariant.1 c.loop-q.invariant.0 (omega arith)
+    joins_end (able_if c.args.table.now c.args.queued) 16 c.loop-q.q c.loop-q.s c.loop-q.invariant (omega arith) (omega arith)

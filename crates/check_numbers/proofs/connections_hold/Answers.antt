@@ -1,20 +1,17 @@
 use lib.Dec.{ltb}
 use mathlib.Core.Bool.{Bool, ◌&&◌}
-use Prim.Native.Nat.{◌^◌}
-use mathlib.Core.Path.{refl, ap}
+use Prim.Native.Nat.{ℕ, ◌^◌}
+use mathlib.Core.Path.{ap₂}
 use native.Mathlib.Omega.{arith}
 use Rattle.server.specs.Sizes.{connection_count}
 use Rattle.table_passes.proofs.Tests.{each_on, each_end}
 use Rattle.check_numbers.specs.Numbers.{connection_holds}
 use Rattle.check_numbers.proofs.connections_hold.Goals as goal
 
-pub loop-c-init : goal.loop-c-init
-loop-c-init c = (omega arith, refl)
-
 pub loop-c-preserved : goal.loop-c-preserved
 loop-c-preserved c =
-    (omega arith, each_on (connection_holds c.args.table.now c.args.used c.args.busy) connection_count c.loop-c.c c.loop-c.ok _ c.loop-c.invariant.1 (rw (c.has-in-loop-c.ensures, c.has.ensures)))
+    each_on (connection_holds c.args.table.now c.args.used c.args.busy) connection_count c.loop-c.c c.loop-c.ok _ c.loop-c.invariant (rw (c.has-in-loop-c.ensures, c.has.ensures))
 
 pub returns : goal.returns
 returns c =
-    ap (λ (t : Bool). ltb c.args.used (2 ^ connection_count) && t) (each_end (connection_holds c.args.table.now c.args.used c.args.busy) connection_count c.loop-c.c c.loop-c.ok c.loop-c.invariant.1 c.loop-c.invariant.0 (omega arith))
+    ap₂ (λ (x : ℕ) (t : Bool). ltb x (2 ^ connection_count) && t) c.from.ensures (each_end (connection_holds c.args.table.now c.args.used c.args.busy) connection_count c.loop-c.c c.loop-c.ok c.loop-c.invariant (omega arith) (omega arith))

@@ -1,13 +1,8 @@
 -- `check_numbers::functions_defined` meets its contract. The invariant: the flag says what the functions passed say. Assumes nothing.
-use Prim.Native.Nat.{◌≤◌, ◌-◌}
 use mathlib.Core.Path.{◌≡◌}
 use Rattle.lists.specs.Lists.{all, numbers}
-use Rattle.server.specs.Sizes.{function_count}
 use Rattle.check_numbers.specs.Numbers.{is_defined}
 use Rattle.check_numbers.proofs.functions_defined.Given as goal
 
 abbrev pub invariant-loop-q : goal.invariant-loop-q
-invariant-loop-q l = (l.q ≤ function_count) × (l.ok ≡ all (is_defined l.table l.named) (numbers 0 l.q))
-
-abbrev pub decreases-loop-q : goal.decreases-loop-q
-decreases-loop-q l = 16 - l.q
+invariant-loop-q l = l.ok ≡ all (is_defined l.table l.named) (numbers 0 l.q)

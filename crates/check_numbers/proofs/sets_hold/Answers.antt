@@ -16,18 +16,18 @@ returns-then-connections_hold c =
     let fits : c.union-used.result < 4294967296 = omega arith in
     and_same
     (sym c.if-connections_hold.true ∙ c.connections_hold.ensures
-    ∙ connections_are c.args.table.now c.requires.0 (λ k. omega (arith, c.shared_slice_known-1.given k)) c.requires.1 c.requires.2 c.args.v c.requires.3 _ _ _ _
+    ∙ connections_are c.args.table.now c.requires.0 (λ k. omega (arith, c.type_inv.table k)) c.requires.1 c.requires.2 c.args.v c.requires.3 _ _ _ _
     c.joined-listening.ensures c.joined-able.ensures
     (c.union-used.ensures ∙ ap (λ (x : ℕ). union x c.args.v.holding) c.union.ensures)
     c.busy-busy_ones.ensures fits)
     (c.functions_defined.ensures ∙ defined_is c.args.table.now c.requires.2 c.args.v c.requires.3 c.requires.0 _ c.union-then-connections_hold.ensures)
 
-pub returns : goal.returns
-returns c =
+pub returns-else-connections_hold : goal.returns-else-connections_hold
+returns-else-connections_hold c =
     let fits : c.union-used.result < 4294967296 = omega arith in
-    and_fails (functions_as_defined (table_of connection_count c.args.table.now))
+    c.if-connections_hold.false ∙ and_fails (functions_as_defined (table_of connection_count c.args.table.now))
     (sym c.if-connections_hold.false ∙ c.connections_hold.ensures
-    ∙ connections_are c.args.table.now c.requires.0 (λ k. omega (arith, c.shared_slice_known-1.given k)) c.requires.1 c.requires.2 c.args.v c.requires.3 _ _ _ _
+    ∙ connections_are c.args.table.now c.requires.0 (λ k. omega (arith, c.type_inv.table k)) c.requires.1 c.requires.2 c.args.v c.requires.3 _ _ _ _
     c.joined-listening.ensures c.joined-able.ensures
     (c.union-used.ensures ∙ ap (λ (x : ℕ). union x c.args.v.holding) c.union.ensures)
     c.busy-busy_ones.ensures fits)

@@ -1,5 +1,5 @@
 -- `check_rows::free_or_awaited` meets its contract. The invariant: the flag says what the rows passed say. Assumes nothing.
-use Prim.Native.Nat.{◌≤◌, ◌-◌}
+use Prim.Native.Nat.{◌≤◌}
 use mathlib.Core.Path.{◌≡◌}
 use Rattle.lists.specs.Lists.{all, numbers}
 use Rattle.server.specs.Sizes.{job_count}
@@ -8,6 +8,3 @@ use Rattle.check_rows.proofs.free_or_awaited.Given as goal
 
 abbrev pub invariant-loop-i : goal.invariant-loop-i
 invariant-loop-i l = (l.i ≤ job_count) × (l.ok ≡ all (free_or_awaited l.live l.heard l.held l.sized l.table) (numbers 0 l.i))
-
-abbrev pub decreases-loop-i : goal.decreases-loop-i
-decreases-loop-i l = 32 - l.i

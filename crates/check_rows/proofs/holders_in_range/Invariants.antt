@@ -1,5 +1,5 @@
 -- `check_rows::holders_in_range` meets its contract. The invariant: the flag says what the rows passed say. Assumes nothing.
-use Prim.Native.Nat.{◌≤◌, ◌-◌}
+use Prim.Native.Nat.{◌≤◌}
 use mathlib.Core.Path.{◌≡◌}
 use Rattle.lists.specs.Lists.{all, numbers}
 use Rattle.server.specs.Sizes.{job_count}
@@ -8,6 +8,3 @@ use Rattle.check_rows.proofs.holders_in_range.Given as goal
 
 abbrev pub invariant-loop-i : goal.invariant-loop-i
 invariant-loop-i l = (l.i ≤ job_count) × (l.ok ≡ all (holder_in_range l.table) (numbers 0 l.i))
-
-abbrev pub decreases-loop-i : goal.decreases-loop-i
-decreases-loop-i l = 32 - l.i

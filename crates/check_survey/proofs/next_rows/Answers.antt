@@ -1,12 +1,10 @@
+-- The walk ends eight rows on.
 use Prim.Native.Nat.{◌+◌}
 use mathlib.Core.Path.{◌≡◌}
 use native.Mathlib.Omega.{arith}
 use Rattle.check_survey.proofs.next_rows.Goals as goal
 
-pub loop-i-preserved : goal.loop-i-preserved
-loop-i-preserved c = (omega arith, omega arith, c.next_row-v.ensures)
-
 pub returns : goal.returns
 returns c =
     let e : c.loop-i.i ≡ c.args.p + 8 = omega arith in
-    rw e at c.loop-i.invariant.2
+    rw e at c.loop-i.invariant

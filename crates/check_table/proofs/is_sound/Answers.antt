@@ -1,7 +1,5 @@
 -- `check_table::is_sound` meets its contract. The parts together are soundness; where one fails, so does it. Assumes nothing.
-use mathlib.Core.Path.{sym, ◌∙◌}
-use mathlib.Core.Bool.{◌&&◌}
-use native.Mathlib.Omega.{arith}
+use Rattle.std.proofs.Common.{arith, sym, ◌∙◌, ◌&&◌}
 use Rattle.table_passes.proofs.Tests.{and_same, and_fails}
 use Rattle.check_rows.specs.Rows.{rows_mean}
 use Rattle.check_numbers.specs.Numbers.{number_rules}
@@ -11,22 +9,23 @@ use Rattle.check_table.proofs.is_sound.Goals as goal
 
 pub numbers_hold-requires : goal.numbers_hold-requires
 numbers_hold-requires c =
-    let e = each_of c.args.table.now (sym c.bytes_hold.ensures ∙ c.if-bytes_hold.true) in
+    let e = each_of c.args.table.now (sym c.bytes_hold.ensures ∙ c.if-not-bytes_hold.false) in
     (c.requires, e.0, e.1, c.marks4-live.ensures)
 
 pub texts_hold-requires : goal.texts_hold-requires
 texts_hold-requires c =
-    let e = each_of c.args.table.now (sym c.bytes_hold.ensures ∙ c.if-bytes_hold.true) in
+    let e = each_of c.args.table.now (sym c.bytes_hold.ensures ∙ c.if-not-bytes_hold.false) in
     (c.requires, e.2, e.3, c.marks4-live.ensures)
 
 pub returns-then-numbers_hold : goal.returns-then-numbers_hold
 returns-then-numbers_hold c =
-    and_same (sym c.if-bytes_hold.true ∙ c.bytes_hold.ensures) (and_same (sym c.if-numbers_hold.true ∙ c.numbers_hold.ensures) c.texts_hold.ensures) ∙ sound_is c.args.table.now (λ k. omega (arith, c.shared_slice_known-1.given k)) c.requires
+    and_same (sym c.if-not-bytes_hold.false ∙ c.bytes_hold.ensures) (and_same (sym c.if-numbers_hold.true ∙ c.numbers_hold.ensures) c.texts_hold.ensures) ∙ sound_is c.args.table.now (λ k. omega (arith, c.type_inv.table k)) c.requires
 
 pub returns-else-numbers_hold : goal.returns-else-numbers_hold
 returns-else-numbers_hold c =
-    and_same (sym c.if-bytes_hold.true ∙ c.bytes_hold.ensures) (and_fails (text_rules c.args.table.now) (sym c.if-numbers_hold.false ∙ c.numbers_hold.ensures)) ∙ sound_is c.args.table.now (λ k. omega (arith, c.shared_slice_known-1.given k)) c.requires
+    c.if-numbers_hold.false
+    ∙ and_same (sym c.if-not-bytes_hold.false ∙ c.bytes_hold.ensures) (and_fails (text_rules c.args.table.now) (sym c.if-numbers_hold.false ∙ c.numbers_hold.ensures)) ∙ sound_is c.args.table.now (λ k. omega (arith, c.type_inv.table k)) c.requires
 
-pub returns-else-bytes_hold : goal.returns-else-bytes_hold
-returns-else-bytes_hold c =
-    and_fails ((rows_mean c.args.table.now && number_rules c.args.table.now) && text_rules c.args.table.now) (sym c.if-bytes_hold.false ∙ c.bytes_hold.ensures) ∙ sound_is c.args.table.now (λ k. omega (arith, c.shared_slice_known-1.given k)) c.requires
+pub returns-then-not-bytes_hold : goal.returns-then-not-bytes_hold
+returns-then-not-bytes_hold c =
+    and_fails ((rows_mean c.args.table.now && number_rules c.args.table.now) && text_rules c.args.table.now) (sym c.if-not-bytes_hold.true ∙ c.bytes_hold.ensures) ∙ sound_is c.args.table.now (λ k. omega (arith, c.type_inv.table k)) c.requires

@@ -1,12 +1,8 @@
 -- `check_texts::digits_padded` meets its contract. The invariant: the flag says what the bytes passed say. Assumes nothing.
-use Prim.Native.Nat.{◌≤◌, ◌-◌}
 use mathlib.Core.Path.{◌≡◌}
 use Rattle.lists.specs.Lists.{all, numbers}
 use Rattle.check_texts.specs.Stored.{digit_padded}
 use Rattle.check_texts.proofs.digits_padded.Given as goal
 
 abbrev pub invariant-loop-k : goal.invariant-loop-k
-invariant-loop-k l = (l.k ≤ 320) × (l.ok ≡ all (digit_padded l.last l.table l.at) (numbers 0 l.k))
-
-abbrev pub decreases-loop-k : goal.decreases-loop-k
-decreases-loop-k l = 320 - l.k
+invariant-loop-k l = l.ok ≡ all (digit_padded l.last l.table l.at) (numbers 0 l.k)

@@ -1,5 +1,4 @@
 -- `check_texts::one_digit_each` meets its contract. The invariant: what was found is zero exactly if no byte passed is one too many. Assumes nothing.
-use Prim.Native.Nat.{◌≤◌, ◌-◌}
 use mathlib.Core.Path.{◌≡◌}
 use lib.Dec.{eqb}
 use Rattle.lists.specs.Lists.{all, numbers}
@@ -7,7 +6,4 @@ use Rattle.check_texts.specs.Stored.{first_alone}
 use Rattle.check_texts.proofs.one_digit_each.Given as goal
 
 abbrev pub invariant-loop-i : goal.invariant-loop-i
-invariant-loop-i l = (l.i ≤ 320) × (eqb l.found 0 ≡ all (first_alone l.first l.table) (numbers 0 l.i))
-
-abbrev pub decreases-loop-i : goal.decreases-loop-i
-decreases-loop-i l = 320 - l.i
+invariant-loop-i l = (eqb l.found 0 ≡ all (first_alone l.first l.table) (numbers 0 l.i))

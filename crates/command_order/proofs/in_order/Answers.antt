@@ -7,12 +7,12 @@ use Rattle.command_order.proofs.in_order.Goals as goal
 
 pub loop-q-init : goal.loop-q-init
 loop-q-init c =
-    (omega arith, omega arith, none_yet (table_of connection_count c.args.table.now).functions function_count)
+    (omega arith, none_yet (table_of connection_count c.args.table.now).functions function_count)
 
 pub loop-q-preserved : goal.loop-q-preserved
 loop-q-preserved c =
-    (omega arith, omega (arith, c.with_known-listing.ensures.0), list_turn (table_of connection_count c.args.table.now).functions function_count c.loop-q.q _ c.loop-q.invariant.2 (omega arith) (omega arith) _ c.with_known-listing.ensures.1)
+    (omega arith, list_turn (table_of connection_count c.args.table.now).functions function_count c.loop-q.q _ c.loop-q.invariant.1 (omega arith) (omega arith) _ c.with_known-listing.ensures.1)
 
 pub returns : goal.returns
 returns c =
-    (omega arith, list_end (table_of connection_count c.args.table.now).functions function_count c.loop-q.q _ c.loop-q.invariant.2 (omega arith) (functions_length connection_count c.args.table.now))
+    (omega arith, list_end (table_of connection_count c.args.table.now).functions function_count c.loop-q.q _ c.loop-q.invariant.1 (omega arith) (functions_length connection_count c.args.table.now))

@@ -9,7 +9,4 @@ use Rattle.command_order.proofs.Listed.{from}
 use Rattle.command_order.proofs.in_order.Given as goal
 
 abbrev pub invariant-loop-q : goal.invariant-loop-q
-invariant-loop-q l = (l.q ≤ function_count) × (l.listing.count + l.q ≤ function_count) × (listed l.listing ≡ from (table_of connection_count l.table).functions l.q (function_count - l.q))
-
-abbrev pub decreases-loop-q : goal.decreases-loop-q
-decreases-loop-q l = l.q
+invariant-loop-q l = (l.listing.count + l.q ≤ function_count) × (listed l.listing ≡ from (table_of connection_count l.table).functions l.q (function_count - l.q))

@@ -1,6 +1,5 @@
 -- `command_order::with_place` meets its contract. The invariant: the first i places are laid down, and the hand and the places ahead of it
 -- become the rest. Assumes nothing.
-use Prim.Native.Nat.{◌≤◌, ◌-◌}
 use mathlib.Core.Path.{◌≡◌}
 use lib.ListN.{length}
 use Rattle.server.specs.Sizes.{connection_count, function_count}
@@ -9,7 +8,4 @@ use Rattle.command_order.proofs.Hand.{Hand}
 use Rattle.command_order.proofs.with_place.Given as goal
 
 abbrev pub invariant-loop-i : goal.invariant-loop-i
-invariant-loop-i l = (l.i ≤ l.count) × (length l.next ≡ function_count) × Hand (table_of connection_count l.table).functions l.q l.count l.places l.next l.hand l.moved l.i
-
-abbrev pub decreases-loop-i : goal.decreases-loop-i
-decreases-loop-i l = l.count - l.i
+invariant-loop-i l = (length l.next ≡ function_count) × Hand (table_of connection_count l.table).functions l.q l.count l.places l.next l.hand l.moved l.i

@@ -1,17 +1,11 @@
-use mathlib.Core.Path.{refl}
-use native.Mathlib.Omega.{arith}
-use Rattle.server.specs.Table.{no_row}
+-- `command_status::count_jobs` meets its contract: the rows that pass the test are counted. Assumes nothing.
+use Rattle.std.proofs.Common.{rules, ◌≡◌, ◌∙◌}
+use Rattle.std.specs.Prelude.{count_by}
 use Rattle.command_status.specs.Counts.{counted}
-use Rattle.command_status.proofs.Counting.{count_end, count_turn}
+use Rattle.command_status.proofs.Counting.{filter_counted}
 use Rattle.command_status.proofs.count_jobs.Goals as goal
-
-pub loop-p-init : goal.loop-p-init
-loop-p-init c = (omega arith, omega arith, refl)
-
-pub loop-p-preserved : goal.loop-p-preserved
-loop-p-preserved c =
-    (omega arith, omega (arith, c.one_if-count.ensures.1), count_turn (counted c.args.held c.args.q) c.args.rows c.loop-p.p c.loop-p.count c.loop-p.invariant.2 no_row _ _ (omega arith) c.is_counted.ensures c.one_if-count.ensures.0)
 
 pub returns : goal.returns
 returns c =
-    count_end (counted c.args.held c.args.q) c.args.rows c.loop-p.p c.loop-p.count c.loop-p.invariant.2 (omega arith)
+    let e : c.count.result ≡ count_by (counted c.args.held c.args.q) c.args.rows = search rules in
+    e ∙ filter_counted (counted c.args.held c.args.q) c.args.rows

@@ -24,6 +24,6 @@ returns-then-has c =
     let e = name_is (table_of connection_count c.args.table.now) c.args.c c.args.q _ _ c.able_at.ensures c.has.ensures _ c.name_at.ensures c.if-has.true in
     laid_as _ _ e _ _ _ _ (laid_then _ (text " ") _ _ _ _ c.put-place.ensures _ _ c.put_printed.ensures)
 
-pub returns : goal.returns
-returns c =
+pub returns-else-has : goal.returns-else-has
+returns-else-has c =
     laid_as _ _ (name_none (table_of connection_count c.args.table.now) c.args.c c.args.q _ _ c.able_at.ensures c.has.ensures c.if-has.false) _ _ _ _ (laid_none _ _)

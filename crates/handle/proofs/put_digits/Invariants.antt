@@ -1,6 +1,6 @@
 -- `handle::put_digits` meets its contract. The invariant: the digits from the i-th on lie over the output, whose length stays, and those
--- before it are the decimal of `left`, in i digits. The measure is i. Assumes nothing.
-use Prim.Native.Nat.{◌≤◌, ◌+◌}
+-- before it are the decimal of `left`, in i digits. Assumes nothing.
+use Prim.Native.Nat.{◌+◌}
 use mathlib.Core.Path.{◌≡◌}
 use lib.ListN.{length, take, drop}
 use Rattle.octets.specs.Put.{put}
@@ -8,7 +8,4 @@ use Rattle.handle.specs.Handle.{decimal_in}
 use Rattle.handle.proofs.put_digits.Given as goal
 
 abbrev pub invariant-loop-i : goal.invariant-loop-i
-invariant-loop-i l = (l.i ≤ length (decimal_in l.most l.number)) × (length l.out ≡ length l.initial.out) × (take l.i (decimal_in l.most l.number) ≡ decimal_in l.i l.left) × (l.out ≡ put (l.at + l.i) (drop l.i (decimal_in l.most l.number)) l.initial.out)
-
-abbrev pub decreases-loop-i : goal.decreases-loop-i
-decreases-loop-i l = l.i
+invariant-loop-i l = (length l.out ≡ length l.initial.out) × (take l.i (decimal_in l.most l.number) ≡ decimal_in l.i l.left) × (l.out ≡ put (l.at + l.i) (drop l.i (decimal_in l.most l.number)) l.initial.out)

@@ -1,5 +1,5 @@
 -- `hexadecimal::read_hex` meets its contract, one law for each return. Assumes nothing.
-use Rattle.hexadecimal.proofs.Reading.{spelling_odd, spelling_bad, spelling_even, spelling_digits, spelling_long, spelling_good}
+use Rattle.hexadecimal.proofs.Reading.{spelling_odd, spelling_bad, spelling_long, spelling_good}
 use borrow.Author.Rules.{rules}
 use Rattle.hexadecimal.proofs.read_hex.Goals as goal
 
@@ -11,9 +11,6 @@ returns-then-not-all_digits c = search (rules, spelling_bad)
 
 pub returns-then-out-count : goal.returns-then-out-count
 returns-then-out-count c = search (rules, spelling_long)
-
-pub put_pairs-requires : goal.put_pairs-requires
-put_pairs-requires c = search (rules, spelling_even, spelling_digits)
 
 pub returns : goal.returns
 returns c = search (rules, spelling_good)

@@ -23,8 +23,12 @@ none_of (k ∷ ks) t kind h =
     let within : k ≤ 36 = leb→le k 36 both.0 in
     ap (λ (b : Bool). b || one_of ks kind) (ne_eqb k kind (λ e. omega arith)) ∙ none_of ks both.1 kind h
 
+-- row 0: no type
+abbrev no_kind : Kind
+no_kind = record { served = false; sent = false; separators = 0; priority = 0; background = false }
+
 -- what the layout says beyond the table: no type
-beyond : (kind : ℕ) → 36 < kind → ◌≡◌ {A = Kind} (false, false, 0, 0, false) (kind_of kind)
+beyond : (kind : ℕ) → 36 < kind → no_kind ≡ kind_of kind
 unfolding kind_of request_shape response_shape rules_of priority_of background_of
 beyond kind h =
     rw (
@@ -40,4 +44,4 @@ returns-then-kind-gt36 c = beyond c.args.kind c.if-kind-gt36.true
 
 pub returns : goal.returns
 unfolding kind_of request_shape response_shape rules_of priority_of background_of
-returns c = entry kind_of 37 c.args.kind (false, false, 0, 0, false) (omega arith)
+returns c = entry kind_of 37 c.args.kind no_kind (omega arith)

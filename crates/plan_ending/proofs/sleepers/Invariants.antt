@@ -1,6 +1,6 @@
 -- `plan_ending::sleepers` meets its contract. The invariant: the union over all connections is that of s and those from connection c on.
 -- Assumes nothing.
-use Prim.Native.Nat.{◌≤◌, ◌-◌}
+use Prim.Native.Nat.{◌≤◌}
 use mathlib.Core.Path.{◌≡◌}
 use lib.ListN.{drop}
 use Rattle.server.specs.Sizes.{connection_count}
@@ -12,6 +12,3 @@ use Rattle.plan_ending.proofs.sleepers.Given as goal
 abbrev pub invariant-loop-c : goal.invariant-loop-c
 invariant-loop-c l =
     (l.c ≤ connection_count) × (to_wake_set l.able (values_of (table_of connection_count l.table)).connections ≡ unions (wakes_now l.able) l.s l.c (drop l.c (values_of (table_of connection_count l.table)).connections))
-
-abbrev pub decreases-loop-c : goal.decreases-loop-c
-decreases-loop-c l = connection_count - l.c

@@ -1,6 +1,6 @@
 -- `plan_ending::some_grab` meets its contract. The invariant: the connection can grab some job if one was found before place i, or one is
 -- from place i on. Assumes nothing.
-use Prim.Native.Nat.{◌≤◌, ◌-◌}
+use Prim.Native.Nat.{◌≤◌}
 use mathlib.Core.Bool.{◌||◌}
 use mathlib.Core.Path.{◌≡◌}
 use lib.ListN.{drop}
@@ -15,6 +15,3 @@ abbrev pub invariant-loop-i : goal.invariant-loop-i
 invariant-loop-i l =
     (l.i ≤ job_count)
     × (any (grabbable (values_of (table_of connection_count l.table)).able l.c) (values_of (table_of connection_count l.table)).rows ≡ l.found || any (grabbable (values_of (table_of connection_count l.table)).able l.c) (drop l.i (values_of (table_of connection_count l.table)).rows))
-
-abbrev pub decreases-loop-i : goal.decreases-loop-i
-decreases-loop-i l = 32 - l.i

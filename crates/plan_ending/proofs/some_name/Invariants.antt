@@ -1,6 +1,6 @@
 -- `plan_ending::some_name` meets its contract. The invariant: some job that is left names the function if one was found before place i, or
 -- one is from place i on. Assumes nothing.
-use Prim.Native.Nat.{◌≤◌, ◌-◌}
+use Prim.Native.Nat.{◌≤◌}
 use mathlib.Core.Bool.{◌||◌}
 use mathlib.Core.Path.{◌≡◌}
 use lib.ListN.{set, drop}
@@ -15,6 +15,3 @@ abbrev pub invariant-loop-i : goal.invariant-loop-i
 invariant-loop-i l =
     (l.i ≤ job_count)
     × (any (names l.q) (set (values_of (table_of connection_count l.table)).rows l.over no_row) ≡ l.found || any (names l.q) (drop l.i (set (values_of (table_of connection_count l.table)).rows l.over no_row)))
-
-abbrev pub decreases-loop-i : goal.decreases-loop-i
-decreases-loop-i l = 32 - l.i

@@ -11,6 +11,3 @@ use Rattle.plan_events.proofs.heard.Given as goal
 
 abbrev pub invariant-loop-i : goal.invariant-loop-i
 invariant-loop-i l = (l.i ≤ connection_count) × (heard (values_of (table_of connection_count l.table)).connections l.listeners ≡ heard_from l.i (drop l.i (values_of (table_of connection_count l.table)).connections) l.s)
-
-abbrev pub decreases-loop-i : goal.decreases-loop-i
-decreases-loop-i l = connection_count - l.i

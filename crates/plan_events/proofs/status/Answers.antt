@@ -2,8 +2,8 @@
 use mathlib.Core.Path.{◌∙◌}
 use Rattle.plan_events.proofs.status.Goals as goal
 
-pub returns-in-Nowhere : goal.returns-in-Nowhere
-returns-in-Nowhere c = c.done.ensures ∙ rw c.in-Nowhere.is
+pub returns-in-None : goal.returns-in-None
+returns-in-None c = c.done.ensures ∙ rw c.in-None.is
 
-pub returns-in-At : goal.returns-in-At
-returns-in-At c = c.done-in-At.ensures ∙ rw c.in-At.is
+pub returns-in-Some : goal.returns-in-Some
+returns-in-Some c = c.done-in-Some.ensures ∙ rw c.in-Some.is

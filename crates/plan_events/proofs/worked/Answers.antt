@@ -3,24 +3,24 @@ use mathlib.Core.Path.{◌∙◌}
 use Rattle.plan.specs.Plans.{plan_work}
 use Rattle.plan_events.proofs.worked.Goals as goal
 
-pub returns-in-Nowhere : goal.returns-in-Nowhere
+pub returns-in-None : goal.returns-in-None
 unfolding plan_work
-returns-in-Nowhere c = c.refused.ensures ∙ rw c.in-Nowhere.is
+returns-in-None c = c.refused.ensures ∙ rw c.in-None.is
 
 pub returns-in-Tells : goal.returns-in-Tells
 unfolding plan_work
-returns-in-Tells c = c.done.ensures ∙ rw (c.row_at-row.ensures, c.in-At.is, c.in-Tells.is)
+returns-in-Tells c = c.done.ensures ∙ rw (c.row_at-row.ensures, c.in-Some.is, c.in-Tells.is)
 
 pub returns-in-Reports : goal.returns-in-Reports
 unfolding plan_work
-returns-in-Reports c = c.done-in-Reports.ensures ∙ rw (c.row_at-row.ensures, c.in-At.is, c.in-Reports.is)
+returns-in-Reports c = c.done-in-Reports.ensures ∙ rw (c.row_at-row.ensures, c.in-Some.is, c.in-Reports.is)
 
 pub returns-in-Ends : goal.returns-in-Ends
 unfolding plan_work
-returns-in-Ends c = c.done-in-Ends.ensures ∙ rw (c.row_at-row.ensures, c.in-At.is, c.in-Ends.is)
+returns-in-Ends c = c.done-in-Ends.ensures ∙ rw (c.row_at-row.ensures, c.in-Some.is, c.in-Ends.is)
 
 pub returns-in-Throws : goal.returns-in-Throws
 unfolding plan_work
 returns-in-Throws c =
     c.done-in-Throws.ensures
-    ∙ rw (c.heard.ensures, c.row_at-row.ensures, c.in-At.is, c.in-Throws.is)
+    ∙ rw (c.heard.ensures, c.row_at-row.ensures, c.in-Some.is, c.in-Throws.is)

@@ -1,4 +1,5 @@
-use mathlib.Core.Path.{◌≡◌, refl, sym, ◌∙◌}
+use Prim.Native.Nat.{◌+◌, ◌*◌}
+use mathlib.Core.Path.{◌≡◌, sym, ◌∙◌}
 use native.Mathlib.Omega.{arith}
 use borrow.Author.Tests.{not-true}
 use Rattle.plan_find_rows.proofs.Walk.{best_start, best_end, unable_nowhere}
@@ -9,13 +10,15 @@ pub returns-then-not-has : goal.returns-then-not-has
 returns-then-not-has c =
     unable_nowhere c.args.table.now c.args.c c.joined.result c.joined.ensures (sym c.has.ensures ∙ not-true _ (ap not c.if-not-has.true))
 
-pub loop-p-init : goal.loop-p-init
-loop-p-init c = (omega arith, refl, best_start _ _)
+pub loop-group-init : goal.loop-group-init
+loop-group-init c = best_start _ _
 
-pub loop-p-preserved : goal.loop-p-preserved
-loop-p-preserved c = (omega arith, omega arith, c.next_group-v.ensures)
+pub loop-group-preserved : goal.loop-group-preserved
+loop-group-preserved c =
+    let e : 8 * c.loop-group.group + 8 ≡ 8 * (c.loop-group.group + 1) = omega arith in
+    rw e at c.next_group-v.ensures
 
 pub returns : goal.returns
 returns c =
-    let e : c.loop-p.p ≡ 32 = omega arith in
-    best_end c.args.table.now c.args.c c.loop-p.v (rw e at c.loop-p.invariant.2)
+    let e : 8 * c.loop-group.group ≡ 32 = omega arith in
+    best_end c.args.table.now c.args.c c.loop-group.v (rw e at c.loop-group.invariant)

@@ -4,4 +4,4 @@ use Rattle.plan_find_texts.proofs.room_for.Goals as goal
 
 pub returns : goal.returns
 returns c =
-    room_place _ _ c.requires.0 c.read_names-names.ensures _ _ c.requires.2 c.requires.3 c.padded_name-name.ensures _ c.place_of.ensures _ c.or_free.ensures
+    room_place _ _ c.requires.0 c.read_names-names.ensures _ _ c.requires.2 c.requires.3 c.padded-name.ensures _ c.place_of.ensures _ c.or_free.ensures

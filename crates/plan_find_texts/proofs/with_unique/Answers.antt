@@ -19,7 +19,7 @@ has_unique-requires c =
 
 pub returns-then-has_unique : goal.returns-then-has_unique
 returns-then-has_unique c =
-    unique_found _ c.requires.0 _ _ _ _ c.requires.2 c.requires.3 c.padded_unique-place.ensures
+    unique_found _ c.requires.0 _ _ _ _ c.requires.2 c.requires.3 c.padded-place.ensures
     (number_here _ 32 c.loop-i.i c.loop-i.invariant.1 (omega arith) (sym c.has_unique.ensures ∙ c.if-has_unique.true))
 
 pub loop-i-preserved : goal.loop-i-preserved
@@ -28,4 +28,4 @@ loop-i-preserved c =
 
 pub returns : goal.returns
 returns c =
-    unique_found _ c.requires.0 _ _ _ _ c.requires.2 c.requires.3 c.padded_unique-place.ensures (number_none _ 32 c.loop-i.i c.loop-i.invariant.1 (omega arith))
+    unique_found _ c.requires.0 _ _ _ _ c.requires.2 c.requires.3 c.padded-place.ensures (number_none _ 32 c.loop-i.i c.loop-i.invariant.1 (omega arith))

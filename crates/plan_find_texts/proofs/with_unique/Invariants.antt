@@ -1,6 +1,6 @@
 -- `plan_find_texts::with_unique` meets its contract. The invariant: the search among all places is the search from place i on.
 -- Assumes nothing.
-use Prim.Native.Nat.{◌≤◌, ◌-◌}
+use Prim.Native.Nat.{◌≤◌}
 use mathlib.Core.Path.{◌≡◌}
 use lib.ListN.{drop}
 use Rattle.lists.specs.Lists.{find, numbers}
@@ -11,6 +11,3 @@ use Rattle.plan_find_texts.proofs.with_unique.Given as goal
 
 abbrev pub invariant-loop-i : goal.invariant-loop-i
 invariant-loop-i l = (l.i ≤ job_count) × (find (lies_for l.table l.function l.place) (numbers 0 job_count) ≡ up_by l.i (find (lies_for l.table l.function l.place) (drop l.i (numbers 0 job_count))))
-
-abbrev pub decreases-loop-i : goal.decreases-loop-i
-decreases-loop-i l = 32 - l.i

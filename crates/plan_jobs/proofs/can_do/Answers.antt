@@ -3,10 +3,10 @@ use mathlib.Core.Path.{◌∙◌}
 use Rattle.plan.specs.Plans.{plan_can_do}
 use Rattle.plan_jobs.proofs.can_do.Goals as goal
 
-pub returns-in-Nowhere : goal.returns-in-Nowhere
+pub returns-in-None : goal.returns-in-None
 unfolding plan_can_do
-returns-in-Nowhere c = c.refused.ensures ∙ rw c.in-Nowhere.is
+returns-in-None c = c.refused.ensures ∙ rw c.in-None.is
 
-pub returns-in-At : goal.returns-in-At
+pub returns-in-Some : goal.returns-in-Some
 unfolding plan_can_do
-returns-in-At c = c.done.ensures ∙ rw (c.insert-s.ensures, c.able_at.ensures, c.in-At.is)
+returns-in-Some c = c.done.ensures ∙ rw (c.insert-s.ensures, c.able_at.ensures, c.in-Some.is)

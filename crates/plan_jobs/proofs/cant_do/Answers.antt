@@ -3,10 +3,10 @@ use mathlib.Core.Path.{◌∙◌}
 use Rattle.plan.specs.Plans.{plan_cant_do}
 use Rattle.plan_jobs.proofs.cant_do.Goals as goal
 
-pub returns-in-Nowhere : goal.returns-in-Nowhere
+pub returns-in-None : goal.returns-in-None
 unfolding plan_cant_do
-returns-in-Nowhere c = c.done.ensures ∙ rw c.in-Nowhere.is
+returns-in-None c = c.done.ensures ∙ rw c.in-None.is
 
-pub returns-in-At : goal.returns-in-At
+pub returns-in-Some : goal.returns-in-Some
 unfolding plan_cant_do
-returns-in-At c = c.done-in-At.ensures ∙ rw (c.remove-s.ensures, c.able_at.ensures, c.in-At.is)
+returns-in-Some c = c.done-in-Some.ensures ∙ rw (c.remove-s.ensures, c.able_at.ensures, c.in-Some.is)

@@ -4,12 +4,12 @@ use native.Mathlib.Numerals.{add-one}
 use Rattle.plan.specs.Plans.{plan_grab}
 use Rattle.plan_jobs.proofs.grab.Goals as goal
 
-pub returns-in-Nowhere : goal.returns-in-Nowhere
+pub returns-in-None : goal.returns-in-None
 unfolding plan_grab
-returns-in-Nowhere c = c.done.ensures ∙ rw (c.sleeping-awake.ensures, c.in-Nowhere.is)
+returns-in-None c = c.done.ensures ∙ rw (c.sleeping-awake.ensures, c.in-None.is)
 
-pub returns-in-At : goal.returns-in-At
+pub returns-in-Some : goal.returns-in-Some
 unfolding plan_grab
-returns-in-At c =
-    c.done-in-At.ensures
-    ∙ rw (c.with_holder-held.ensures, c.row_at.ensures, c.sleeping-awake.ensures, c.in-At.is, add-one)
+returns-in-Some c =
+    c.done-in-Some.ensures
+    ∙ rw (c.with_holder-held.ensures, c.row_at.ensures, c.sleeping-awake.ensures, c.in-Some.is, add-one)

@@ -3,10 +3,10 @@ use mathlib.Core.Path.{◌∙◌}
 use Rattle.plan.specs.Plans.{plan_submit}
 use Rattle.plan_jobs.proofs.submit.Goals as goal
 
-pub returns-in-At : goal.returns-in-At
+pub returns-in-Some : goal.returns-in-Some
 unfolding plan_submit
-returns-in-At c = c.join.ensures ∙ rw c.in-At.is
+returns-in-Some c = c.join.ensures ∙ rw c.in-Some.is
 
-pub returns-in-Nowhere : goal.returns-in-Nowhere
+pub returns-in-None : goal.returns-in-None
 unfolding plan_submit
-returns-in-Nowhere c = c.submit_new.ensures ∙ rw c.in-Nowhere.is
+returns-in-None c = c.submit_new.ensures ∙ rw c.in-None.is

@@ -1,20 +1,19 @@
 -- `plan_jobs::submit_new` meets its contract, by the cases of the two places. Assumes nothing.
 use mathlib.Core.Path.{ap, ◌∙◌}
-use Rattle.lists.specs.Places.{unplaced}
 use Rattle.plan.specs.Plans.{plan_new}
 use Rattle.plan_jobs.proofs.submit_new.Goals as goal
 
 pub accept-requires : goal.accept-requires
 accept-requires c =
-    (c.requires.0, c.requires.1, c.requires.2 _ (ap unplaced c.in-At.is))
+    (c.requires.0, c.requires.1, c.requires.2 _ c.in-Some.is)
 
-pub returns-in-Nowhere : goal.returns-in-Nowhere
+pub returns-in-None : goal.returns-in-None
 unfolding plan_new
-returns-in-Nowhere c = c.refused.ensures ∙ rw c.in-Nowhere.is
+returns-in-None c = c.refused.ensures ∙ rw c.in-None.is
 
-pub returns-in-Nowhere-free : goal.returns-in-Nowhere-free
+pub returns-in-None-free : goal.returns-in-None-free
 unfolding plan_new
-returns-in-Nowhere-free c = c.refused-in-Nowhere-free.ensures ∙ rw (c.in-At.is, c.in-Nowhere-free.is)
+returns-in-None-free c = c.refused-in-None-free.ensures ∙ rw (c.in-Some.is, c.in-None-free.is)
 
-pub returns-in-At-free : goal.returns-in-At-free
-returns-in-At-free c = c.accept.ensures ∙ rw (c.in-At.is, c.in-At-free.is)
+pub returns-in-Some-free : goal.returns-in-Some-free
+returns-in-Some-free c = c.accept.ensures ∙ rw (c.in-Some.is, c.in-Some-free.is)

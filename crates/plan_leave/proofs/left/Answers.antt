@@ -2,4 +2,4 @@
 use Rattle.plan_leave.proofs.left.Goals as goal
 
 pub returns : goal.returns
-returns c = rw (c.left_rows-after.ensures, c.unable_all-without.ensures, c.set_connection-connections.ensures, c.closed.ensures)
+returns c = rw (c.left_rows.ensures, c.unable_all.ensures, c.set_connection-connections.ensures, c.closed.ensures)

@@ -7,8 +7,5 @@ use Rattle.server.specs.Sizes.{job_count}
 use Rattle.plan.specs.Busy.{unions, able_for, busy_set}
 use Rattle.plan_settle.proofs.busy.Given as goal
 
-abbrev pub invariant-loop-i : goal.invariant-loop-i
-invariant-loop-i l = (l.i ≤ job_count) × (busy_set l.able l.rows ≡ unions (λ k r. able_for l.able r) l.s l.i (drop l.i l.rows))
-
-abbrev pub decreases-loop-i : goal.decreases-loop-i
-decreases-loop-i l = 32 - l.i
+abbrev pub invariant-loop-r : goal.invariant-loop-r
+invariant-loop-r l = (l.r-index ≤ job_count) × (busy_set l.able l.fn.rows ≡ unions (λ k r. able_for l.able r) l.s l.r-index (drop l.r-index l.fn.rows))

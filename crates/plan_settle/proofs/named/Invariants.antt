@@ -7,8 +7,5 @@ use Rattle.server.specs.Sizes.{job_count}
 use Rattle.plan.specs.Busy.{unions, name_of, named_set}
 use Rattle.plan_settle.proofs.named.Given as goal
 
-abbrev pub invariant-loop-i : goal.invariant-loop-i
-invariant-loop-i l = (l.i ≤ job_count) × (named_set l.rows ≡ unions (λ k r. name_of r) l.s l.i (drop l.i l.rows))
-
-abbrev pub decreases-loop-i : goal.decreases-loop-i
-decreases-loop-i l = 32 - l.i
+abbrev pub invariant-loop-r : goal.invariant-loop-r
+invariant-loop-r l = (l.r-index ≤ job_count) × (named_set l.fn.rows ≡ unions (λ k r. name_of r) l.s l.r-index (drop l.r-index l.fn.rows))

@@ -8,6 +8,3 @@ use Rattle.plan_settle.proofs.wanted.Given as goal
 
 abbrev pub invariant-loop-i : goal.invariant-loop-i
 invariant-loop-i l = (l.i ≤ 16) × (length l.marks ≡ 16) × (take l.i l.marks ≡ take l.i (marked_by l.able l.s))
-
-abbrev pub decreases-loop-i : goal.decreases-loop-i
-decreases-loop-i l = 16 - l.i

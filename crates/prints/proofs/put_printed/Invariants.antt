@@ -1,6 +1,5 @@
 -- `prints::put_printed` meets its contract. The invariant: the first i bytes of the text lie as they are printed over the buffer, whose
 -- length stays. Assumes nothing.
-use Prim.Native.Nat.{◌≤◌, ◌-◌}
 use mathlib.Core.Path.{◌≡◌}
 use lib.ListN.{length, take}
 use Rattle.octets.specs.Put.{put}
@@ -8,7 +7,4 @@ use Rattle.prints.specs.Printed.{printed}
 use Rattle.prints.proofs.put_printed.Given as goal
 
 abbrev pub invariant-loop-i : goal.invariant-loop-i
-invariant-loop-i l = (l.i ≤ length l.text) × (length l.out ≡ length l.initial.out) × (l.out ≡ put l.at (take l.i (printed l.text)) l.initial.out)
-
-abbrev pub decreases-loop-i : goal.decreases-loop-i
-decreases-loop-i l = length l.text - l.i
+invariant-loop-i l = (length l.out ≡ length l.initial.out) × (l.out ≡ put l.at (take l.i (printed l.text)) l.initial.out)

@@ -17,6 +17,3 @@ piece shape packet ends i = argument_text shape i (argument_at packet ends i)
 
 abbrev pub invariant-loop-i : goal.invariant-loop-i
 invariant-loop-i l = (l.i ≤ l.count) × (length l.out ≡ length l.initial.out) × Laid (piece l.shape l.packet l.ends) l.at l.initial.out l.i l.place l.out
-
-abbrev pub decreases-loop-i : goal.decreases-loop-i
-decreases-loop-i l = l.count - l.i

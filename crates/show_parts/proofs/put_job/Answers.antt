@@ -5,10 +5,10 @@ use Rattle.show_parts.proofs.put_job.Goals as goal
 
 pub put_job_of-requires : goal.put_job_of-requires
 put_job_of-requires c =
-    (c.requires.0, room_as _ _ (of_serial _ _ _ _ _ c.in-Of.is) _ _ c.requires.1)
+    (c.requires.0, room_as _ _ (of_serial _ _ _ _ _ c.in-Some.is) _ _ c.requires.1)
 
 pub returns-in-None : goal.returns-in-None
 returns-in-None c = laid_as _ _ (no_serial_lem _ _ _ _ c.in-None.is) _ _ _ _ (laid_none _ _)
 
-pub returns-in-Of : goal.returns-in-Of
-returns-in-Of c = laid_as _ _ (of_serial _ _ _ _ _ c.in-Of.is) _ _ _ _ c.put_job_of.ensures
+pub returns-in-Some : goal.returns-in-Some
+returns-in-Some c = laid_as _ _ (of_serial _ _ _ _ _ c.in-Some.is) _ _ _ _ c.put_job_of.ensures

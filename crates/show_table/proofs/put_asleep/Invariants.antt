@@ -10,6 +10,3 @@ use Rattle.show_table.proofs.put_asleep.Given as goal
 
 abbrev pub invariant-loop-c : goal.invariant-loop-c
 invariant-loop-c l = (l.c ≤ connection_count) × (length l.out ≡ length l.initial.out) × Laid (shown (sleeps l.connections)) l.at l.initial.out l.c l.place l.out
-
-abbrev pub decreases-loop-c : goal.decreases-loop-c
-decreases-loop-c l = 16 - l.c

@@ -10,6 +10,3 @@ use Rattle.show_table.proofs.put_gone.Given as goal
 
 abbrev pub invariant-loop-q : goal.invariant-loop-q
 invariant-loop-q l = (l.q ≤ job_count) × (length l.out ≡ length l.initial.out) × Laid (gone l.hub l.word l.before l.after) l.at l.initial.out l.q l.place l.out
-
-abbrev pub decreases-loop-q : goal.decreases-loop-q
-decreases-loop-q l = 32 - l.q

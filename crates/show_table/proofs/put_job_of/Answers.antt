@@ -8,16 +8,16 @@ use Rattle.show_table.proofs.put_job_of.Goals as goal
 
 pub put_job-requires : goal.put_job-requires
 put_job-requires c =
-    (c.requires.0, room_as _ _ (serial_found c.args.hub.now connection_count c.args.serial c.args.before c.args.after _ _ (sym c.in-At.is ∙ c.serial_row-place.ensures) c.row_at.ensures) _ _ c.requires.1)
+    (c.requires.0, room_as _ _ (serial_found c.args.hub.now connection_count c.args.serial c.args.before c.args.after _ _ (sym c.in-Some.is ∙ c.serial_row-place.ensures) c.row_at.ensures) _ _ c.requires.1)
 
 pub put_absent-requires : goal.put_absent-requires
 put_absent-requires c =
-    (c.requires.0, room_as _ _ (serial_unfound c.args.hub.now connection_count c.args.serial c.args.before c.args.after (sym c.in-Nowhere.is ∙ c.serial_row-place.ensures)) _ _ c.requires.1)
+    (c.requires.0, room_as _ _ (serial_unfound c.args.hub.now connection_count c.args.serial c.args.before c.args.after (sym c.in-None.is ∙ c.serial_row-place.ensures)) _ _ c.requires.1)
 
-pub returns-in-At : goal.returns-in-At
-returns-in-At c =
-    laid_as _ _ (serial_found c.args.hub.now connection_count c.args.serial c.args.before c.args.after _ _ (sym c.in-At.is ∙ c.serial_row-place.ensures) c.row_at.ensures) _ _ _ _ c.put_job.ensures
+pub returns-in-Some : goal.returns-in-Some
+returns-in-Some c =
+    laid_as _ _ (serial_found c.args.hub.now connection_count c.args.serial c.args.before c.args.after _ _ (sym c.in-Some.is ∙ c.serial_row-place.ensures) c.row_at.ensures) _ _ _ _ c.put_job.ensures
 
-pub returns-in-Nowhere : goal.returns-in-Nowhere
-returns-in-Nowhere c =
-    laid_as _ _ (serial_unfound c.args.hub.now connection_count c.args.serial c.args.before c.args.after (sym c.in-Nowhere.is ∙ c.serial_row-place.ensures)) _ _ _ _ c.put_absent.ensures
+pub returns-in-None : goal.returns-in-None
+returns-in-None c =
+    laid_as _ _ (serial_unfound c.args.hub.now connection_count c.args.serial c.args.before c.args.after (sym c.in-None.is ∙ c.serial_row-place.ensures)) _ _ _ _ c.put_absent.ensures

@@ -10,6 +10,3 @@ use Rattle.show_table.proofs.put_jobs.Given as goal
 
 abbrev pub invariant-loop-p : goal.invariant-loop-p
 invariant-loop-p l = (l.p ≤ job_count) × (length l.out ≡ length l.initial.out) × Laid (unfinished l.hub l.rows) l.at l.initial.out l.p l.place l.out
-
-abbrev pub decreases-loop-p : goal.decreases-loop-p
-decreases-loop-p l = 32 - l.p

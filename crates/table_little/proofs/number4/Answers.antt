@@ -1,7 +1,6 @@
 -- `table_little::number4` meets its contract: four bytes, the lowest first, make the layout's number. Assumes nothing.
-use borrow.Author.Rules.{rules}
 use Rattle.table_little.proofs.Numbers.{number_four}
 use Rattle.table_little.proofs.number4.Goals as goal
 
 pub returns : goal.returns
-returns c = search (rules, number_four)
+returns c = number_four _ _ _ c.from_le_bytes.ensures

@@ -1,17 +1,9 @@
--- `table_little::put4` meets its contract: four stores, one after the other, are one run. Assumes nothing.
-use native.Mathlib.Omega.{arith}
-use lib.ListN.{length-set}
-use Rattle.table_little.proofs.Numbers.{four_put}
+-- `table_little::put4` meets its contract: the bytes laid are the layout's. Assumes nothing.
+use mathlib.Core.Path.{ap, ◌∙◌}
+use Rattle.octets.specs.Bytes.{Bytes}
+use Rattle.octets.specs.Put.{put}
+use Rattle.table_little.proofs.Numbers.{laid_four}
 use Rattle.table_little.proofs.put4.Goals as goal
 
-pub bounds-b-at-2 : goal.bounds-b-at-2
-bounds-b-at-2 c = simp length-set (omega arith)
-
-pub bounds-b-at-3 : goal.bounds-b-at-3
-bounds-b-at-3 c = simp length-set (omega arith)
-
-pub bounds-b-at-4 : goal.bounds-b-at-4
-bounds-b-at-4 c = simp length-set (omega arith)
-
 pub returns : goal.returns
-returns c = four_put _ _ _
+returns c = c.put.ensures.1 ∙ ap (λ (s : Bytes). put c.args.at s c.args.b.now) (c.to_le_bytes-four.ensures ∙ laid_four c.args.x)

@@ -1,5 +1,5 @@
 -- `table_texts::place_of` meets its contract. The invariant: the search among all places is the search from place i on. Assumes nothing.
-use Prim.Native.Nat.{ℕ, ◌≤◌, ◌-◌}
+use Prim.Native.Nat.{ℕ, ◌≤◌}
 use mathlib.Core.Path.{◌≡◌}
 use mathlib.Core.Bool.{Bool}
 use mathlib.Core.List.{List, []}
@@ -16,6 +16,3 @@ stands names name q = agree 32 (get_or names q []) name
 
 abbrev pub invariant-loop-i : goal.invariant-loop-i
 invariant-loop-i l = (l.i ≤ 16) × (find (stands l.names l.name) (numbers 0 16) ≡ up_by l.i (find (stands l.names l.name) (drop l.i (numbers 0 16))))
-
-abbrev pub decreases-loop-i : goal.decreases-loop-i
-decreases-loop-i l = 16 - l.i

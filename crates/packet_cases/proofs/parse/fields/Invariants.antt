@@ -1,9 +1,6 @@
--- The measure is what is left of the line.
-use Rattle.std.proofs.Common.{◌-◌, ◌≤◌, ◌<◌, length}
+-- The field under way is one of the ten.
+use Rattle.std.proofs.Common.{◌<◌}
 use Rattle.packet_cases.proofs.parse.fields.Given as goal
 
-abbrev pub invariant-loop-i : goal.invariant-loop-i
-invariant-loop-i l = (l.i ≤ length l.line) × (l.k < 10)
-
-abbrev pub decreases-loop-i : goal.decreases-loop-i
-decreases-loop-i l = length l.line - l.i
+abbrev pub invariant-loop-x : goal.invariant-loop-x
+invariant-loop-x l = l.k < 10

@@ -11,17 +11,17 @@ returns-then-zeros c =
 
 pub overflow_add-i : goal.overflow_add-i
 overflow_add-i c =
-    omega (arith, (best_there c.args.table.now c.args.c c.args.p c.args.v c.requires.1 c.requires.3 _ c.in-At.is).0)
+    omega (arith, (best_there c.args.table.now c.args.c c.args.p c.args.v c.requires.1 c.requires.3 _ c.in-Some.is).0)
 
 pub bounds-table-i : goal.bounds-table-i
 bounds-table-i c =
-    omega (arith, (best_there c.args.table.now c.args.c c.args.p c.args.v c.requires.1 c.requires.3 _ c.in-At.is).0)
+    omega (arith, (best_there c.args.table.now c.args.c c.args.p c.args.v c.requires.1 c.requires.3 _ c.in-Some.is).0)
 
 pub serial-requires : goal.serial-requires
 serial-requires c =
-    (c.requires.0, (best_there c.args.table.now c.args.c c.args.p c.args.v c.requires.1 c.requires.3 _ c.in-At.is).0)
+    (c.requires.0, (best_there c.args.table.now c.args.c c.args.p c.args.v c.requires.1 c.requires.3 _ c.in-Some.is).0)
 
 pub returns-then-none_before : goal.returns-then-none_before
 returns-then-none_before c =
-    behind_passed c.args.table.now c.args.c c.args.p c.args.v c.requires.1 c.requires.3 _ c.in-At.is
+    behind_passed c.args.table.now c.args.c c.args.p c.args.v c.requires.1 c.requires.3 _ c.in-Some.is
     (rw (← c.serial.ensures) (sym c.none_before.ensures ∙ c.if-none_before.true))

@@ -1,5 +1,5 @@
 -- `plan_find_rows::queue::none_before` meets its contract. The invariant: none of the first k rows goes before the job. Assumes nothing.
-use Prim.Native.Nat.{◌≤◌, ◌+◌, ◌-◌}
+use Prim.Native.Nat.{◌≤◌, ◌+◌}
 use mathlib.Core.Path.{◌≡◌}
 use Rattle.lists.specs.Lists.{all, numbers}
 use Rattle.server.specs.Sizes.{connection_count}
@@ -9,6 +9,3 @@ use Rattle.plan_find_rows.proofs.queue.none_before.Given as goal
 
 abbrev pub invariant-loop-k : goal.invariant-loop-k
 invariant-loop-k l = (l.k ≤ 8) × (l.ok ≡ all (λ j. stays_behind l.priority l.serial (row_in connection_count l.table (l.p + j))) (numbers 0 l.k))
-
-abbrev pub decreases-loop-k : goal.decreases-loop-k
-decreases-loop-k l = 8 - l.k

@@ -1,9 +1,0 @@
--- `check_image::after_end` meets its contract, by the two cases. Assumes nothing.
-use borrow.Author.Tests.{eq-eqb, ne_eqb}
-use Rattle.check_image.proofs.after_end.Goals as goal
-
-pub returns-then-x-eq0 : goal.returns-then-x-eq0
-returns-then-x-eq0 c = rw (eq-eqb _ 0 c.if-x-eq0.true)
-
-pub returns : goal.returns
-returns c = rw (ne_eqb _ 0 c.if-x-eq0.false)

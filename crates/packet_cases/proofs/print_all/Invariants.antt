@@ -1,9 +1,0 @@
--- The measure is the number of lines that are left.
-use Rattle.std.proofs.Common.{◌≡◌, length}
-use Rattle.packet_cases.proofs.print_all.Given as goal
-
-abbrev pub invariant-loop-turns : goal.invariant-loop-turns
-invariant-loop-turns l = (length l.chunk ≡ length l.fn.chunk) × (length l.buffer ≡ length l.fn.buffer)
-
-abbrev pub decreases-loop-turns : goal.decreases-loop-turns
-decreases-loop-turns l = l.turns
