@@ -2,7 +2,7 @@
 """How much stack one call of the archive can need at the most, from its machine code. usage: stack.py ARCHIVE
 
 It adds up what each function pushes and takes from the stack pointer, and looks for the deepest chain of calls, return addresses
-included. The one function that calls itself splits a packet's data into arguments: at most 5 times. memcpy, memmove and memset are the C
+included. The one function that calls itself splits a packet's data into arguments: at most 5 times. memcpy and memset are the C
 library's and not counted.
 """
 import platform
@@ -12,7 +12,7 @@ import sys
 
 WORD = 8
 MOST_ARGUMENTS = 5
-OUTSIDE = ("memcpy", "memmove", "memset")
+OUTSIDE = ("memcpy", "memset")
 # The archive is x86-64 code; another machine reads it with the cross tools of host/x86_64.sh.
 OBJDUMP = "objdump" if platform.machine() == "x86_64" else "x86_64-linux-gnu-objdump"
 

@@ -8,7 +8,7 @@
  * The promise of each of the five functions is one proved equation over all lent bytes, for every input
  * (crates/lap/src/lib.rt); document 01 is the paper that these promises follow. The small functions that stand here
  * with their bodies are plain C. Link with liblap.a, x86-64 code for Linux (x86-64-v2), which `bash host/archive.sh`
- * writes to target/staticlib/; it needs memcpy, memmove and memset from the C library and nothing else.
+ * writes to target/staticlib/; it needs memcpy and memset from the C library and nothing else.
  *
  * WHAT THE HOST HAS TO SEE TO. Nothing else is asked of it: whatever the bytes are, a call answers by a number.
  *  - Each pointer leads to as many bytes as the length beside it says; no pointer is null, not even with a length of 0.

@@ -91,8 +91,10 @@ pub fn follow<R: Read, F: FnMut(&[u8]) -> Result<(), Failure>>(
     Ok(())
 }
 
-// Runs a program from a fresh table of the hub of this name, where it is one.
-fn run<F: FnOnce(&mut [u8], &mut [u8]) -> Result<(), Failure>>(
+// Runs a program from a fresh table of the hub of this name, and says why it ends early. A function of its own in the machine code, so that
+// what a program needs of the stack is taken only where it runs.
+#[inline(never)]
+fn go<F: FnOnce(&mut [u8], &mut [u8]) -> Result<(), Failure>>(
     rt: HostRuntime,
     words: Words,
     name: &[u8],
@@ -106,6 +108,22 @@ fn run<F: FnOnce(&mut [u8], &mut [u8]) -> Result<(), Failure>>(
         explain(rt, words);
     } else if let Err(failure) = program(&mut table, &mut workloads) {
         complain(rt, words, failure);
+    }
+}
+
+// Runs a program for the hub of this name, where it is one.
+fn run<F: FnOnce(&mut [u8], &mut [u8]) -> Result<(), Failure>>(
+    rt: HostRuntime,
+    words: Words,
+    name: &[u8],
+    program: F,
+)
+    requires { F.IsAlwaysCallable program }
+{
+    if handle::is_hub_name(name) {
+        go(rt, words, name, program);
+    } else {
+        explain(rt, words);
     }
 }
 

@@ -13,7 +13,9 @@ use server::{FUNCTIONS, FUNCTIONS_AT, JOBS, NAME_SIZE, NAMES_AT, UNIQUE_SIZE, UN
 
 // ---- texts by place
 
-// The name of the function at place `q`.
+// The name of the function at place `q`. A function of its own in the machine code, as `unique` is: whoever compares each two names then
+// has each read once for the places after it, and not thrice for each of them.
+#[inline(never)]
 fn name(table: &[u8], q: usize) -> &[u8]
     requires { (table_size connection_count ≤ length table.now) × (q < function_count) }
     ensures { result.now ≡ (function_in connection_count table.now q).name }
@@ -22,6 +24,7 @@ fn name(table: &[u8], q: usize) -> &[u8]
 }
 
 // The unique of the job at place `p`.
+#[inline(never)]
 fn unique(table: &[u8], p: usize) -> &[u8]
     requires { (table_size connection_count ≤ length table.now) × (p < job_count) }
     ensures { result.now ≡ (job_in connection_count table.now p).unique }

@@ -34,7 +34,7 @@ module _ (fs : List Function) (q count : ℕ) (places : List ℕ) where
   Hand next hand moved i = take i next ++ carried fs moved hand (drop i (take count places)) ≡ placed fs q (take count places)
 
   module _ (next : List ℕ) (hand : ℕ) (moved : Bool) (i : ℕ) (e : Hand next hand moved i) (long : count ≤ length places) where
-    hand_turn : i < count → i < length next → (b : Bool) → b ≡ before (name_at fs hand) (name_at fs (get_or places i 0)) → (x h : ℕ)
+    pub hand_turn : i < count → i < length next → (b : Bool) → b ≡ before (name_at fs hand) (name_at fs (get_or places i 0)) → (x h : ℕ)
         → x ≡ cond (moved || b) hand (get_or places i 0) → h ≡ cond (moved || b) (get_or places i 0) hand → Hand (set next i x) h (moved || b) (i + 1)
     hand_turn l m b eb x h ex eh =
         let ahead : List ℕ = drop (suc i) (take count places) in

@@ -1,11 +1,11 @@
 -- Two names compared, and the name that stands at a place. Assumes nothing.
 use Prim.Native.Nat.{ℕ, ◌<◌, ◌≤◌}
-use Rattle.std.specs.Ordering.{is_lt, is_some_and, nat_cmp}
-use Rattle.std.specs.Cmp.Lexicographic.{slice_partial_cmp}
-use Rattle.std.specs.Prelude.{Some}
-use Rattle.std.proofs.lemmas.Cmp.{same_from_slice_cmp_tested}
+use Rattle.std.specs.Ordering.{is_lt, nat_cmp}
+use Rattle.std.specs.declared.cmp.Ordering.{Ordering}
+use Rattle.std.specs.Cmp.Lexicographic.{slice_cmp}
+use Rattle.std.proofs.lemmas.Cmp.{same_from_slice_cmp}
 use Rattle.std.proofs.lemmas.Bool.Decides.{nat_tests}
-use mathlib.Core.Path.{◌≡◌, refl, sym, ap}
+use mathlib.Core.Path.{◌≡◌, refl, sym, ap, ◌∙◌}
 use mathlib.Core.Bool.{Bool}
 use mathlib.Core.List.{[]}
 use native.Mathlib.Omega.{arith}
@@ -16,10 +16,10 @@ use Rattle.server.specs.Layout.{function_in, table_of}
 use Rattle.table_passes.proofs.Rows.{function_at_lem, no_function_lem}
 use Rattle.command.specs.Order.{before}
 
--- `<` of two slices tells the order
-pub before_of_lt : (s t : Bytes) (r : Bool) → r ≡ is_some_and is_lt (slice_partial_cmp (λ x y. Some (nat_cmp x y)) s t) → r ≡ before s t
+-- `cmp` of two slices tells the order
+pub before_of_cmp : (s t : Bytes) (o : Ordering) (r : Bool) → o ≡ slice_cmp nat_cmp s t → r ≡ is_lt o → r ≡ before s t
 unfolding before
-before_of_lt = same_from_slice_cmp_tested nat_cmp is_lt before refl (λ _ _. refl) (λ _ _. refl) (λ x y xs ys o h. grind (arith, nat_tests))
+before_of_cmp s t o r e f = f ∙ same_from_slice_cmp nat_cmp is_lt before refl (λ _ _. refl) (λ _ _. refl) (λ x y xs ys o h. grind (arith, nat_tests)) s t o e
 
 -- ---- what stands at a place
 

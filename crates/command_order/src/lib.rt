@@ -58,7 +58,7 @@ fn with_place(
         let place = places[i];
         let name = name_at(table, hand);
         let other = name_at(table, place);
-        moved |= name < other;
+        moved |= name.cmp(&other).is_lt();
         if moved {
             next[i] = hand;
             hand = place;

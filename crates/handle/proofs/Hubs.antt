@@ -85,7 +85,7 @@ one_hub a b m n ga gb e =
 -- ---- `is_hub_name`
 
 module _ (name : Bytes) where
-  name_short : length name < 1 → false ≡ is_hub_name name
+  pub name_short : length name < 1 → false ≡ is_hub_name name
   unfolding is_hub_name
   name_short h = rw (lt-leb 1 (length name) h)
 

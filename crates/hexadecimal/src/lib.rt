@@ -39,8 +39,8 @@ fn byte_at(digits: &[u8], i: usize) -> u8
     requires { (2 * i + 1 < length digits.now) × (every is_digit digits.now ≡ true) }
     ensures { result ≡ get_or (pairs digits.now) i 0 }
 {
-    let high = digit_value(digits[2 * i]).unwrap();
-    let low = digit_value(digits[2 * i + 1]).unwrap();
+    let high = digit_value(digits[2 * i]).unwrap_or(0);
+    let low = digit_value(digits[2 * i + 1]).unwrap_or(0);
     pair_value(high, low)
 }
 

@@ -73,8 +73,8 @@ put_start [] b h = refl
 put_start (x ∷ s) [] h = absurd (not-suc-le-zero h)
 put_start (x ∷ s) (y ∷ b) h = ap (λ (l : Bytes). x ∷ l) (put_start s b (le_of_suc-le-suc h))
 
--- a run that fits from `at` on: what the buffer had before it, the run, and what the buffer had after it. So `copy_from_slice` on a part
--- of the buffer lays the run.
+-- a run that fits from `at` on: what the buffer had before it, the run, and what the buffer had after it. So `fill` on a part of the
+-- buffer lays a run of zeros.
 pub put_part : (at k : ℕ) (s b : Bytes) → k ≡ length s → at + k ≤ length b → put_mid at k b s ≡ put at s b
 unfolding put
 put_part zero k s b e h = rw e (sym (put_start s b (omega arith)))

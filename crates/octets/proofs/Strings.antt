@@ -1,20 +1,18 @@
 -- Laws of byte strings: what the tests say, and what the library's methods on slices answer in the definitions' words.
 -- Assumes nothing.
 use mathlib.Core.Path.{◌≡◌, refl, ap, ap₂, ◌∙◌, sym}
-use mathlib.Core.Bool.{Bool, true, false, not, cond, ◌&&◌}
+use mathlib.Core.Bool.{Bool, true, false, cond, ◌&&◌}
 use mathlib.Core.List.{[], ◌∷◌, ◌++◌}
 use Prim.Native.Nat.{ℕ, suc, ◌+◌, ◌-◌, ◌*◌, ◌/◌, ◌%◌, ◌^◌, ◌<◌, ◌≤◌, zero-le, suc-le-suc}
 use native.Mathlib.Nat.{not-suc-le-zero, le_of_suc-le-suc}
 use native.Mathlib.Numerals.{add-one}
 use native.Mathlib.Omega.{arith}
-use borrow.Author.Tests.{eq-eqb, ne_eqb, eqb-true, eqb-false, ltb-false, le-leb, lt-leb}
+use borrow.Author.Tests.{eq-eqb, ne_eqb, eqb-true, eqb-false, le-leb, lt-leb}
 use lib.ListN.{length, get_or, take, drop, drop_of_length-le, length-drop}
 use lib.Seq.{drop-cons, take_all}
-use lib.Dec.{eqb, ltb}
+use lib.Dec.{eqb}
 use lib.Pointwise.{pointwise}
-use Rattle.std.specs.Prelude.{Option, Some, None}
-use Rattle.std.specs.List.{list_all, position_or_len}
-use Rattle.std.specs.Option.{unwrap_or}
+use Rattle.std.specs.List.{list_all}
 use Rattle.octets.specs.Bytes.{Bytes, same, starts_with, first_zero, within, every, big_endian, number_at}
 
 -- ---- a conjunction of tests
@@ -99,6 +97,20 @@ unfolding first_zero
 zero_le_length [] = zero-le
 zero_le_length (x ∷ xs) = zero_le_step (eqb x 0) _ _ (zero_le_length xs)
 
+-- the scan: i bytes passed, none of them zero
+module _ (s : Bytes) (i : ℕ) (e : first_zero s ≡ i + first_zero (drop i s)) where
+  pub scan_found : i < length s → get_or s i 0 ≡ 0 → i ≡ first_zero s
+  unfolding first_zero
+  scan_found h z = let q : first_zero (drop i s) ≡ 0 = rw (drop-cons s i 0, eq-eqb _ _ z) in omega (arith, e, q)
+
+  pub scan_on : i < length s → (get_or s i 0 ≡ 0 → ⊥) → first_zero s ≡ i + 1 + first_zero (drop (i + 1) s)
+  unfolding first_zero
+  scan_on h n = let q : first_zero (drop i s) ≡ suc (first_zero (drop (i + 1) s)) = rw (drop-cons s i 0, ne_eqb _ _ n, add-one) in omega (arith, e, q)
+
+  pub scan_end : length s ≤ i → i ≡ first_zero s
+  unfolding first_zero
+  scan_end h = let q : first_zero (drop i s) ≡ 0 = rw (drop_of_length-le s h) in omega (arith, e, q)
+
 zero_step : (x : ℕ) (xs : Bytes) (b : Bool) → eqb x 0 ≡ b → (first_zero xs < length xs → get_or xs (first_zero xs) 0 ≡ 0)
     → cond b 0 (suc (first_zero xs)) < suc (length xs) → get_or (x ∷ xs) (cond b 0 (suc (first_zero xs))) 0 ≡ 0
 zero_step x xs true e ih h = eqb-true x 0 e
@@ -163,28 +175,6 @@ pub all_every : (f : ℕ → Bool) (s : Bytes) → list_all f s ≡ every f s
 unfolding every
 all_every f [] = refl
 all_every f (x ∷ s) = rw (all_every f s)
-
--- the first place that passes a test: `position`
-position_zero : (s : Bytes) → position_or_len (λ x. eqb x 0) s ≡ first_zero s
-unfolding first_zero
-position_zero [] = refl
-position_zero (x ∷ s) = go (eqb x 0) (position_zero s)
-  where
-    go : (b : Bool) → position_or_len (λ x. eqb x 0) s ≡ first_zero s → cond (not b) (1 + position_or_len (λ x. eqb x 0) s) 0 ≡ cond b 0 (suc (first_zero s))
-    go true e = refl
-    go false e = omega (arith, e)
-
--- which is the length where there is none
-module _ (s : Bytes) where
-  or_length : (b : Bool) → ltb (first_zero s) (length s) ≡ b → unwrap_or (cond b (Some (first_zero s)) None) (length s) ≡ first_zero s
-  or_length true e = refl
-  or_length false e = let n : length s ≤ first_zero s = ltb-false _ _ e in omega (arith, zero_le_length s)
-
-  pub zero_found : (r : Option ℕ) (n : ℕ) → r ≡ cond (ltb (position_or_len (λ x. eqb x 0) s) (length s)) (Some (position_or_len (λ x. eqb x 0) s)) None
-      → n ≡ unwrap_or r (length s) → (n ≡ first_zero s) × (n ≤ length s)
-  zero_found r n e f =
-      let q : n ≡ first_zero s = rw (f, e, position_zero s) (or_length _ refl) in
-      (q, omega (arith, zero_le_length s))
 
 -- two lists element by element: `==`
 pub pointwise_same : (s t : Bytes) → pointwise eqb s t ≡ same s t

@@ -46,14 +46,28 @@ pub fn equal(s: &[u8], t: &[u8]) -> bool
 pub fn first_zero(s: &[u8]) -> usize
     ensures { (result ≡ first_zero s.now) × (result ≤ length s.now) }
 {
-    s.iter().position(|x| *x == 0).unwrap_or(s.len())
+    for i in 0..s.len() {
+        if s[i] == 0 {
+            return i;
+        }
+    }
+    s.len()
 }
 
 // Whether each byte lies between `low` and `high`, both included.
 pub fn all_within(s: &[u8], low: u8, high: u8) -> bool
     ensures { result ≡ every (within low high) s.now }
 {
-    s.iter().all(|x| low <= *x && *x <= high)
+    for byte in s {
+        let x = *byte;
+        if x < low {
+            return false;
+        }
+        if high < x {
+            return false;
+        }
+    }
+    true
 }
 
 // Lays `source` over `out` from `at` on, and returns the place after it.
@@ -61,7 +75,8 @@ pub fn put(out: &mut [u8], at: usize, source: &[u8]) -> usize
     requires { at + length source.now ≤ length out.old }
     ensures { (result ≡ at + length source.now) × (out.new ≡ put at source.now out.old) }
 {
-    let end = at + source.len();
-    out[at..end].copy_from_slice(source);
-    end
+    for i in 0..source.len() {
+        out[at + i] = source[i];
+    }
+    at + source.len()
 }

@@ -1,11 +1,13 @@
 -- Laws of the data of a list of arguments: how long it is and how it is laid, for no argument, for one, and for one before the others.
 -- Assumes nothing.
-use Prim.Native.Nat.{ℕ, suc, ◌+◌, ◌-◌, ◌<◌, ◌≤◌, min}
+use Prim.Native.Nat.{ℕ, zero, suc, ◌+◌, ◌-◌, ◌<◌, ◌≤◌, min}
 use mathlib.Core.Path.{◌≡◌, refl, ap, ◌∙◌}
 use mathlib.Core.List.{List, [], ◌∷◌, ◌++◌, append_assoc, map}
+use native.Mathlib.Numerals.{add-one}
 use native.Mathlib.Omega.{arith}
 use lib.ListN.{length, set, get_or, take, drop, length-append, length-set}
-use Rattle.std.proofs.lemmas.List.{take_rest}
+use lib.Seq.{take_all}
+use Rattle.std.proofs.lemmas.List.{get_or-map, take_rest}
 use Rattle.std.specs.Borrow.{Bor}
 use Rattle.octets.specs.Bytes.{Bytes}
 use Rattle.octets.specs.Put.{put}
@@ -19,6 +21,40 @@ texts = map (λ a. a.now)
 pub length_texts : (xs : List (Bor Bytes)) → length (texts xs) ≡ length xs
 length_texts [] = refl
 length_texts (x ∷ xs) = ap suc (length_texts xs)
+
+-- how long the arguments are, each with one byte behind it
+unfoldable pub ended : List Bytes → ℕ
+ended [] = 0
+ended (a ∷ as') = length a + 1 + ended as'
+
+-- their data is one byte shorter, where there is one
+join_ended : (as' : List Bytes) → length (join as') ≡ ended as' - 1
+unfolding join ended
+join_ended [] = refl
+join_ended (a ∷ []) = omega arith
+join_ended (a ∷ b ∷ as') = length-append a _ ∙ omega (arith, join_ended (b ∷ as'))
+
+ended_more : (as' : List Bytes) (i : ℕ) → i < length as' → ended (take (suc i) as') ≡ ended (take i as') + length (get_or as' i []) + 1
+unfolding ended
+ended_more [] i h = absurd (omega arith)
+ended_more (a ∷ as') zero h = omega arith
+ended_more (a ∷ as') (suc i) h = omega (arith, ended_more as' i (omega arith))
+
+-- the count under way: i arguments are counted
+module _ (xs : List (Bor Bytes)) (i e : ℕ) (counted : e ≡ min 65537 (ended (take i (texts xs)))) where
+  pub ended_on : (d : Bor Bytes) (m r : ℕ) → i < length xs → m ≡ min (length (get_or xs i d).now) 65536 → r ≡ min (e + m + 1) 65537
+      → r ≡ min 65537 (ended (take (i + 1) (texts xs)))
+  ended_on d m r h em er =
+      let q : get_or (texts xs) i [] ≡ (get_or xs i d).now = get_or-map (λ (a : Bor Bytes). a.now) xs i d [] h in
+      let k : ended (take (i + 1) (texts xs)) ≡ ended (take i (texts xs)) + length (get_or xs i d).now + 1
+      = rw (add-one i, ended_more (texts xs) i (omega (arith, length_texts xs)), q) in
+      omega (arith, counted, k, em, er)
+
+  pub ended_all : (r : ℕ) → length xs ≤ i → r ≡ e - 1 → r ≡ min 65536 (length (join (texts xs)))
+  ended_all r h er =
+      let q : take i (texts xs) ≡ texts xs = take_all i (texts xs) (omega (arith, length_texts xs)) in
+      let k : e ≡ min 65537 (ended (texts xs)) = counted ∙ rw q in
+      omega (arith, k, er, join_ended (texts xs))
 
 -- all but the first
 abbrev pub others : List (Bor Bytes) → List (Bor Bytes)
@@ -42,18 +78,12 @@ join_more [] d h = absurd (omega arith)
 join_more (x ∷ []) d h = absurd (omega arith)
 join_more (x ∷ y ∷ xs) d h = rw (take_rest (x ∷ y ∷ xs) 1)
 
--- no argument and one: the length, the place after the data, the output
+-- no argument and one: the place after the data, the output
 module _ (xs : List (Bor Bytes)) (at : ℕ) (out : Bytes) where
-  pub none_long : length xs < 1 → 0 ≡ min 65536 (length (join (texts xs)))
-  none_long h = rw (join_none xs h)
-
   pub none_laid : length xs < 1 → (at ≡ at + length (join (texts xs))) × (out ≡ put at (join (texts xs)) out)
   none_laid h = rw (join_none xs h) (omega arith, rw (put_none at out))
 
   module _ (d : Bor Bytes) (g : 1 ≤ length xs) (h : length xs < 2) where
-    pub one_long : (r : ℕ) → r ≡ min (length (get_or xs 0 d).now) 65536 → r ≡ min 65536 (length (join (texts xs)))
-    one_long r e = rw (join_one xs d g h) (omega arith)
-
     pub one_fits : at + length (join (texts xs)) ≤ length out → at + length (get_or xs 0 d).now ≤ length out
     one_fits l = omega (arith, ap length (join_one xs d g h))
 
@@ -65,10 +95,6 @@ module _ (xs : List (Bor Bytes)) (at : ℕ) (out : Bytes) where
 module _ (xs : List (Bor Bytes)) (d : Bor Bytes) (h : 2 ≤ length xs) where
   length_more : length (join (texts xs)) ≡ length (get_or xs 0 d).now + suc (length (join (texts (others xs))))
   length_more = rw (join_more xs d h) (length-append (get_or xs 0 d).now _)
-
-  pub more_long : (r s t : ℕ) → r ≡ min 65536 (length (join (texts (others xs)))) → s ≡ min (length (get_or xs 0 d).now) 65536 → t ≡ min (s + 1 + r) 65536
-      → t ≡ min 65536 (length (join (texts xs)))
-  more_long r s t er es et = omega (arith, length_more)
 
   module _ (at : ℕ) (out : Bytes) (l : at + length (join (texts xs)) ≤ length out) where
     pub first_fits : at + length (get_or xs 0 d).now ≤ length out

@@ -37,15 +37,16 @@ pub fn fit_all(shape: Shape, arguments: &[&[u8]]) -> bool
     true
 }
 
-// How long the data of these arguments is; 65,536 stands for that and more, so that no sum overflows.
+// How long the data of these arguments is; 65,536 stands for that and more, so that no sum overflows. Each argument is counted with one
+// byte behind it, which the last has not.
 pub fn joined_length(arguments: &[&[u8]]) -> usize
     ensures { result ≡ min 65536 (length (join (map (λ a. a.now) arguments.now))) }
 {
-    match arguments {
-        [] => 0,
-        [last] => last.len().min(65536),
-        [first, rest @ ..] => (first.len().min(65536) + 1 + joined_length(rest)).min(65536),
+    let mut ended = 0;
+    for argument in arguments {
+        ended = (ended + argument.len().min(65536) + 1).min(65537);
     }
+    ended.saturating_sub(1)
 }
 
 // Lays the data of these arguments over `out` from `at` on, and returns the place after it.

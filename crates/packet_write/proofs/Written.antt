@@ -19,7 +19,7 @@ header_long : (magic : Bytes) (kind size : ℕ) → length magic ≡ 4 → lengt
 header_long magic kind size four = omega (arith, length-append magic (big_endian kind ++ big_endian size))
 
 -- the header, and the data right behind it
-packet_laid : (magic out d : Bytes) (kind size : ℕ) → length magic ≡ 4 → size ≡ length d
+pub packet_laid : (magic out d : Bytes) (kind size : ℕ) → length magic ≡ 4 → size ≡ length d
     → (p : ℕ) (o : Bytes) → (p ≡ 0 + 12) × (o ≡ put 0 (magic ++ (big_endian kind ++ big_endian size)) out)
     → (r : ℕ) (u : Bytes) → (r ≡ p + length d) × (u ≡ put p d o)
     → (r ≡ length (packet magic kind d)) × (u ≡ put 0 (packet magic kind d) out)

@@ -35,9 +35,15 @@ pub fn able_to(able: [u32; FUNCTIONS], q: u8) -> u32
     able.get(q as usize).copied().unwrap_or(0)
 }
 
-// The place of the unfinished job with this serial.
+// The place of the unfinished job with this serial. Row by row: the library's search would have all rows copied first, since they come by
+// value, and `show` asks for each of them.
 pub fn serial_row(rows: [JobRow; JOBS], serial: u32) -> Option<usize>
     ensures { result ≡ serial_row serial rows }
 {
-    rows.iter().position(|r| has_serial(*r, serial))
+    for i in 0..JOBS {
+        if has_serial(rows[i], serial) {
+            return Some(i);
+        }
+    }
+    None
 }

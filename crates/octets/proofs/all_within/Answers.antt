@@ -1,14 +1,15 @@
--- `octets::all_within` meets its contract: `all` asks each byte whether it lies within the bounds. Assumes nothing.
-use mathlib.Core.Path.{◌∙◌}
 use borrow.Author.Rules.{rules}
-use borrow.Author.Tests.{tests}
-use Rattle.std.proofs.lemmas.Iterator.{YieldsList-from_slice}
-use Rattle.std.proofs.lemmas.Iterator.Search.{all_from_yields_List}
-use Rattle.octets.specs.Bytes.{within}
-use Rattle.octets.proofs.Strings.{all_every}
+use Rattle.octets.proofs.Strings.{every_low, every_high, every_on, every_end}
 use Rattle.octets.proofs.all_within.Goals as goal
 
+pub returns-then-x-low : goal.returns-then-x-low
+returns-then-x-low c = search (rules, every_low)
+
+pub returns-then-high-x : goal.returns-then-high-x
+returns-then-high-x c = search (rules, every_high)
+
+pub loop-byte-preserved : goal.loop-byte-preserved
+loop-byte-preserved c = search (rules, every_on)
+
 pub returns : goal.returns
-returns c =
-    all_from_yields_List (within c.args.low c.args.high) _ _ _ c.all.ensures.ran (YieldsList-from_slice c.args.s.now cc) (λ x b q k. search (rules, tests))
-    ∙ all_every _ _
+returns c = search (rules, every_end)

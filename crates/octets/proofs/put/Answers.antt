@@ -1,8 +1,12 @@
--- `octets::put` meets its contract: the copy into the part from `at` on lays the run there. Assumes nothing.
-use mathlib.Core.Path.{refl}
-use native.Mathlib.Omega.{arith}
-use Rattle.octets.proofs.Laying.{put_part}
+use borrow.Author.Rules.{rules}
+use Rattle.octets.proofs.Laying.{copy_none, copy_more, copy_all}
 use Rattle.octets.proofs.put.Goals as goal
 
+pub loop-i-init : goal.loop-i-init
+loop-i-init c = search (rules, copy_none)
+
+pub loop-i-preserved : goal.loop-i-preserved
+loop-i-preserved c = search (rules, copy_more)
+
 pub returns : goal.returns
-returns c = (refl, rw c.copy_from_slice.ensures.after (put_part c.args.at _ c.args.source.now c.args.out.now (omega arith) (omega arith)))
+returns c = search (rules, copy_all)
